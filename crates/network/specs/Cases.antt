@@ -1,0 +1,85 @@
+-- The marked cases 1 to 11 of document 01, in one table. proofs/Cases.antt computes them from the definitions.
+-- Assumes nothing.
+use Prim.Native.Nat.{ℕ}
+use mathlib.Core.Path.{_≡_}
+use mathlib.Core.List.{List, [], _∷_, _++_}
+use lib.ListN.{replicate}
+use Rattle.network.specs.declared.Kind.the-variants.{Gated, Flap, TwoWay}
+use Rattle.network.specs.declared.Reach.{Reach}
+use Rattle.network.specs.declared.Refusal.the-variants.{LastPlan}
+use Rattle.network.specs.Networks.{Network}
+use Rattle.network.specs.Settings.{gateCount}
+use Rattle.network.specs.Marks.{markBytes}
+use Rattle.network.specs.Replies.{Outcome, plan, shutIn, lone, refused, firstReply, nextReply}
+
+-- "G gated, F flap, T two-way."
+abbrev pub G : ℕ → ℕ → Reach
+G a b = record { kind = Gated; a = a; b = b }
+
+abbrev pub F : ℕ → ℕ → Reach
+F a b = record { kind = Flap; a = a; b = b }
+
+abbrev pub T : ℕ → ℕ → Reach
+T a b = record { kind = TwoWay; a = a; b = b }
+
+-- marks whose first byte is x, the others 0
+abbrev pub firstByte : ℕ → List ℕ
+firstByte x = x ∷ replicate 31 0
+
+-- A setting and what next replies to it.
+pub record After : Type 0 where
+  pub setting : List ℕ
+  pub reply : Outcome
+
+-- A network, what first replies, and what next replies.
+pub record Case : Type 0 where
+  pub network : Network
+  pub first : Outcome
+  pub nexts : List After
+
+abbrev pub net : ℕ → List Reach → Network
+net n t = record { basins = n; reaches = t }
+
+abbrev pub row : Network → Outcome → List After → Case
+row N o l = record { network = N; first = o; nexts = l }
+
+abbrev pub comes : List ℕ → Outcome → After
+comes s o = record { setting = s; reply = o }
+
+abbrev pub cases : List Case
+cases =
+    -- 1. One basin, no reach: the empty plan; next is 11.
+    row (net 1 []) (plan []) (comes [] (refused LastPlan) ∷ []) ∷
+    -- 2. Two basins, G 0-1: 10, reach 0, marked {1}.
+    row (net 2 (G 0 1 ∷ [])) (lone 0 (firstByte 2) 1) [] ∷
+    -- 3. Two basins, G 0-1 twice: after 00 comes 01, after 01 comes 10, after 10 refusal 11.
+    row (net 2 (G 0 1 ∷ G 0 1 ∷ [])) (plan (0 ∷ 1 ∷ []))
+    (comes (0 ∷ 0 ∷ []) (plan (0 ∷ 1 ∷ [])) ∷ comes (0 ∷ 1 ∷ []) (plan (1 ∷ 0 ∷ [])) ∷ comes (1 ∷ 0 ∷ []) (refused LastPlan) ∷ []) ∷
+    -- 4. Two basins, T 0-1: the empty plan.
+    row (net 2 (T 0 1 ∷ [])) (plan []) [] ∷
+    -- 5. Two basins, F 0-1: 9, marked {1}.
+    row (net 2 (F 0 1 ∷ [])) (shutIn (firstByte 2) 1) [] ∷
+    -- 6. Two basins, no reach: 9, marked {0}.
+    row (net 2 []) (shutIn (firstByte 1) 1) [] ∷
+    -- 7. G 0-1, G 1-2, G 2-0: first 000; after 000 comes 111.
+    row (net 3 (G 0 1 ∷ G 1 2 ∷ G 2 0 ∷ [])) (plan (0 ∷ 0 ∷ 0 ∷ [])) (comes (0 ∷ 0 ∷ 0 ∷ []) (plan (1 ∷ 1 ∷ 1 ∷ [])) ∷ []) ∷
+    -- 8. F 1-0, G 0-1: plan 0, then 11.
+    row (net 2 (F 1 0 ∷ G 0 1 ∷ [])) (plan (0 ∷ [])) (comes (0 ∷ []) (refused LastPlan) ∷ []) ∷
+    -- 9. One basin, G 0-0: plans 0 and 1.
+    row (net 1 (G 0 0 ∷ [])) (plan (0 ∷ [])) (comes (0 ∷ []) (plan (1 ∷ [])) ∷ comes (1 ∷ []) (refused LastPlan) ∷ []) ∷
+    -- 10. G 0-1, T 1-2: 10, reach 0, marked {1, 2}.
+    row (net 3 (G 0 1 ∷ T 1 2 ∷ [])) (lone 0 (firstByte 6) 2) [] ∷
+    -- 11. F 0-1, G 1-2: 9, marked {1, 2}, though reach 1 is lone.
+    row (net 3 (F 0 1 ∷ G 1 2 ∷ [])) (shutIn (firstByte 6) 2) [] ∷ []
+
+-- The replies hold: first's and each of next's, with lent buffers of just the length needed.
+abbrev pub NextsHold : Network → List After → Type 0
+NextsHold N [] = Unit {0}
+NextsHold N (x ∷ l) = (nextReply N (x .setting) (gateCount N) markBytes ≡ x .reply) × NextsHold N l
+
+abbrev pub CaseHolds : Case → Type 0
+CaseHolds c = (firstReply (c .network) (gateCount (c .network)) markBytes ≡ c .first) × NextsHold (c .network) (c .nexts)
+
+abbrev pub CasesHold : List Case → Type 0
+CasesHold [] = Unit {0}
+CasesHold (c ∷ l) = CaseHolds c × CasesHold l

@@ -1,0 +1,57 @@
+-- The network, its limits, and which networks are accepted.
+-- Assumes nothing.
+use Prim.Native.Nat.{ℕ}
+use mathlib.Core.Path.{_≡_}
+use mathlib.Core.Bool.{Bool, cond, not, _&&_, _||_}
+use mathlib.Core.List.{List}
+use mathlib.Core.Option.{Option, none, some}
+use lib.ListN.{length, getD}
+use lib.Dec.{leb, ltb}
+use Rattle.network.specs.declared.Reach.{Reach}
+use Rattle.network.specs.declared.Refusal.{Refusal}
+use Rattle.network.specs.declared.Refusal.the-variants.{BasinCount, TooManyReaches, EndOutOfRange}
+use Rattle.network.specs.Lists.{range, every}
+
+-- "A network has 1 to 256 basins, numbered from 0, and 0 to 1,024 reaches, numbered from 0 in file order."
+abbrev pub maxBasins : ℕ
+maxBasins = 256
+
+abbrev pub maxReaches : ℕ
+maxReaches = 1024
+
+-- A network as a call is lent it: a basin count and a reach table, good or bad.
+pub record Network : Type 0 where
+  pub basins : ℕ
+  pub reaches : List Reach
+
+-- The basins of a network, lowest first.
+abbrev pub basinsOf : Network → List ℕ
+basinsOf N = range 0 (N .basins)
+
+-- The lowest-numbered basin: "basin 0".
+abbrev pub lowestBasin : Network → ℕ
+lowestBasin N = getD (basinsOf N) 0 0
+
+-- Refusal 1, basin count: "it is 0 or over 256".
+abbrev pub goodCount : Network → Bool
+goodCount N = leb 1 (N .basins) && leb (N .basins) maxBasins
+
+-- Refusal 2, over-full: "there are more than 1,024 reaches".
+abbrev pub goodLength : Network → Bool
+goodLength N = leb (length (N .reaches)) maxReaches
+
+-- Refusal 3, stray end: "an end is not below the basin count".
+abbrev pub goodEnds : Network → Bool
+goodEnds N = every (λ r. ltb (r .a) (N .basins) && ltb (r .b) (N .basins)) (N .reaches)
+
+-- The refusal that a table gets, in the order 1, 2, 3.
+unfoldable pub tableFault : Network → Option Refusal
+tableFault N =
+    cond (not (goodCount N)) (some BasinCount)
+    (cond (not (goodLength N)) (some TooManyReaches)
+    (cond (not (goodEnds N)) (some EndOutOfRange)
+    none))
+
+-- "A network is accepted if its table gets none of 1, 2 and 3."
+abbrev pub Accepted : Network → Type 0
+Accepted N = tableFault N ≡ none

@@ -1,0 +1,36 @@
+// The data model of a drainage network: the reach record, its kinds, the limits, and the refusals by number.
+// What they mean is in specs/; the laws about those definitions are in proofs/.
+
+// The most basins and the most reaches of a network.
+pub const MAX_BASINS: usize = 256;
+pub const MAX_REACHES: usize = 1024;
+
+// The kind of a reach.
+pub enum Kind {
+    // May be hung either way: from A to B (as drawn) or from B to A (turned).
+    Gated,
+    // Passes from A to B only.
+    Flap,
+    // Passes both ways at all times.
+    TwoWay,
+}
+
+// One record of the reach table: a kind and two ends, A and B, which are basin numbers.
+pub struct Reach {
+    pub kind: Kind,
+    pub a: u16,
+    pub b: u16,
+}
+
+// The refusals that return a number only. specs/Reply.antt gives each its number in document 01.
+pub enum Refusal {
+    BasinCount,
+    TooManyReaches,
+    EndOutOfRange,
+    Truncated,
+    UnknownKind,
+    TrailingBytes,
+    ShortBuffer,
+    BadSetting,
+    LastPlan,
+}
