@@ -1,2 +1,4 @@
 -- The laws of document 01's definitions.
+pub mod Bools
+pub mod Walks
 pub mod Cases

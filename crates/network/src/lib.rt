@@ -3,6 +3,7 @@
 
 // The most basins and the most reaches of a network.
 pub const MAX_BASINS: usize = 256;
+
 pub const MAX_REACHES: usize = 1024;
 
 // The kind of a reach.
