@@ -2,3 +2,7 @@
 pub mod Bools
 pub mod Walks
 pub mod Cases
+pub mod Finds
+pub mod Cuts
+pub mod Ways
+pub mod Marks

@@ -3,17 +3,21 @@
 use Prim.Native.Nat.{ℕ, zero, suc}
 use mathlib.Core.Bool.{Bool, _&&_, _||_}
 use mathlib.Core.List.{List, [], _∷_, _++_, List·Memᴰ}
-use lib.ListN.{getD, drop, replicate}
-use lib.Dec.{eqb}
+use lib.ListN.{length, getD, drop, replicate}
+use lib.Dec.{leb, eqb}
 use Rattle.network.specs.declared.Kind.{Kind}
 use Rattle.network.specs.declared.Kind.the-variants.{Gated, Flap, TwoWay}
 use Rattle.network.specs.declared.Reach.{Reach}
+use Rattle.network.specs.Lists.{every}
 use Rattle.network.specs.Networks.{Network}
 use Rattle.network.specs.Settings.{gateCount}
 
 -- A way is a number: 0 from A to B, 1 from B to A, 2 both, 3 neither.
 -- A hanging is a list of ways 0, 1 or 2, one for each gated reach in reach order: as drawn, turned, or either.
 -- A setting is a hanging without a 2. A gate without a byte counts as either.
+
+unfoldable pub isHanging : Network → List ℕ → Bool
+isHanging N h = eqb (length h) (gateCount N) && every (λ x. leb x 2) h
 
 -- The way of a reach of the kind, if the hanging of the gates from it on is h.
 abbrev pub way : Kind → List ℕ → ℕ

@@ -1,10 +1,12 @@
 -- Document 01's definitions, in its order. A reader who believes these files knows what every promise says.
 pub mod Lists
 pub mod Networks
+pub mod Tables
 pub mod Settings
 pub mod Hangings
 pub mod Plans
 pub mod Lone
 pub mod Marks
+pub mod Words
 pub mod Replies
 pub mod Cases

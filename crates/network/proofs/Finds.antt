@@ -1,0 +1,167 @@
+-- Laws of the finite searches: every, some?, find, keep, range and elem.
+-- Assumes nothing.
+use Prim.Native.Nat.{ℕ, zero, suc, _+_, _≤_, _<_}
+use mathlib.Core.Path.{_≡_, refl, sym, _∙_, ap}
+use mathlib.Core.Logic.{_⊎_, inl, inr, ⊎-elim}
+use mathlib.Core.Bool.{Bool, true, false, true≢false, false≢true}
+use mathlib.Core.List.{List, [], _∷_, _++_, map, List·Memᴰ, List·Memᴰ·head, List·Memᴰ·tail, List·Memᴰ·not-nil, List·Memᴰ·cases-cons, Memᴰ·cast}
+use mathlib.Core.Option.{Option, none, some, Option·some-injective, Option·none-ne-some, Option·some-ne-none}
+use native.Mathlib.Omega.{arith}
+use lib.ListN.{length}
+use lib.Dec.{eqb}
+use borrow.Author.Tests.{eqb-true, eqb-false, eq-eqb}
+use Rattle.network.specs.Lists.{range, every, some?, find, keep, elem}
+use Rattle.network.proofs.Bools.{and-left, and-right, and-make, or-left, or-right, decide, fails, clash, same-test}
+
+module _ {A : Type 0} (p : A → Bool) where
+  -- every: what holds of each member, and the other way round
+  pub every-at : {x : A} {xs : List A} → every p xs ≡ true → List·Memᴰ x xs → p x ≡ true
+  every-at h (List·Memᴰ·head {x = y} {xs = ys} e) = rw e (and-left (p y) (every p ys) h)
+  every-at h (List·Memᴰ·tail {x = y} {xs = ys} m) = every-at (and-right (p y) (every p ys) h) m
+
+  pub every-make : (xs : List A) → ((x : A) → List·Memᴰ x xs → p x ≡ true) → every p xs ≡ true
+  every-make [] f = refl
+  every-make (x ∷ xs) f = and-make (f x (List·Memᴰ·head refl)) (every-make xs (λ y m. f y (List·Memᴰ·tail m)))
+
+  pub every-fails : (xs : List A) → every p xs ≡ false → (x : A) × List·Memᴰ x xs × (p x ≡ false)
+  every-fails [] h = absurd (true≢false h)
+  every-fails (x ∷ xs) h =
+      ⊎-elim
+      (λ e. let r = every-fails xs (rw e at h) in (r .0, List·Memᴰ·tail (r .1), r .2))
+      (λ e. (x, List·Memᴰ·head refl, e))
+      (decide (p x))
+
+  -- some?: a member of which the test holds
+  pub some-make : {x : A} {xs : List A} → List·Memᴰ x xs → p x ≡ true → some? p xs ≡ true
+  some-make (List·Memᴰ·head {x = y} {xs = ys} e) h = or-left (some? p ys) (rw e at h)
+  some-make (List·Memᴰ·tail {x = y} {xs = ys} m) h = or-right (p y) (some-make m h)
+
+  pub some-has : (xs : List A) → some? p xs ≡ true → (x : A) × List·Memᴰ x xs × (p x ≡ true)
+  some-has [] h = absurd (false≢true h)
+  some-has (x ∷ xs) h =
+      ⊎-elim
+      (λ e. (x, List·Memᴰ·head refl, e))
+      (λ e. let r = some-has xs (rw e at h) in (r .0, List·Memᴰ·tail (r .1), r .2))
+      (decide (p x))
+
+  pub some-none : {x : A} {xs : List A} → some? p xs ≡ false → List·Memᴰ x xs → p x ≡ false
+  some-none {x} h m = fails (p x) (λ e. clash (some-make m e) h)
+
+  -- find: what it does at one member
+  pub find-yes : {x : A} (xs : List A) → p x ≡ true → find p (x ∷ xs) ≡ some x
+  find-yes xs e = rw (e, find)
+
+  pub find-no : {x : A} (xs : List A) → p x ≡ false → find p (x ∷ xs) ≡ find p xs
+  find-no xs e = rw (e, find)
+
+  -- what is found is a member of which the test holds; if nothing is found, it holds of none
+  pub find-some : (xs : List A) {x : A} → find p xs ≡ some x → List·Memᴰ x xs × (p x ≡ true)
+  find-some [] {x} h = absurd (Option·none-ne-some x h)
+  find-some (y ∷ xs) {x} h =
+      ⊎-elim
+      (λ e. let q : y ≡ x = Option·some-injective y x (sym (find-yes xs e) ∙ h) in (List·Memᴰ·head (sym q), rw q at e))
+      (λ e. let r = find-some xs (sym (find-no xs e) ∙ h) in (List·Memᴰ·tail (r .0), r .1))
+      (decide (p y))
+
+  pub find-none : {x : A} {xs : List A} → find p xs ≡ none → List·Memᴰ x xs → p x ≡ false
+  find-none h (List·Memᴰ·head {x = y} {xs = ys} e) = rw e (fails (p y) (λ t. Option·some-ne-none y (sym (find-yes ys t) ∙ h)))
+  find-none h (List·Memᴰ·tail {x = y} {xs = ys} m) =
+      ⊎-elim
+      (λ e. absurd (Option·some-ne-none y (sym (find-yes ys e) ∙ h)))
+      (λ e. find-none (sym (find-no ys e) ∙ h) m)
+      (decide (p y))
+
+  pub find-is : (xs : List A) → ((x : A) → List·Memᴰ x xs → p x ≡ false) → find p xs ≡ none
+  find-is [] f = refl
+  find-is (x ∷ xs) f = find-no xs (f x (List·Memᴰ·head refl)) ∙ find-is xs (λ y m. f y (List·Memᴰ·tail m))
+
+  -- what is found in two lists after each other is found in the first, or in the second and not in the first
+  pub find-append : (xs ys : List A) {x : A} → find p (xs ++ ys) ≡ some x → (find p xs ≡ some x) ⊎ ((find p xs ≡ none) × (find p ys ≡ some x))
+  find-append [] ys h = inr (refl, h)
+  find-append (y ∷ xs) ys h =
+      ⊎-elim
+      (λ e. inl (find-yes xs e ∙ (sym (find-yes (xs ++ ys) e) ∙ h)))
+      (λ e. rw (find-no xs e) (find-append xs ys (sym (find-no (xs ++ ys) e) ∙ h)))
+      (decide (p y))
+
+  -- keep: the members of which the test holds
+  pub keep-in : {x : A} (xs : List A) → List·Memᴰ x (keep p xs) → List·Memᴰ x xs × (p x ≡ true)
+  keep-in [] m = absurd (List·Memᴰ·not-nil m)
+  keep-in {x} (y ∷ xs) m =
+      ⊎-elim
+      (λ e. ⊎-elim
+      (λ q. (List·Memᴰ·head q, rw q e))
+      (λ k. let r = keep-in xs k in (List·Memᴰ·tail (r .0), r .1))
+      (List·Memᴰ·cases-cons (rw e at m)))
+      (λ e. let r = keep-in xs (rw e at m) in (List·Memᴰ·tail (r .0), r .1))
+      (decide (p y))
+
+  pub keep-has : {x : A} {xs : List A} → List·Memᴰ x xs → p x ≡ true → List·Memᴰ x (keep p xs)
+  keep-has (List·Memᴰ·head {x = y} e) h = rw (rw e at h) (List·Memᴰ·head e)
+  keep-has (List·Memᴰ·tail {x = y} m) h =
+      ⊎-elim
+      (λ e. rw e (List·Memᴰ·tail (keep-has m h)))
+      (λ e. rw e (keep-has m h))
+      (decide (p y))
+
+-- Tests that agree on the members find the same.
+pub find-same : {A : Type 0} (p q : A → Bool) (xs : List A) → ((x : A) → List·Memᴰ x xs → p x ≡ q x) → find p xs ≡ find q xs
+find-same p q [] f = refl
+find-same p q (x ∷ xs) f =
+    let same = f x (List·Memᴰ·head refl) in
+    ⊎-elim
+    (λ e. find-yes p xs e ∙ sym (find-yes q xs (sym same ∙ e)))
+    (λ e. find-no p xs e ∙ (find-same p q xs (λ y m. f y (List·Memᴰ·tail m)) ∙ sym (find-no q xs (sym same ∙ e))))
+    (decide (p x))
+
+-- What is found among the values of a function.
+pub find-map : {A B : Type 0} (f : A → B) (p : B → Bool) (xs : List A) {y : B} → find p (map f xs) ≡ some y → (x : A) × (find (λ z. p (f z)) xs ≡ some x) × (y ≡ f x)
+find-map f p [] {y} h = absurd (Option·none-ne-some y h)
+find-map f p (x ∷ xs) {y} h =
+    ⊎-elim
+    (λ e. (x, find-yes (λ z. p (f z)) xs e, sym (Option·some-injective (f x) y (sym (find-yes p (map f xs) e) ∙ h))))
+    (λ e. let r = find-map f p xs (sym (find-no p (map f xs) e) ∙ h) in (r .0, find-no (λ z. p (f z)) xs e ∙ r .1, r .2))
+    (decide (p (f x)))
+
+-- range: its length and its members
+pub length-range : (i n : ℕ) → length (range i n) ≡ n
+length-range i zero = refl
+length-range i (suc n) = ap suc (length-range (suc i) n)
+
+pub range-has : {j : ℕ} (i n : ℕ) → i ≤ j → j < i + n → List·Memᴰ j (range i n)
+range-has i zero h k = absurd (omega arith)
+range-has {j} i (suc n) h k =
+    ⊎-elim
+    (λ e. List·Memᴰ·head (eqb-true j i e))
+    (λ e. let d : j ≡ i → ⊥ = eqb-false j i e in List·Memᴰ·tail (range-has (suc i) n (omega arith) (omega arith)))
+    (decide (eqb j i))
+
+pub range-in : {j : ℕ} (i n : ℕ) → List·Memᴰ j (range i n) → (i ≤ j) × (j < i + n)
+range-in i zero m = absurd (List·Memᴰ·not-nil m)
+range-in {j} i (suc n) m =
+    ⊎-elim
+    (λ e. (omega arith, omega arith))
+    (λ k. let r = range-in (suc i) n k in (omega arith, omega arith))
+    (List·Memᴰ·cases-cons m)
+
+-- What is found in a range is the first number of which the test holds.
+pub find-first : (p : ℕ → Bool) (i n : ℕ) {k : ℕ} → find p (range i n) ≡ some k → (j : ℕ) → i ≤ j → j < k → p j ≡ false
+find-first p i zero {k} h j l m = absurd (Option·none-ne-some k h)
+find-first p i (suc n) {k} h j l m =
+    ⊎-elim
+    (λ e. let q : i ≡ k = Option·some-injective i k (sym (find-yes p (range (suc i) n) e) ∙ h) in absurd (omega arith))
+    (λ e. ⊎-elim
+    (λ q. rw (eqb-true j i q) e)
+    (λ q. let d : j ≡ i → ⊥ = eqb-false j i q in find-first p (suc i) n (sym (find-no p (range (suc i) n) e) ∙ h) j (omega arith) m)
+    (decide (eqb j i)))
+    (decide (p i))
+
+-- elem: membership of a number
+pub elem-has : {b : ℕ} {xs : List ℕ} → List·Memᴰ b xs → elem b xs ≡ true
+elem-has {b} m = some-make (eqb b) m (eq-eqb b b refl)
+
+pub elem-in : (b : ℕ) (xs : List ℕ) → elem b xs ≡ true → List·Memᴰ b xs
+elem-in b xs h = let r = some-has (eqb b) xs h in Memᴰ·cast (eqb-true b (r .0) (r .2)) (r .1)
+
+pub elem-keep : (p : ℕ → Bool) {b : ℕ} {xs : List ℕ} → List·Memᴰ b xs → elem b (keep p xs) ≡ p b
+elem-keep p {b} {xs} m = same-test (elem b (keep p xs)) (p b) (λ e. (keep-in p xs (elem-in b (keep p xs) e)) .1) (λ e. elem-has (keep-has p m e))

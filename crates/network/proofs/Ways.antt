@@ -1,0 +1,259 @@
+-- The arcs of a table, reach by reach: which arcs there are, what one reach adds, and what a gate's byte changes.
+-- Assumes nothing.
+use Prim.Native.Nat.{ℕ, zero, suc, _+_, _≤_, _<_}
+use native.Mathlib.Nat.{not-suc-le-zero, le-of-suc-le-suc, add-suc, suc-add, add-zero}
+use native.Mathlib.Omega.{arith}
+use mathlib.Core.Path.{_≡_, refl, sym, ap, subst, _∙_}
+use mathlib.Core.Bool.{Bool, true, false, true≢false, false≢true}
+use mathlib.Core.Logic.{_⊎_, inl, inr, ⊎-elim, _≢_}
+use mathlib.Core.List.{List, [], _∷_, _++_, List·Memᴰ, List·Memᴰ·head, List·Memᴰ·tail, List·Memᴰ·not-nil, List·Memᴰ·cases-cons, Memᴰ·append-left, Memᴰ·append-right, List·Memᴰ·append-cases}
+use lib.ListN.{length, getD, set, drop}
+use lib.Dec.{leb}
+use borrow.Author.Tests.{leb-true}
+use Rattle.network.specs.declared.Kind.{Kind}
+use Rattle.network.specs.declared.Kind.the-variants.{Gated, Flap, TwoWay}
+use Rattle.network.specs.declared.Reach.{Reach}
+use Rattle.network.specs.Settings.{isGated, gatesFrom}
+use Rattle.network.specs.Hangings.{Arc, arc, way, after, ways, passing, arcs}
+use Rattle.network.specs.Lone.{noReach}
+use Rattle.network.specs.Lists.{every}
+use Rattle.network.proofs.Bools.{and-left, and-right, decide}
+use Rattle.network.proofs.Walks.{Within}
+
+-- ---- one reach of a table
+
+-- the arcs that the reach with number i would pass if its way were x
+abbrev pub passingAt : List Reach → ℕ → ℕ → List Arc
+passingAt t i x = passing x ((getD t i noReach) .a) ((getD t i noReach) .b)
+
+pub arcs-has : (t : List Reach) (ws : List ℕ) (i : ℕ) (y : Arc) → i < length t → List·Memᴰ y (passingAt t i (getD ws i 3)) → List·Memᴰ y (arcs t ws)
+arcs-has [] ws i y l m = absurd (not-suc-le-zero l)
+arcs-has (r ∷ t) [] i y l m = absurd (List·Memᴰ·not-nil m)
+arcs-has (r ∷ t) (w ∷ ws) zero y l m = Memᴰ·append-left (arcs t ws) m
+arcs-has (r ∷ t) (w ∷ ws) (suc i) y l m = Memᴰ·append-right (passing w (r .a) (r .b)) (arcs-has t ws i y (le-of-suc-le-suc l) m)
+
+-- where an arc comes from: the number of a reach that passes it
+pub record Source (t : List Reach) (ws : List ℕ) (y : Arc) : Type 0 where
+  pub reach : ℕ
+  pub below : reach < length t
+  pub passes : List·Memᴰ y (passingAt t reach (getD ws reach 3))
+
+pub arcs-in : (t : List Reach) (ws : List ℕ) (y : Arc) → List·Memᴰ y (arcs t ws) → Source t ws y
+arcs-in [] ws y m = absurd (List·Memᴰ·not-nil m)
+arcs-in (r ∷ t) [] y m = absurd (List·Memᴰ·not-nil m)
+arcs-in (r ∷ t) (w ∷ ws) y m = pick (arcs-in t ws y) (List·Memᴰ·append-cases (passing w (r .a) (r .b)) m)
+  where
+    pick : (List·Memᴰ y (arcs t ws) → Source t ws y) → List·Memᴰ y (passing w (r .a) (r .b)) ⊎ List·Memᴰ y (arcs t ws) → Source (r ∷ t) (w ∷ ws) y
+    pick f (inl here) = record { reach = 0; below = omega arith; passes = here }
+    pick f (inr there) = let s = f there in record { reach = suc (s .reach); below = omega arith; passes = s .passes }
+
+-- with the reach i in way x there are just its arcs and those of the table without it (way 3)
+pub split-in : (t : List Reach) (ws : List ℕ) (i x : ℕ) (y : Arc) → List·Memᴰ y (arcs t (set ws i x)) → List·Memᴰ y (passingAt t i x) ⊎ List·Memᴰ y (arcs t (set ws i 3))
+split-in [] ws i x y m = absurd (List·Memᴰ·not-nil m)
+split-in (r ∷ t) [] i x y m = absurd (List·Memᴰ·not-nil m)
+split-in (r ∷ t) (w ∷ ws) zero x y m = List·Memᴰ·append-cases (passing x (r .a) (r .b)) m
+split-in (r ∷ t) (w ∷ ws) (suc i) x y m =
+    let rest : List·Memᴰ y (arcs t (set ws i x)) → List·Memᴰ y (passingAt t i x) ⊎ List·Memᴰ y (arcs t (set ws i 3)) = split-in t ws i x y in
+    ⊎-elim
+    (λ here. inr (Memᴰ·append-left (arcs t (set ws i 3)) here))
+    (λ there. ⊎-elim (λ p. inl p) (λ q. inr (Memᴰ·append-right (passing w (r .a) (r .b)) q)) (rest there))
+    (List·Memᴰ·append-cases (passing w (r .a) (r .b)) m)
+
+pub split-own : (t : List Reach) (ws : List ℕ) (i x : ℕ) → i < length t → i < length ws → Within (passingAt t i x) (arcs t (set ws i x))
+split-own [] ws i x l k y m = absurd (not-suc-le-zero l)
+split-own (r ∷ t) [] i x l k y m = absurd (not-suc-le-zero k)
+split-own (r ∷ t) (w ∷ ws) zero x l k y m = Memᴰ·append-left (arcs t ws) m
+split-own (r ∷ t) (w ∷ ws) (suc i) x l k y m = Memᴰ·append-right (passing w (r .a) (r .b)) (split-own t ws i x (le-of-suc-le-suc l) (le-of-suc-le-suc k) y m)
+
+pub split-rest : (t : List Reach) (ws : List ℕ) (i x : ℕ) → Within (arcs t (set ws i 3)) (arcs t (set ws i x))
+split-rest [] ws i x y m = m
+split-rest (r ∷ t) [] i x y m = m
+split-rest (r ∷ t) (w ∷ ws) zero x y m = Memᴰ·append-right (passing x (r .a) (r .b)) m
+split-rest (r ∷ t) (w ∷ ws) (suc i) x y m =
+    let rest : Within (arcs t (set ws i 3)) (arcs t (set ws i x)) = split-rest t ws i x in
+    ⊎-elim
+    (λ here. Memᴰ·append-left (arcs t (set ws i x)) here)
+    (λ there. Memᴰ·append-right (passing w (r .a) (r .b)) (rest y there))
+    (List·Memᴰ·append-cases (passing w (r .a) (r .b)) m)
+
+-- ---- ways and hangings
+
+pub length-ways : (t : List Reach) (h : List ℕ) → length (ways t h) ≡ length t
+length-ways [] h = refl
+length-ways (r ∷ t) h = ap suc (length-ways t (after (r .kind) h))
+
+-- the gate k of a table: the number of its reach, and what its byte decides
+pub record Gate (o : ℕ) (t : List Reach) (h : List ℕ) (k : ℕ) : Type 0 where
+  pub reach : ℕ
+  pub below : reach < length t
+  pub numbered : getD (gatesFrom o t) k 0 ≡ o + reach
+  pub gated : isGated ((getD t reach noReach) .kind) ≡ true
+  pub byte : getD (ways t h) reach 3 ≡ getD h k 2
+  pub turn : (x : ℕ) → k < length h → ways t (set h k x) ≡ set (ways t h) reach x
+
+abbrev reachOf : Kind → ℕ → ℕ → Reach
+reachOf d a b = record { kind = d; a = a; b = b }
+
+-- a gate of the tail is a gate of the table, after a reach that is no gate
+passed : (d : Kind) (a b o : ℕ) (t : List Reach) (h : List ℕ) (k : ℕ) → isGated d ≡ false → after d h ≡ h → Gate (suc o) t h k → Gate o (reachOf d a b ∷ t) h k
+passed Gated a b o t h k e f g = absurd (true≢false e)
+passed Flap a b o t h k e f g =
+    record {
+      reach = suc (g .reach);
+      below = omega (arith, g .below);
+      numbered = g .numbered ∙ omega arith;
+      gated = g .gated;
+      byte = g .byte;
+      turn = λ x l. ap (λ (l : List ℕ). 0 ∷ l) (g .turn x l);
+    }
+passed TwoWay a b o t h k e f g =
+    record {
+      reach = suc (g .reach);
+      below = omega (arith, g .below);
+      numbered = g .numbered ∙ omega arith;
+      gated = g .gated;
+      byte = g .byte;
+      turn = λ x l. ap (λ (l : List ℕ). 2 ∷ l) (g .turn x l);
+    }
+
+first-gate : (a b o : ℕ) (t : List Reach) (h : List ℕ) → Gate o (reachOf Gated a b ∷ t) h 0
+first-gate a b o t [] = record { reach = 0; below = omega arith; numbered = omega arith; gated = refl; byte = refl; turn = λ x l. absurd (not-suc-le-zero l) }
+first-gate a b o t (y ∷ h) = record { reach = 0; below = omega arith; numbered = omega arith; gated = refl; byte = refl; turn = λ x l. refl }
+
+later-gate : (a b o : ℕ) (t : List Reach) (h : List ℕ) (k : ℕ) → Gate (suc o) t (drop 1 h) k → Gate o (reachOf Gated a b ∷ t) h (suc k)
+later-gate a b o t [] k g =
+    record { reach = suc (g .reach); below = omega (arith, g .below); numbered = g .numbered ∙ omega arith; gated = g .gated; byte = g .byte; turn = λ x l. absurd (not-suc-le-zero l) }
+later-gate a b o t (y ∷ h) k g =
+    record {
+      reach = suc (g .reach);
+      below = omega (arith, g .below);
+      numbered = g .numbered ∙ omega arith;
+      gated = g .gated;
+      byte = g .byte;
+      turn = λ x l. ap (λ (l : List ℕ). y ∷ l) (g .turn x (le-of-suc-le-suc l));
+    }
+
+gate-step : (d : Kind) (a b o : ℕ) (t : List Reach) (h : List ℕ) (k : ℕ) → ((h′ : List ℕ) (k′ : ℕ) → k′ < length (gatesFrom (suc o) t) → Gate (suc o) t h′ k′) → k < length (gatesFrom o (reachOf d a b ∷ t)) → Gate o (reachOf d a b ∷ t) h k
+gate-step Gated a b o t h zero f l = first-gate a b o t h
+gate-step Gated a b o t h (suc k) f l = later-gate a b o t h k (f (drop 1 h) k (le-of-suc-le-suc l))
+gate-step Flap a b o t h k f l = passed Flap a b o t h k refl refl (f h k l)
+gate-step TwoWay a b o t h k f l = passed TwoWay a b o t h k refl refl (f h k l)
+
+pub gate-at : (o : ℕ) (t : List Reach) (h : List ℕ) (k : ℕ) → k < length (gatesFrom o t) → Gate o t h k
+gate-at o [] h k l = absurd (not-suc-le-zero l)
+gate-at o (r ∷ t) h k l = gate-step (r .kind) (r .a) (r .b) o t h k (λ h′ k′ l′. gate-at (suc o) t h′ k′ l′) l
+
+-- every gated reach is a gate: its place among the gates
+pub record Rank (o : ℕ) (t : List Reach) (i : ℕ) : Type 0 where
+  pub place : ℕ
+  pub below : place < length (gatesFrom o t)
+  pub numbered : getD (gatesFrom o t) place 0 ≡ o + i
+
+rank-step : (d : Kind) (a b o : ℕ) (t : List Reach) (i : ℕ) → Rank (suc o) t i → Rank o (reachOf d a b ∷ t) (suc i)
+rank-step Gated a b o t i r = record { place = suc (r .place); below = omega (arith, r .below); numbered = r .numbered ∙ omega arith }
+rank-step Flap a b o t i r = record { place = r .place; below = r .below; numbered = r .numbered ∙ omega arith }
+rank-step TwoWay a b o t i r = record { place = r .place; below = r .below; numbered = r .numbered ∙ omega arith }
+
+rank-here : (d : Kind) (a b o : ℕ) (t : List Reach) → isGated d ≡ true → Rank o (reachOf d a b ∷ t) 0
+rank-here Gated a b o t e = record { place = 0; below = omega arith; numbered = omega arith }
+rank-here Flap a b o t e = absurd (false≢true e)
+rank-here TwoWay a b o t e = absurd (false≢true e)
+
+pub rank-of : (o : ℕ) (t : List Reach) (i : ℕ) → i < length t → isGated ((getD t i noReach) .kind) ≡ true → Rank o t i
+rank-of o [] i l e = absurd (not-suc-le-zero l)
+rank-of o (r ∷ t) zero l e = rank-here (r .kind) (r .a) (r .b) o t e
+rank-of o (r ∷ t) (suc i) l e = rank-step (r .kind) (r .a) (r .b) o t i (rank-of (suc o) t i (le-of-suc-le-suc l) e)
+
+-- a reach that is no gate has the way of its kind, whatever the hanging
+plain-here : (d : Kind) (h : List ℕ) → isGated d ≡ false → way d h ≡ way d []
+plain-here Gated h e = absurd (true≢false e)
+plain-here Flap h e = refl
+plain-here TwoWay h e = refl
+
+pub plain-way : (t : List Reach) (h : List ℕ) (i : ℕ) → i < length t → isGated ((getD t i noReach) .kind) ≡ false → getD (ways t h) i 3 ≡ way ((getD t i noReach) .kind) []
+plain-way [] h i l e = absurd (not-suc-le-zero l)
+plain-way (r ∷ t) h zero l e = plain-here (r .kind) h e
+plain-way (r ∷ t) h (suc i) l e = plain-way t (after (r .kind) h) i (le-of-suc-le-suc l) e
+
+-- a gated reach has the way that its byte says
+pub record GateWay (t : List Reach) (h : List ℕ) (i : ℕ) : Type 0 where
+  pub place : ℕ
+  pub below : place < length (gatesFrom 0 t)
+  pub numbered : getD (gatesFrom 0 t) place 0 ≡ i
+  pub byte : getD (ways t h) i 3 ≡ getD h place 2
+  pub turn : (x : ℕ) → place < length h → ways t (set h place x) ≡ set (ways t h) i x
+
+pub gate-way : (t : List Reach) (h : List ℕ) (i : ℕ) → i < length t → isGated ((getD t i noReach) .kind) ≡ true → GateWay t h i
+gate-way t h i l e =
+    let r = rank-of 0 t i l e in
+    let g = gate-at 0 t h (r .place) (r .below) in
+    let same : g .reach ≡ i = omega (arith, g .numbered, r .numbered) in
+    record {
+      place = r .place;
+      below = r .below;
+      numbered = r .numbered ∙ omega arith;
+      byte = subst (λ (j : ℕ). getD (ways t h) j 3 ≡ getD h (r .place) 2) same (g .byte);
+      turn = λ x k. subst (λ (j : ℕ). ways t (set h (r .place) x) ≡ set (ways t h) j x) same (g .turn x k);
+    }
+
+-- what holds of the bytes of a list holds of each place in it
+pub every-getD : (p : ℕ → Bool) (xs : List ℕ) (i d : ℕ) → every p xs ≡ true → i < length xs → p (getD xs i d) ≡ true
+every-getD p [] i d e l = absurd (not-suc-le-zero l)
+every-getD p (x ∷ xs) zero d e l = and-left (p x) _ e
+every-getD p (x ∷ xs) (suc i) d e l = every-getD p xs i d (and-right (p x) _ e) (le-of-suc-le-suc l)
+
+plain-small : (d : Kind) → isGated d ≡ false → way d [] ≤ 2
+plain-small Gated e = absurd (true≢false e)
+plain-small Flap e = omega arith
+plain-small TwoWay e = omega arith
+
+-- under a hanging each reach has a way up to 2
+pub way-small : (t : List Reach) (h : List ℕ) (i : ℕ) → length h ≡ length (gatesFrom 0 t) → every (λ x. leb x 2) h ≡ true → i < length t → getD (ways t h) i 3 ≤ 2
+way-small t h i e all l = ⊎-elim gated plain (decide (isGated ((getD t i noReach) .kind)))
+  where
+    gated : isGated ((getD t i noReach) .kind) ≡ true → getD (ways t h) i 3 ≤ 2
+    gated y =
+        let g = gate-way t h i l y in
+        rw (g .byte) (leb-true (getD h (g .place) 2) 2 (every-getD (λ x. leb x 2) h (g .place) 2 all (omega (arith, g .below, e))))
+
+    plain : isGated ((getD t i noReach) .kind) ≡ false → getD (ways t h) i 3 ≤ 2
+    plain n = rw (plain-way t h i l n) (plain-small ((getD t i noReach) .kind) n)
+
+-- under a setting each gated reach has a way up to 1
+pub gate-small : (t : List Reach) (s : List ℕ) (i : ℕ) → length s ≡ length (gatesFrom 0 t) → every (λ x. leb x 1) s ≡ true → i < length t → isGated ((getD t i noReach) .kind) ≡ true → getD (ways t s) i 3 ≤ 1
+gate-small t s i e all l y =
+    let g = gate-way t s i l y in
+    rw (g .byte) (leb-true (getD s (g .place) 2) 1 (every-getD (λ x. leb x 1) s (g .place) 2 all (omega (arith, g .below, e))))
+
+-- ---- looser hangings
+
+-- h′ leaves a gate as h has it, or either
+abbrev pub Looser : List ℕ → List ℕ → Type 0
+Looser h h′ = (k : ℕ) → (getD h′ k 2 ≡ 2) ⊎ (getD h′ k 2 ≡ getD h k 2)
+
+passing-either : (x a b : ℕ) → Within (passing x a b) (passing 2 a b)
+passing-either zero a b y m = ⊎-elim (λ e. List·Memᴰ·head e) (λ n. absurd (List·Memᴰ·not-nil n)) (List·Memᴰ·cases-cons m)
+passing-either (suc zero) a b y m = List·Memᴰ·tail m
+passing-either (suc (suc zero)) a b y m = m
+passing-either (suc (suc (suc x))) a b y m = absurd (List·Memᴰ·not-nil m)
+
+pub looser-within : (t : List Reach) (h h′ : List ℕ) → Looser h h′ → Within (arcs t (ways t h)) (arcs t (ways t h′))
+unfolding gate-way
+looser-within t h h′ f y m = go (arcs-in t (ways t h) y m)
+  where
+    gated : (i : ℕ) → i < length t → isGated ((getD t i noReach) .kind) ≡ true → List·Memᴰ y (passingAt t i (getD (ways t h) i 3)) → List·Memᴰ y (passingAt t i (getD (ways t h′) i 3))
+    gated i l e p =
+        let g = gate-way t h i l e in
+        let g′ = gate-way t h′ i l e in
+        ⊎-elim
+        (λ free. subst (λ (x : ℕ). List·Memᴰ y (passingAt t i x)) (sym (g′ .byte ∙ free)) (passing-either (getD (ways t h) i 3) _ _ y p))
+        (λ same. subst (λ (x : ℕ). List·Memᴰ y (passingAt t i x)) (g .byte ∙ sym (g′ .byte ∙ same)) p)
+        (f (g′ .place))
+
+    plain : (i : ℕ) → i < length t → isGated ((getD t i noReach) .kind) ≡ false → List·Memᴰ y (passingAt t i (getD (ways t h) i 3)) → List·Memᴰ y (passingAt t i (getD (ways t h′) i 3))
+    plain i l e p = subst (λ (x : ℕ). List·Memᴰ y (passingAt t i x)) (plain-way t h i l e ∙ sym (plain-way t h′ i l e)) p
+
+    go : Source t (ways t h) y → List·Memᴰ y (arcs t (ways t h′))
+    go s =
+        arcs-has t (ways t h′) (s .reach) y (s .below)
+        (⊎-elim (λ e. gated (s .reach) (s .below) e (s .passes)) (λ e. plain (s .reach) (s .below) e (s .passes)) (decide (isGated ((getD t (s .reach) noReach) .kind))))
