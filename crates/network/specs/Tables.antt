@@ -19,7 +19,7 @@ kindNumber TwoWay = 2
 
 -- The table of three rows, as long as the shortest of them.
 abbrev pub tableOf : List ℕ → List ℕ → List ℕ → List Reach
-tableOf [] as bs = []
-tableOf (k ∷ ks) [] bs = []
-tableOf (k ∷ ks) (a ∷ as) [] = []
-tableOf (k ∷ ks) (a ∷ as) (b ∷ bs) = record { kind = kindOf k; a = a; b = b } ∷ tableOf ks as bs
+tableOf [] ys zs = []
+tableOf (k ∷ ks) [] zs = []
+tableOf (k ∷ ks) (y ∷ ys) [] = []
+tableOf (k ∷ ks) (y ∷ ys) (z ∷ zs) = record { kind = kindOf k; a = y; b = z } ∷ tableOf ks ys zs
