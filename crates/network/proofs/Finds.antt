@@ -5,7 +5,7 @@ use mathlib.Core.Path.{_≡_, refl, sym, _∙_, ap}
 use mathlib.Core.Logic.{_⊎_, inl, inr, ⊎-elim}
 use mathlib.Core.Bool.{Bool, true, false, true≢false, false≢true}
 use mathlib.Core.List.{List, [], _∷_, _++_, map, List·Memᴰ, List·Memᴰ·head, List·Memᴰ·tail, List·Memᴰ·not-nil, List·Memᴰ·cases-cons, Memᴰ·cast}
-use mathlib.Core.Option.{Option, none, some, Option·some-injective, Option·none-ne-some, Option·some-ne-none}
+use mathlib.Core.Option.{none, some, Option·some-injective, Option·none-ne-some, Option·some-ne-none}
 use native.Mathlib.Omega.{arith}
 use lib.ListN.{length}
 use lib.Dec.{eqb}
@@ -88,12 +88,10 @@ module _ {A : Type 0} (p : A → Bool) where
   pub keep-in : {x : A} (xs : List A) → List·Memᴰ x (keep p xs) → List·Memᴰ x xs × (p x ≡ true)
   keep-in [] m = absurd (List·Memᴰ·not-nil m)
   keep-in {x} (y ∷ xs) m =
+      let later : List·Memᴰ x (keep p xs) → List·Memᴰ x (y ∷ xs) × (p x ≡ true) = λ k. let r = keep-in xs k in (List·Memᴰ·tail (r .0), r .1) in
       ⊎-elim
-      (λ e. ⊎-elim
-      (λ q. (List·Memᴰ·head q, rw q e))
-      (λ k. let r = keep-in xs k in (List·Memᴰ·tail (r .0), r .1))
-      (List·Memᴰ·cases-cons (rw e at m)))
-      (λ e. let r = keep-in xs (rw e at m) in (List·Memᴰ·tail (r .0), r .1))
+      (λ e. ⊎-elim (λ q. (List·Memᴰ·head q, rw q e)) later (List·Memᴰ·cases-cons (rw e at m)))
+      (λ e. later (rw e at m))
       (decide (p y))
 
   pub keep-has : {x : A} {xs : List A} → List·Memᴰ x xs → p x ≡ true → List·Memᴰ x (keep p xs)
@@ -148,12 +146,11 @@ range-in {j} i (suc n) m =
 pub find-first : (p : ℕ → Bool) (i n : ℕ) {k : ℕ} → find p (range i n) ≡ some k → (j : ℕ) → i ≤ j → j < k → p j ≡ false
 find-first p i zero {k} h j l m = absurd (Option·none-ne-some k h)
 find-first p i (suc n) {k} h j l m =
+    let rest = range (suc i) n in
+    let later : p i ≡ false → (j ≡ i → ⊥) → p j ≡ false = λ e d. find-first p (suc i) n (sym (find-no p rest e) ∙ h) j (omega arith) m in
     ⊎-elim
-    (λ e. let q : i ≡ k = Option·some-injective i k (sym (find-yes p (range (suc i) n) e) ∙ h) in absurd (omega arith))
-    (λ e. ⊎-elim
-    (λ q. rw (eqb-true j i q) e)
-    (λ q. let d : j ≡ i → ⊥ = eqb-false j i q in find-first p (suc i) n (sym (find-no p (range (suc i) n) e) ∙ h) j (omega arith) m)
-    (decide (eqb j i)))
+    (λ e. let q : i ≡ k = Option·some-injective i k (sym (find-yes p rest e) ∙ h) in absurd (omega arith))
+    (λ e. ⊎-elim (λ q. rw (eqb-true j i q) e) (λ q. later e (eqb-false j i q)) (decide (eqb j i)))
     (decide (p i))
 
 -- elem: membership of a number

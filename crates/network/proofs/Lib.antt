@@ -5,4 +5,7 @@ pub mod Cases
 pub mod Finds
 pub mod Cuts
 pub mod Ways
+pub mod Networks
+pub mod Lone
 pub mod Marks
+pub mod Order
