@@ -7,5 +7,7 @@ pub mod Cuts
 pub mod Ways
 pub mod Networks
 pub mod Lone
+pub mod Steps
+pub mod Theorem
 pub mod Marks
 pub mod Order

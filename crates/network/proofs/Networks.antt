@@ -92,6 +92,10 @@ from-of e = cc
 to-of : {c d a b : ℕ} → arc c d ≡ arc a b → b ≡ d
 to-of e = cc
 
+pub reach-alike : (f : ℕ → Bool) (x a b c d : ℕ) → f a ≡ f b → List·Memᴰ (arc c d) (passing x a b) → f c ≡ f d
+reach-alike f x a b c d same m =
+    ⊎-elim (λ e. sym (ap f (from-of e)) ∙ same ∙ ap f (to-of e)) (λ e. sym (ap f (from-of e)) ∙ sym same ∙ ap f (to-of e)) (passing-ends x a b c d m)
+
 -- what holds of both ends of each reach holds of both ends of each arc
 pub arc-ends : (P : ℕ → Type 0) (t : List Reach) (ws : List ℕ) → ((i : ℕ) → i < length t → P ((getD t i noReach) .a) × P ((getD t i noReach) .b)) → (c d : ℕ) → List·Memᴰ (arc c d) (arcs t ws) → P c × P d
 arc-ends P t ws f c d m =
@@ -103,3 +107,9 @@ pub arcs-in-basins : (N : Network) → Accepted N → (ws : List ℕ) (c d : ℕ
 arcs-in-basins N ok ws =
     arc-ends (λ x. List·Memᴰ x (basinsOf N)) (N .reaches) ws
     (λ i l. (basin-in N _ ((accepted N ok) .end-a i l), basin-in N _ ((accepted N ok) .end-b i l)))
+
+-- what is alike at both ends of each reach is alike at both ends of each arc
+pub arc-alike : (f : ℕ → Bool) (t : List Reach) (ws : List ℕ) → ((i : ℕ) → i < length t → f ((getD t i noReach) .a) ≡ f ((getD t i noReach) .b)) → (c d : ℕ) → List·Memᴰ (arc c d) (arcs t ws) → f c ≡ f d
+arc-alike f t ws same c d m =
+    let s = arcs-in t ws (arc c d) m in
+    reach-alike f (getD ws (s .reach) 3) _ _ c d (same (s .reach) (s .below)) (s .passes)

@@ -1,0 +1,105 @@
+-- The step that carries the planner: where everything reaches everything, what hanging one undecided gate changes.
+-- Assumes nothing.
+use Prim.Native.Nat.{ℕ, zero, suc, _+_, _≤_, _<_}
+use native.Mathlib.Omega.{arith}
+use mathlib.Core.Path.{_≡_, refl, sym, ap, subst, subst⁻¹, _∙_}
+use mathlib.Core.Bool.{Bool, true, false, not, _&&_, Bool·beq}
+use mathlib.Core.Logic.{_⊎_, inl, inr, ⊎-elim, _≢_}
+use mathlib.Core.List.{List, [], _∷_, List·Memᴰ, List·Memᴰ·head, List·Memᴰ·tail, List·Memᴰ·not-nil, List·Memᴰ·cases-cons}
+use lib.ListN.{length, getD, set}
+use lib.Seq.{getD-set-other}
+use Rattle.network.specs.Networks.{Network, basinsOf, Accepted}
+use Rattle.network.specs.Settings.{isGated}
+use Rattle.network.specs.Hangings.{Arc, arc, passing, arcs, reached}
+use Rattle.network.specs.Plans.{strong}
+use Rattle.network.specs.Lone.{reachAt, isLone}
+use Rattle.network.proofs.Bools.{same-test}
+use Rattle.network.proofs.Walks.{reached-walk}
+use Rattle.network.proofs.Cuts.{OneMore, TwoMore, strong-walks, walks-strong, detour, came-back, bridge, other-side, reached-self}
+use Rattle.network.proofs.Ways.{arcs-has, split-in, split-own, split-rest, passingAt}
+use Rattle.network.proofs.Networks.{accepted, basin-in, arcs-in-basins}
+use Rattle.network.proofs.Lone.{Alone, lone-make}
+
+-- a reach whose way is 0, 1 or 2 passes between its ends
+some-arc : (w a b : ℕ) → w ≤ 2 → List·Memᴰ (arc a b) (passing w a b) ⊎ List·Memᴰ (arc b a) (passing w a b)
+some-arc zero a b l = inl (List·Memᴰ·head refl)
+some-arc (suc zero) a b l = inr (List·Memᴰ·head refl)
+some-arc (suc (suc zero)) a b l = inl (List·Memᴰ·head refl)
+some-arc (suc (suc (suc w))) a b l = absurd (omega arith)
+
+-- The reach i of a network in which the reaches have the ways ws. Way 3 for it leaves it out.
+module _ (N : Network) (ok : Accepted N) (ws : List ℕ) (i : ℕ) (below : i < length (N .reaches)) (full : length ws ≡ length (N .reaches)) where
+  abbrev pub under : ℕ → List Arc
+  under x = arcs (N .reaches) (set ws i x)
+
+  abbrev pub endA : ℕ
+  endA = (reachAt N i) .a
+
+  abbrev pub endB : ℕ
+  endB = (reachAt N i) .b
+
+  one-at : (x a b : ℕ) → passingAt (N .reaches) i x ≡ arc a b ∷ [] → OneMore (under 3) (under x) a b
+  one-at x a b e =
+      record
+      { has = split-own (N .reaches) ws i x below (omega (arith, full)) (arc a b) (subst⁻¹ (λ (l : List Arc). List·Memᴰ (arc a b) l) e (List·Memᴰ·head refl))
+      ; rest = split-rest (N .reaches) ws i x
+      ; only = λ y m. ⊎-elim (λ own. inl (⊎-elim (λ q. q) (λ n. absurd (List·Memᴰ·not-nil n)) (List·Memᴰ·cases-cons (subst (λ (l : List Arc). List·Memᴰ y l) e own)))) (λ other. inr other) (split-in (N .reaches) ws i x y m)
+      }
+
+  drawn : OneMore (under 3) (under 0) endA endB
+  drawn = one-at 0 endA endB refl
+
+  turned : OneMore (under 3) (under 1) endB endA
+  turned = one-at 1 endB endA refl
+
+  both : TwoMore (under 3) (under 2) endA endB
+  both y m =
+      ⊎-elim
+      (λ own. ⊎-elim (λ e. inl e) (λ m′. ⊎-elim (λ e. inr (inl e)) (λ n. absurd (List·Memᴰ·not-nil n)) (List·Memᴰ·cases-cons m′)) (List·Memᴰ·cases-cons own))
+      (λ other. inr (inr other))
+      (split-in (N .reaches) ws i 2 y m)
+
+  both′ : TwoMore (under 3) (under 2) endB endA
+  both′ y m = ⊎-elim (λ e. inr (inl e)) (⊎-elim (λ e. inl e) (λ o. inr (inr o))) (both y m)
+
+  in-a : List·Memᴰ endA (basinsOf N)
+  in-a = basin-in N endA ((accepted N ok) .end-a i below)
+
+  in-b : List·Memᴰ endB (basinsOf N)
+  in-b = basin-in N endB ((accepted N ok) .end-b i below)
+
+  one-way : (x a b : ℕ) → OneMore (under 3) (under x) a b → TwoMore (under 3) (under 2) a b → List·Memᴰ a (basinsOf N) → List·Memᴰ b (basinsOf N) → strong (basinsOf N) (under 2) ≡ true → strong (basinsOf N) (under x) ≡ reached (under 3) b a
+  one-way x a b one two ma mb str =
+      same-test (strong (basinsOf N) (under x)) (reached (under 3) b a)
+      (λ e. came-back one (strong-walks (basinsOf N) (under x) e b a mb ma))
+      (λ e. walks-strong (basinsOf N) (under x) (λ u v mu mv. detour one two (reached-walk (under 3) b a e) (strong-walks (basinsOf N) (under 2) str u v mu mv)))
+
+  -- Hanging it as drawn loses nothing exactly if B leads to A without it; turned, exactly if A leads to B without it.
+  pub hang-drawn : strong (basinsOf N) (under 2) ≡ true → strong (basinsOf N) (under 0) ≡ reached (under 3) endB endA
+  hang-drawn str = one-way 0 endA endB drawn both in-a in-b str
+
+  pub hang-turned : strong (basinsOf N) (under 2) ≡ true → strong (basinsOf N) (under 1) ≡ reached (under 3) endA endB
+  hang-turned str = one-way 1 endB endA turned both′ in-b in-a str
+
+  module _ (small : (j : ℕ) → j < length (N .reaches) → getD ws j 3 ≤ 2) (str : strong (basinsOf N) (under 2) ≡ true)
+      (ba : reached (under 3) endB endA ≡ false) (ab : reached (under 3) endA endB ≡ false) where
+    -- Where both ways lose something, the reach alone crosses the side that B leads to without it.
+    pub stuck-alone : Alone N (reached (under 3) endB) i
+    stuck-alone = record { crossing = rw (ba, reached-self (under 3) endB); others = others }
+      where
+        level : (c d : ℕ) → List·Memᴰ (arc c d) (under 3) → reached (under 3) endB c ≡ reached (under 3) endB d
+        level = bridge (basinsOf N) (under 3) (under 2) endA endB both (strong-walks (basinsOf N) (under 2) str) (arcs-in-basins N ok (set ws i 3)) in-a in-b ba ab
+        others : (j : ℕ) → j < length (N .reaches) → j ≢ i → reached (under 3) endB ((reachAt N j) .a) ≡ reached (under 3) endB ((reachAt N j) .b)
+        others j l n =
+            let w : getD (set ws i 3) j 3 ≤ 2 = rw (getD-set-other ws i j 3 3 n) (small j l) in
+            ⊎-elim
+            (λ m. level _ _ (arcs-has (N .reaches) (set ws i 3) j _ l m))
+            (λ m. sym (level _ _ (arcs-has (N .reaches) (set ws i 3) j _ l m)))
+            (some-arc (getD (set ws i 3) j 3) ((reachAt N j) .a) ((reachAt N j) .b) w)
+
+    -- The other side is what A leads to.
+    pub stuck-other : (v : ℕ) → List·Memᴰ v (basinsOf N) → reached (under 3) endA v ≡ not (reached (under 3) endB v)
+    stuck-other = other-side (basinsOf N) (under 3) (under 2) endA endB both (strong-walks (basinsOf N) (under 2) str) (arcs-in-basins N ok (set ws i 3)) in-a in-b ba ab
+
+    pub stuck-lone : isGated ((reachAt N i) .kind) ≡ true → isLone N i ≡ true
+    stuck-lone g = lone-make N ok i below g (reached (under 3) endB) stuck-alone
