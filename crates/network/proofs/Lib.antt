@@ -9,5 +9,7 @@ pub mod Networks
 pub mod Lone
 pub mod Steps
 pub mod Theorem
+pub mod Replies
+pub mod Certificates
 pub mod Marks
 pub mod Order

@@ -87,10 +87,10 @@ pub alone-facts : (N : Network) (S : List ℕ) (i : ℕ) → i < length (N .reac
 unfolding crossesAlone
 alone-facts N S i l e =
     let at : (j : ℕ) → j < length (N .reaches) → crosses S (reachAt N j) ≡ eqb j i =
-        λ j k. beq-true (crosses S (reachAt N j)) (eqb j i) (every-at (λ j. Bool·beq (crosses S (reachAt N j)) (eqb j i)) e (range-has 0 (length (N .reaches)) (omega arith) (omega arith))) in
-    record
-    { crossing = at i l ∙ eq-eqb i i refl
-    ; others = λ j k n. beq-true (elem ((reachAt N j) .a) S) (elem ((reachAt N j) .b) S) (not-false _ (at j k ∙ ne-eqb j i n))
+    λ j k. beq-true (crosses S (reachAt N j)) (eqb j i) (every-at (λ j. Bool·beq (crosses S (reachAt N j)) (eqb j i)) e (range-has 0 (length (N .reaches)) (omega arith) (omega arith))) in
+    record {
+      crossing = at i l ∙ eq-eqb i i refl;
+      others = λ j k n. beq-true (elem ((reachAt N j) .a) S) (elem ((reachAt N j) .b) S) (not-false _ (at j k ∙ ne-eqb j i n));
     }
 
 pub alone-test : (N : Network) (S : List ℕ) (i : ℕ) → Alone N (λ b. elem b S) i → crossesAlone N S i ≡ true
@@ -150,20 +150,25 @@ cut-of N ok i l S f =
   where
     bs : List ℕ
     bs = basinsOf N
+
     ina : List·Memᴰ ((reachAt N i) .a) (basinsOf N)
     ina = basin-in N _ ((accepted N ok) .end-a i l)
+
     inb : List·Memᴰ ((reachAt N i) .b) (basinsOf N)
     inb = basin-in N _ ((accepted N ok) .end-b i l)
+
     inside : (x y : ℕ) → List·Memᴰ x (basinsOf N) → List·Memᴰ y (basinsOf N) → S x ≡ true → S y ≡ false → divides (basinsOf N) (keep S (basinsOf N)) ≡ true
     inside x y mx my px py =
         and-make
         (some-make (λ b. elem b (keep S (basinsOf N))) mx (elem-keep S mx ∙ px))
         (some-make (λ b. not (elem b (keep S (basinsOf N)))) my (not-passes (elem-keep S my ∙ py)))
+
     go : (x y : Bool) → S ((reachAt N i) .a) ≡ x → S ((reachAt N i) .b) ≡ y → not (Bool·beq x y) ≡ true → divides (basinsOf N) (keep S (basinsOf N)) ≡ true
     go true true ea eb e = absurd (false≢true e)
     go true false ea eb e = inside _ _ ina inb ea eb
     go false true ea eb e = inside _ _ inb ina eb ea
     go false false ea eb e = absurd (false≢true e)
+
     division : divides (basinsOf N) (keep S (basinsOf N)) ≡ true
     division = go (S ((reachAt N i) .a)) (S ((reachAt N i) .b)) refl refl (f .crossing)
 
@@ -200,14 +205,14 @@ cut-blocks N i S l g cut s e =
     let v = some-has (λ b. not (elem b S)) (basinsOf N) (and-right (some? (λ b. elem b S) (basinsOf N)) _ (cut .division)) in
     let str = plan-strong N s e in
     let alike : elem (u .0) S ≡ elem (v .0) S =
-        one-crossing (arcsUnder N s) (λ b. elem b S) (one .0) (one .1) (u .0) (v .0)
-        (λ c d m.
-        let src = arcs-in (N .reaches) (ways (N .reaches) s) (arc c d) m in
-        elim (ℕ-discrete (src .reach) i)
-        [ yes same ↦ inl (one .2 (arc c d) (subst (λ (j : ℕ). List·Memᴰ (arc c d) (passingAt (N .reaches) j (getD (ways (N .reaches) s) j 3))) same (src .passes)))
-        | no other ↦ inr (reach-alike (λ b. elem b S) (getD (ways (N .reaches) s) (src .reach) 3) _ _ c d (f .others (src .reach) (src .below) other) (src .passes))
-        ])
-        (str (u .0) (v .0) (u .1) (v .1)) (str (v .0) (u .0) (v .1) (u .1)) in
+    one-crossing (arcsUnder N s) (λ b. elem b S) (one .0) (one .1) (u .0) (v .0)
+    (λ c d m.
+    let src = arcs-in (N .reaches) (ways (N .reaches) s) (arc c d) m in
+    elim (ℕ-discrete (src .reach) i) [
+      | yes same ↦ inl (one .2 (arc c d) (subst (λ (j : ℕ). List·Memᴰ (arc c d) (passingAt (N .reaches) j (getD (ways (N .reaches) s) j 3))) same (src .passes)))
+      | no other ↦ inr (reach-alike (λ b. elem b S) (getD (ways (N .reaches) s) (src .reach) 3) _ _ c d (f .others (src .reach) (src .below) other) (src .passes))
+    ])
+    (str (u .0) (v .0) (u .1) (v .1)) (str (v .0) (u .0) (v .1) (u .1)) in
     clash (sym alike ∙ u .2) (not-true (elem (v .0) S) (v .2))
 
 pub lone-blocks : (N : Network) (i : ℕ) → isLone N i ≡ true → (s : List ℕ) → isPlan N s ≡ true → ⊥
@@ -229,6 +234,7 @@ cut-unique N ok h str i S S′ f f′ low b m =
             subst⁻¹ (λ (x : ℕ). Bool·beq (S ((reachAt N x) .a)) (S′ ((reachAt N x) .a)) ≡ Bool·beq (S ((reachAt N x) .b)) (S′ ((reachAt N x) .b))) e
             (both-differ (S ((reachAt N i) .a)) (S ((reachAt N i) .b)) (S′ ((reachAt N i) .a)) (S′ ((reachAt N i) .b)) (f .crossing) (f′ .crossing))
         go (no n) = rw (f .others j l n, f′ .others j l n)
+
     closed : (c d : ℕ) → List·Memᴰ (arc c d) (arcsUnder N h) → Bool·beq (S c) (S′ c) ≡ true → Bool·beq (S d) (S′ d) ≡ true
     closed c d m′ e = sym (arc-alike (λ x. Bool·beq (S x) (S′ x)) (N .reaches) (ways (N .reaches) h) alike c d m′) ∙ e
 
@@ -253,8 +259,10 @@ lone-side N ok i e = found (find test (sides (basinsOf N))) refl
   where
     test : List ℕ → Bool
     test S = not (elem (lowestBasin N) S) && (divides (basinsOf N) S && crossesAlone N S i)
+
     passing-test : (S : List ℕ) → Cut N i S → elem (lowestBasin N) S ≡ false → find test (sides (basinsOf N)) ≡ none → ⊥
     passing-test S c w n = clash (and-make (not-passes w) (and-make (c .division) (c .alone))) (find-none test n (c .side))
+
     some-side : find test (sides (basinsOf N)) ≡ none → ⊥
     some-side n =
         let c = lone-cut N i e in
@@ -265,16 +273,17 @@ lone-side N ok i e = found (find test (sides (basinsOf N))) refl
         (elem-keep (λ b. not (elem b (c .0))) (lowest-in N ok) ∙ not-fails y) n)
         (λ w. passing-test (c .0) (c .1) w n)
         (decide (elem (lowestBasin N) (c .0)))
+
     found : (o : Option (List ℕ)) → find test (sides (basinsOf N)) ≡ o → LoneSide N i (Option·getD o [])
     found none n = absurd (some-side n)
     found (some S) y =
         let k = find-some test (sides (basinsOf N)) y in
-        record
-        { cut =
-            record
-            { side = k .0
-            ; division = and-left (divides (basinsOf N) S) _ (and-right (not (elem (lowestBasin N) S)) _ (k .1))
-            ; alone = and-right (divides (basinsOf N) S) _ (and-right (not (elem (lowestBasin N) S)) _ (k .1))
-            }
-        ; without = not-true (elem (lowestBasin N) S) (and-left (not (elem (lowestBasin N) S)) _ (k .1))
+        record {
+          cut =
+              record {
+                side = k .0;
+                division = and-left (divides (basinsOf N) S) _ (and-right (not (elem (lowestBasin N) S)) _ (k .1));
+                alone = and-right (divides (basinsOf N) S) _ (and-right (not (elem (lowestBasin N) S)) _ (k .1));
+              };
+          without = not-true (elem (lowestBasin N) S) (and-left (not (elem (lowestBasin N) S)) _ (k .1));
         }

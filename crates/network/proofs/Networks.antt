@@ -49,12 +49,12 @@ accepted N e =
     let two = passed (goodLength N) TooManyReaches _ (one .1) in
     let three = passed (goodEnds N) EndOutOfRange none (two .1) in
     let ends : (i : ℕ) → i < length (N .reaches) → endsBelow (N .basins) (reachAt N i) ≡ true = λ i l. every-reach (endsBelow (N .basins)) (N .reaches) i (three .0) l in
-    record
-    { some-basin = leb-true 1 (N .basins) (and-left (leb 1 (N .basins)) _ (one .0))
-    ; few-basins = leb-true (N .basins) maxBasins (and-right (leb 1 (N .basins)) _ (one .0))
-    ; few-reaches = leb-true (length (N .reaches)) maxReaches (two .0)
-    ; end-a = λ i l. ltb-true ((reachAt N i) .a) (N .basins) (and-left (ltb ((reachAt N i) .a) (N .basins)) _ (ends i l))
-    ; end-b = λ i l. ltb-true ((reachAt N i) .b) (N .basins) (and-right (ltb ((reachAt N i) .a) (N .basins)) _ (ends i l))
+    record {
+      some-basin = leb-true 1 (N .basins) (and-left (leb 1 (N .basins)) _ (one .0));
+      few-basins = leb-true (N .basins) maxBasins (and-right (leb 1 (N .basins)) _ (one .0));
+      few-reaches = leb-true (length (N .reaches)) maxReaches (two .0);
+      end-a = λ i l. ltb-true ((reachAt N i) .a) (N .basins) (and-left (ltb ((reachAt N i) .a) (N .basins)) _ (ends i l));
+      end-b = λ i l. ltb-true ((reachAt N i) .b) (N .basins) (and-right (ltb ((reachAt N i) .a) (N .basins)) _ (ends i l));
     }
 
 -- ---- basins

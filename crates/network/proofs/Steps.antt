@@ -40,10 +40,10 @@ module _ (N : Network) (ok : Accepted N) (ws : List ℕ) (i : ℕ) (below : i < 
 
   one-at : (x a b : ℕ) → passingAt (N .reaches) i x ≡ arc a b ∷ [] → OneMore (under 3) (under x) a b
   one-at x a b e =
-      record
-      { has = split-own (N .reaches) ws i x below (omega (arith, full)) (arc a b) (subst⁻¹ (λ (l : List Arc). List·Memᴰ (arc a b) l) e (List·Memᴰ·head refl))
-      ; rest = split-rest (N .reaches) ws i x
-      ; only = λ y m. ⊎-elim (λ own. inl (⊎-elim (λ q. q) (λ n. absurd (List·Memᴰ·not-nil n)) (List·Memᴰ·cases-cons (subst (λ (l : List Arc). List·Memᴰ y l) e own)))) (λ other. inr other) (split-in (N .reaches) ws i x y m)
+      record {
+        has = split-own (N .reaches) ws i x below (omega (arith, full)) (arc a b) (subst⁻¹ (λ (l : List Arc). List·Memᴰ (arc a b) l) e (List·Memᴰ·head refl));
+        rest = split-rest (N .reaches) ws i x;
+        only = λ y m. ⊎-elim (λ own. inl (⊎-elim (λ q. q) (λ n. absurd (List·Memᴰ·not-nil n)) (List·Memᴰ·cases-cons (subst (λ (l : List Arc). List·Memᴰ y l) e own)))) (λ other. inr other) (split-in (N .reaches) ws i x y m);
       }
 
   drawn : OneMore (under 3) (under 0) endA endB
@@ -89,6 +89,7 @@ module _ (N : Network) (ok : Accepted N) (ws : List ℕ) (i : ℕ) (below : i < 
       where
         level : (c d : ℕ) → List·Memᴰ (arc c d) (under 3) → reached (under 3) endB c ≡ reached (under 3) endB d
         level = bridge (basinsOf N) (under 3) (under 2) endA endB both (strong-walks (basinsOf N) (under 2) str) (arcs-in-basins N ok (set ws i 3)) in-a in-b ba ab
+
         others : (j : ℕ) → j < length (N .reaches) → j ≢ i → reached (under 3) endB ((reachAt N j) .a) ≡ reached (under 3) endB ((reachAt N j) .b)
         others j l n =
             let w : getD (set ws i 3) j 3 ≤ 2 = rw (getD-set-other ws i j 3 3 n) (small j l) in

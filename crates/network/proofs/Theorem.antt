@@ -64,6 +64,7 @@ setting-hung N s e = record { size = size; small = λ k. at k (decLt k (gateCoun
   where
     size : length s ≡ gateCount N
     size = eqb-true (length s) (gateCount N) (and-left (eqb (length s) (gateCount N)) _ e)
+
     at : (k : ℕ) → Dec (k < gateCount N) → getD s k 2 ≤ 2
     at k (yes l) = omega (arith, setting-byte N s e k l)
     at k (no n) = rw (List·getD-eq-default s 2 {n = k} (omega (arith, size))) (omega arith)
@@ -187,6 +188,7 @@ module _ (N : Network) (ok : Accepted N) (bridgeless : (i : ℕ) → isLone N i 
           let kl : k < length h = omega (arith, hung .size) in
           let c = more (set h k x) (hang-set N h k x (omega arith) hung) (below-more (set h k x) k (λ j jl. rw (getD-set-other h k j x 2 (omega arith)) (below j jl)) (rw (getD-set-same h k x 2 kl) small)) str′ in
           record { setting = c .setting; is-plan = c .is-plan; looser = looser-undecided (c .setting) h k x free (c .looser) }
+
       go : Dec (getD h k 2 ≤ 1) → Completed N h
       go (yes small) = more h hung (below-more h k below small) str
       go (no free) =
@@ -218,6 +220,7 @@ plan-passable N s e = looser-strong N s (unhung N) (λ k. inl (unhung-2 N k)) (p
 -- "A plan exists exactly if the network is passable and has no lone reach."
 pub theorem : (N : Network) → Accepted N → ((s : List ℕ) × (isPlan N s ≡ true)) ↔ ((passable N ≡ true) × ((i : ℕ) → isLone N i ≡ false))
 unfolding passable
-theorem N ok =
-    (λ p. (plan-passable N (p .0) (p .1), λ i. fails (isLone N i) (λ e. lone-blocks N i e (p .0) (p .1))),
-    λ q. let c = complete N ok (λ i e. clash e (q .1 i)) (unhung N) (unhung-hung N) (q .0) in (c .setting, c .is-plan))
+theorem N ok = (
+  λ p. (plan-passable N (p .0) (p .1), λ i. fails (isLone N i) (λ e. lone-blocks N i e (p .0) (p .1))),
+  λ q. let c = complete N ok (λ i e. clash e (q .1 i)) (unhung N) (unhung-hung N) (q .0) in (c .setting, c .is-plan),
+)

@@ -1,0 +1,183 @@
+-- Demand 2: what a finding shows on the map. Nothing passes out of a shut-in side under any setting; a lone reach is the only one that crosses
+-- its side. Hence no plan in either case.
+-- Assumes nothing.
+use Prim.Native.Nat.{ℕ, zero, suc, _+_, _*_, _≤_, _<_}
+use native.Mathlib.Omega.{arith}
+use native.Mathlib.Decide.{decLt}
+use mathlib.Core.Path.{_≡_, refl, sym, ap, subst, subst⁻¹, _∙_}
+use mathlib.Core.Bool.{Bool, true, false, not, cond, Bool·beq}
+use mathlib.Core.Logic.{_⊎_, inl, inr, ⊎-elim, _≢_}
+use mathlib.Core.Option.{Option, none, some, Option·getD}
+use mathlib.Core.List.{List, [], _∷_, List·Memᴰ, List·Memᴰ·head, List·Memᴰ·tail}
+use lib.ListN.{length}
+use borrow.Author.Tests.{not-false}
+use Rattle.network.specs.Lists.{range, every, find, keep, elem}
+use Rattle.network.specs.Networks.{Network, basinsOf, lowestBasin, Accepted}
+use Rattle.network.specs.Settings.{isGated, isSetting}
+use Rattle.network.specs.Hangings.{arc, arcsUnder, reached, unhung}
+use Rattle.network.specs.Plans.{reachesAll, strong, strongUnder, isPlan, passable}
+use Rattle.network.specs.Lone.{reachAt, isLone, lowestLone}
+use Rattle.network.specs.Marks.{markBytes, marksOf, marked, onesIn}
+use Rattle.network.specs.Replies.{Outcome, shutIn, lone, shutInBasin, shutInSide, loneSide, shutInFinding, loneFinding}
+use Rattle.network.proofs.Bools.{decide, fails, clash, not-true, not-passes}
+use Rattle.network.proofs.Finds.{every-fails, find-some, find-none, find-first, keep-in, elem-in, elem-has, elem-keep}
+use Rattle.network.proofs.Marks.{marked-is, unmarked-past, marks-same, count-is}
+use Rattle.network.proofs.Cuts.{reached-on, reached-self}
+use Rattle.network.proofs.Ways.{looser-within}
+use Rattle.network.proofs.Networks.{accepted, basin-in, basin-below, lowest-is-0, arcs-in-basins}
+use Rattle.network.proofs.Lone.{Alone, Cut, LoneSide, alone-facts, alone-same, side-basins, cut-unique, cut-blocks, lone-below, lone-gated, lone-side}
+use Rattle.network.proofs.Theorem.{plan-passable, unhung-2}
+use Rattle.network.proofs.Replies.{lowest-is-lone}
+
+-- ---- marks of a set of basins
+
+keep-same : (p q : ℕ → Bool) (xs : List ℕ) → ((x : ℕ) → List·Memᴰ x xs → p x ≡ q x) → keep p xs ≡ keep q xs
+keep-same p q [] f = refl
+keep-same p q (x ∷ xs) f = rw (f x (List·Memᴰ·head refl), keep-same p q xs (λ y m. f y (List·Memᴰ·tail m)))
+
+module _ (N : Network) (ok : Accepted N) (S : List ℕ) (basins : (b : ℕ) → List·Memᴰ b S → List·Memᴰ b (basinsOf N)) where
+  room : (b : ℕ) → List·Memᴰ b (basinsOf N) → b < 8 * markBytes
+  room b m = omega (arith, basin-below N b m, (accepted N ok) .few-basins)
+
+  -- the marks of S are the basins of S
+  pub marked-in : (b : ℕ) → List·Memᴰ b (basinsOf N) → marked (marksOf S) b ≡ elem b S
+  marked-in b m = marked-is S b (room b m)
+
+  -- only basins are marked
+  pub marked-basin : (b : ℕ) → marked (marksOf S) b ≡ true → List·Memᴰ b (basinsOf N)
+  marked-basin b e = go (decLt b (8 * markBytes))
+    where
+      go : Dec (b < 8 * markBytes) → List·Memᴰ b (basinsOf N)
+      go (yes l) = basins b (elem-in b S (sym (marked-is S b l) ∙ e))
+      go (no n) = clash e (unmarked-past S b (omega arith))
+
+  -- the count is the number of marked basins
+  pub marked-count : onesIn (marksOf S) ≡ length (keep (marked (marksOf S)) (basinsOf N))
+  marked-count =
+      ap onesIn (marks-same S (keep (λ b. elem b S) (basinsOf N)) same)
+      ∙ count-is (λ b. elem b S) (N .basins) (omega (arith, (accepted N ok) .few-basins))
+      ∙ ap (λ (l : List ℕ). length l) (keep-same (λ b. elem b S) (marked (marksOf S)) (basinsOf N) (λ b m. sym (marked-in b m)))
+    where
+      same : (b : ℕ) → b < 8 * markBytes → elem b S ≡ elem b (keep (λ b. elem b S) (basinsOf N))
+      same b l = go (decLt b (N .basins))
+        where
+          go : Dec (b < N .basins) → elem b S ≡ elem b (keep (λ b. elem b S) (basinsOf N))
+          go (yes below) = sym (elem-keep (λ b. elem b S) (basin-in N b below))
+          go (no n) =
+              fails (elem b S) (λ e. n (basin-below N b (basins b (elem-in b S e))))
+              ∙ sym (fails (elem b (keep (λ b. elem b S) (basinsOf N))) (λ e. n (basin-below N b ((keep-in (λ b. elem b S) (basinsOf N) (elem-in b (keep (λ b. elem b S) (basinsOf N)) e)) .0))))
+
+-- ---- shut in
+
+-- What the marks m and the count c of finding 9 show.
+pub record ShutInShown (N : Network) (m : List ℕ) (c : ℕ) : Type 0 where
+  -- neither empty nor everything
+  pub inside : (b : ℕ) × (b < N .basins) × (marked m b ≡ true)
+  pub outside : (b : ℕ) × (b < N .basins) × (marked m b ≡ false)
+  pub only-basins : (b : ℕ) → marked m b ≡ true → b < N .basins
+  -- no reach passes out of it under any setting
+  pub closed : (s : List ℕ) (u v : ℕ) → isSetting N s ≡ true → List·Memᴰ (arc u v) (arcsUnder N s) → marked m u ≡ true → marked m v ≡ true
+  pub count : c ≡ length (keep (marked m) (basinsOf N))
+  pub no-plan : (s : List ℕ) → isPlan N s ≡ true → ⊥
+
+-- the lowest-numbered basin that doesn't reach all
+pub record ShutInAt (N : Network) (u : ℕ) : Type 0 where
+  pub is-it : shutInBasin N ≡ some u
+  pub basin : List·Memᴰ u (basinsOf N)
+  pub misses : reachesAll (basinsOf N) (arcsUnder N (unhung N)) u ≡ false
+  pub lower-reach : (v : ℕ) → v < u → reachesAll (basinsOf N) (arcsUnder N (unhung N)) v ≡ true
+
+pub shut-in-at : (N : Network) → passable N ≡ false → (u : ℕ) × ShutInAt N u
+unfolding passable strongUnder shutInBasin
+shut-in-at N n = go (shutInBasin N) refl
+  where
+    test : ℕ → Bool
+    test u = not (reachesAll (basinsOf N) (arcsUnder N (unhung N)) u)
+
+    go : (o : Option ℕ) → shutInBasin N ≡ o → (u : ℕ) × ShutInAt N u
+    go none e =
+        let k = every-fails (reachesAll (basinsOf N) (arcsUnder N (unhung N))) (basinsOf N) n in
+        clash (not-passes (k .2)) (find-none test e (k .1))
+    go (some u) e =
+        let k = find-some test (basinsOf N) e in (
+          u,
+          record {
+            is-it = e;
+            basin = k .0;
+            misses = not-true _ (k .1);
+            lower-reach = λ v l. not-false _ (find-first test 0 (N .basins) e v (omega arith) l);
+          },
+        )
+
+pub shut-in-shown : (N : Network) → Accepted N → passable N ≡ false → (m : List ℕ) × (c : ℕ) × (shutInFinding N ≡ shutIn m c) × ShutInShown N m c
+unfolding shutInFinding shutInSide
+shut-in-shown N ok n =
+    let at = shut-in-at N n in
+    let u = at .0 in
+    let A = arcsUnder N (unhung N) in
+    let side : shutInSide N ≡ keep (reached A u) (basinsOf N) = ap (λ (o : Option ℕ). keep (reached A (Option·getD o 0)) (basinsOf N)) (at .1 .is-it) in
+    let S = keep (reached A u) (basinsOf N) in
+    let basins : (b : ℕ) → List·Memᴰ b S → List·Memᴰ b (basinsOf N) = λ b m. (keep-in (reached A u) (basinsOf N) m) .0 in
+    let mark : (b : ℕ) → List·Memᴰ b (basinsOf N) → marked (marksOf S) b ≡ reached A u b = λ b m. marked-in N ok S basins b m ∙ elem-keep (reached A u) m in
+    let miss = every-fails (reached A u) (basinsOf N) (at .1 .misses) in (
+      marksOf S,
+      onesIn (marksOf S),
+      ap (λ (l : List ℕ). shutIn (marksOf l) (onesIn (marksOf l))) side,
+      record {
+        inside = (u, basin-below N u (at .1 .basin), mark u (at .1 .basin) ∙ reached-self A u);
+        outside = (miss .0, basin-below N (miss .0) (miss .1), mark (miss .0) (miss .1) ∙ miss .2);
+        only-basins = λ b e. basin-below N b (marked-basin N ok S basins b e);
+        closed = λ s c d hs m e.
+            let m′ = looser-within (N .reaches) s (unhung N) (λ k. inl (unhung-2 N k)) (arc c d) m in
+            let ends = arcs-in-basins N ok _ c d m′ in
+            mark d (ends .1) ∙ reached-on A u c d m′ (sym (mark c (ends .0)) ∙ e);
+        count = marked-count N ok S basins;
+        no-plan = λ s e. clash (plan-passable N s e) n;
+      },
+    )
+
+-- ---- lone reach
+
+-- What the reach i, the marks m and the count c of finding 10 show.
+pub record LoneShown (N : Network) (i : ℕ) (m : List ℕ) (c : ℕ) : Type 0 where
+  pub below : i < length (N .reaches)
+  pub gated : isGated ((reachAt N i) .kind) ≡ true
+  -- it crosses the marked side, and no other reach does
+  pub crossing : Alone N (marked m) i
+  -- the side is without basin 0
+  pub without-0 : marked m 0 ≡ false
+  pub only-basins : (b : ℕ) → marked m b ≡ true → b < N .basins
+  -- the division is the only one that it crosses alone
+  pub only-side : (S : ℕ → Bool) → Alone N S i → S 0 ≡ false → (b : ℕ) → b < N .basins → S b ≡ marked m b
+  -- no reach with a lower number is lone
+  pub lowest : (j : ℕ) → j < i → isLone N j ≡ false
+  pub count : c ≡ length (keep (marked m) (basinsOf N))
+  pub no-plan : (s : List ℕ) → isPlan N s ≡ true → ⊥
+
+pub lone-shown : (N : Network) → Accepted N → passable N ≡ true → (i : ℕ) → lowestLone N ≡ some i → (m : List ℕ) × (c : ℕ) × (loneFinding N i ≡ lone i m c) × LoneShown N i m c
+unfolding loneFinding passable lowestLone
+lone-shown N ok pass i low =
+    let is-lone = lowest-is-lone N low in
+    let l = lone-below N i is-lone in
+    let S = loneSide N i in
+    let side = lone-side N ok i is-lone in
+    let basins : (b : ℕ) → List·Memᴰ b S → List·Memᴰ b (basinsOf N) = side-basins (basinsOf N) S (side .cut .side) in
+    let alone : Alone N (marked (marksOf S)) i = alone-same N ok (λ b. elem b S) (marked (marksOf S)) i l (marked-in N ok S basins) (alone-facts N S i l (side .cut .alone)) in
+    let zero-out : marked (marksOf S) 0 ≡ false = marked-is S 0 (omega arith) ∙ subst (λ (b : ℕ). elem b S ≡ false) (lowest-is-0 N) (side .without) in (
+      marksOf S,
+      onesIn (marksOf S),
+      refl,
+      record {
+        below = l;
+        gated = lone-gated N i is-lone;
+        crossing = alone;
+        without-0 = zero-out;
+        only-basins = λ b e. basin-below N b (marked-basin N ok S basins b e);
+        only-side = λ S′ f e b bl.
+            cut-unique N ok (unhung N) pass i S′ (marked (marksOf S)) f alone
+            (subst⁻¹ (λ (x : ℕ). S′ x ≡ marked (marksOf S) x) (lowest-is-0 N) (e ∙ sym zero-out)) b (basin-in N b bl);
+        lowest = λ j k. find-first (isLone N) 0 (length (N .reaches)) low j (omega arith) k;
+        count = marked-count N ok S basins;
+        no-plan = cut-blocks N i S l (lone-gated N i is-lone) (side .cut);
+      },
+    )

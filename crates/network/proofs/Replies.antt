@@ -1,0 +1,183 @@
+-- The replies of first and next: equality of replies, which reply is given when, and demand 3 over the definition of next.
+-- Assumes nothing.
+use Prim.Native.Nat.{ℕ, zero, suc, _+_, _≤_, _<_}
+use native.Mathlib.Omega.{arith}
+use mathlib.Core.Path.{_≡_, refl, sym, ap, subst, subst⁻¹, _∙_}
+use mathlib.Core.Bool.{Bool, true, false, cond, _&&_}
+use mathlib.Core.Logic.{_⊎_, inl, inr, ⊎-elim, _↔_}
+use mathlib.Core.Option.{Option, none, some}
+use mathlib.Core.List.{List, [], _∷_, List·Memᴰ}
+use lib.ListN.{length}
+use Rattle.network.specs.declared.Refusal.{Refusal}
+use Rattle.network.specs.declared.Refusal.the-variants.{BasinCount, TooManyReaches, EndOutOfRange, Truncated, UnknownKind, TrailingBytes, ShortBuffer, BadSetting, LastPlan}
+use Rattle.network.specs.Lists.{range}
+use Rattle.network.specs.Networks.{Network, Accepted}
+use Rattle.network.specs.Settings.{isSetting, before}
+use Rattle.network.specs.Plans.{isPlan, passable, firstPlan, nextPlan}
+use Rattle.network.specs.Lone.{isLone, lowestLone}
+use Rattle.network.specs.Replies.{Outcome, plan, shutIn, lone, refused, refusalNumber, number, planIn, reachIn, marksIn, countIn, SameReply, shutInFinding, loneFinding, chosen, orLone, answer, firstAnswer, nextAnswer}
+use Rattle.network.proofs.Bools.{and-left, and-right, decide, fails, clash}
+use Rattle.network.proofs.Finds.{find-some, find-none, range-has}
+use Rattle.network.proofs.Order.{first-is-plan, first-none, next-none, next-is-plan, next-is-later, next-same}
+use Rattle.network.proofs.Lone.{lone-below, lone-blocks}
+use Rattle.network.proofs.Theorem.{theorem, plan-passable}
+
+-- ---- equality of replies
+
+-- the reply with a number and what it holds
+decode : ℕ → List ℕ → ℕ → List ℕ → ℕ → Outcome
+decode zero p i m c = plan p
+decode (suc zero) p i m c = refused BasinCount
+decode (suc (suc zero)) p i m c = refused TooManyReaches
+decode (suc (suc (suc zero))) p i m c = refused EndOutOfRange
+decode (suc (suc (suc (suc zero)))) p i m c = refused Truncated
+decode (suc (suc (suc (suc (suc zero))))) p i m c = refused UnknownKind
+decode (suc (suc (suc (suc (suc (suc zero)))))) p i m c = refused TrailingBytes
+decode (suc (suc (suc (suc (suc (suc (suc zero))))))) p i m c = refused ShortBuffer
+decode (suc (suc (suc (suc (suc (suc (suc (suc zero)))))))) p i m c = refused BadSetting
+decode (suc (suc (suc (suc (suc (suc (suc (suc (suc zero))))))))) p i m c = shutIn m c
+decode (suc (suc (suc (suc (suc (suc (suc (suc (suc (suc zero)))))))))) p i m c = lone i m c
+decode (suc (suc (suc (suc (suc (suc (suc (suc (suc (suc (suc n))))))))))) p i m c = refused LastPlan
+
+decode-refusal : (r : Refusal) → decode (refusalNumber r) [] 0 [] 0 ≡ refused r
+unfolding decode
+decode-refusal BasinCount = refl
+decode-refusal TooManyReaches = refl
+decode-refusal EndOutOfRange = refl
+decode-refusal Truncated = refl
+decode-refusal UnknownKind = refl
+decode-refusal TrailingBytes = refl
+decode-refusal ShortBuffer = refl
+decode-refusal BadSetting = refl
+decode-refusal LastPlan = refl
+
+decode-back : (o : Outcome) → decode (number o) (planIn o) (reachIn o) (marksIn o) (countIn o) ≡ o
+unfolding decode
+decode-back (plan s) = refl
+decode-back (shutIn m c) = refl
+decode-back (lone i m c) = refl
+decode-back (refused r) = decode-refusal r
+
+-- "Two replies are equal if ..": exactly if they are one and the same.
+pub same-reply : (r s : Outcome) → SameReply r s ↔ (r ≡ s)
+same-reply r s = (
+  λ e.
+      sym (decode-back r) ∙ rw (e .same-number, e .same-plan, e .same-reach, e .same-marks, e .same-count) (decode-back s),
+  λ e. record { same-number = ap number e; same-plan = ap planIn e; same-reach = ap reachIn e; same-marks = ap marksIn e; same-count = ap countIn e },
+)
+
+-- ---- which reply is given
+
+plan-inj : {s t : List ℕ} → plan s ≡ plan t → s ≡ t
+plan-inj e = cc
+
+-- two plans asked for give equal replies exactly if they are the same
+chosen-inj : (p q : Option (List ℕ)) → chosen p ≡ chosen q → p ≡ q
+chosen-inj (some s) (some t) e = ap some (plan-inj e)
+chosen-inj (some s) none e = cc
+chosen-inj none (some t) e = cc
+chosen-inj none none e = refl
+
+-- a lowest lone reach is lone, and if there is none no reach is
+pub lowest-is-lone : (N : Network) {i : ℕ} → lowestLone N ≡ some i → isLone N i ≡ true
+unfolding lowestLone
+lowest-is-lone N e = (find-some (isLone N) (range 0 (length (N .reaches))) e) .1
+
+pub no-lowest : (N : Network) → lowestLone N ≡ none → (i : ℕ) → isLone N i ≡ false
+unfolding lowestLone
+no-lowest N e i = fails (isLone N i) (λ y. clash y (find-none (isLone N) e (range-has 0 (length (N .reaches)) (omega arith) (omega (arith, lone-below N i y)))))
+
+-- An accepted network has a plan and gets the plan that is asked for, or has none and gets its finding, whatever is asked for.
+pub data Verdict (N : Network) : Type 0 where
+  plans : (s : List ℕ) → isPlan N s ≡ true → ((p : Option (List ℕ)) → answer N p ≡ chosen p) → Verdict N
+  no-way : passable N ≡ false → ((s : List ℕ) → isPlan N s ≡ true → ⊥) → ((p : Option (List ℕ)) → answer N p ≡ shutInFinding N) → Verdict N
+  one-lone : (i : ℕ) → lowestLone N ≡ some i → passable N ≡ true → ((s : List ℕ) → isPlan N s ≡ true → ⊥) → ((p : Option (List ℕ)) → answer N p ≡ loneFinding N i) → Verdict N
+
+pub verdict : (N : Network) → Accepted N → Verdict N
+unfolding answer
+verdict N ok = go (passable N) refl (lowestLone N) refl
+  where
+    at : (b : Bool) (o : Option ℕ) → passable N ≡ b → lowestLone N ≡ o → (p : Option (List ℕ)) → answer N p ≡ cond b (orLone N o p) (shutInFinding N)
+    at b o e f p = ap (λ (x : Bool). cond x (orLone N (lowestLone N) p) (shutInFinding N)) e ∙ ap (λ (x : Option ℕ). cond b (orLone N x p) (shutInFinding N)) f
+
+    go : (b : Bool) → passable N ≡ b → (o : Option ℕ) → lowestLone N ≡ o → Verdict N
+    go false n o f = no-way n (λ s e. clash (plan-passable N s e) n) (at false o n f)
+    go true y (some i) f = one-lone i f y (λ s e. lone-blocks N i (lowest-is-lone N f) s e) (at true (some i) y f)
+    go true y none f = let p = (theorem N ok) .1 (y, no-lowest N f) in plans (p .0) (p .1) (at true none y f)
+
+-- a finding is no plan and no last plan
+finding-not-chosen : (N : Network) (p : Option (List ℕ)) → shutInFinding N ≡ chosen p → ⊥
+unfolding shutInFinding
+finding-not-chosen N (some s) e = let z : _≡_ {A = ℕ} 0 1 = cc in omega arith
+finding-not-chosen N none e = let z : _≡_ {A = ℕ} 0 1 = cc in omega arith
+
+lone-not-chosen : (N : Network) (i : ℕ) (p : Option (List ℕ)) → loneFinding N i ≡ chosen p → ⊥
+unfolding loneFinding
+lone-not-chosen N i (some s) e = let z : _≡_ {A = ℕ} 0 1 = cc in omega arith
+lone-not-chosen N i none e = let z : _≡_ {A = ℕ} 0 1 = cc in omega arith
+
+-- What an accepted network with a plan is given; and what is given, plan or last plan, only such a network gets.
+pub given-iff : (N : Network) → Accepted N → (p q : Option (List ℕ)) → (answer N p ≡ chosen q) ↔ (((s : List ℕ) × (isPlan N s ≡ true)) × (p ≡ q))
+given-iff N ok p q = go (verdict N ok)
+  where
+    go : Verdict N → (answer N p ≡ chosen q) ↔ (((s : List ℕ) × (isPlan N s ≡ true)) × (p ≡ q))
+    go (plans s e f) = (λ a. ((s, e), chosen-inj p q (sym (f p) ∙ a)), λ k. f p ∙ ap chosen (k .1))
+    go (no-way n none-is f) = (λ a. absurd (finding-not-chosen N q (sym (f p) ∙ a)), λ k. absurd (none-is (k .0 .0) (k .0 .1)))
+    go (one-lone i e y none-is f) = (λ a. absurd (lone-not-chosen N i q (sym (f p) ∙ a)), λ k. absurd (none-is (k .0 .0) (k .0 .1)))
+
+module _ (N : Network) (ok : Accepted N) where
+  -- First gives a plan exactly if it is the first plan, and gives one wherever there is one. It never says last plan.
+  pub first-given : (s : List ℕ) → (firstAnswer N ≡ plan s) ↔ (firstPlan N ≡ some s)
+  unfolding firstAnswer
+  first-given s = (
+    λ a. ((given-iff N ok (firstPlan N) (some s)) .0 a) .1,
+    λ e. (given-iff N ok (firstPlan N) (some s)) .1 ((s, first-is-plan N e), e),
+  )
+
+  pub first-not-last : firstAnswer N ≡ refused LastPlan → ⊥
+  unfolding firstAnswer
+  first-not-last a = let k = (given-iff N ok (firstPlan N) none) .0 a in first-none N (k .1) (k .0 .0) (k .0 .1)
+
+  module _ (s : List ℕ) where
+    -- Next gives a plan exactly if it is the next plan of the setting.
+    pub next-given : (p : List ℕ) → (nextAnswer N s ≡ plan p) ↔ (nextPlan N s ≡ some p)
+    unfolding nextAnswer
+    next-given p = (
+      λ a. ((given-iff N ok (nextPlan N s) (some p)) .0 a) .1,
+      λ e. (given-iff N ok (nextPlan N s) (some p)) .1 ((p, next-is-plan N s e), e),
+    )
+
+    -- "Last plan" is said exactly where a plan exists and none is later.
+    pub last-plan : (nextAnswer N s ≡ refused LastPlan) ↔ (((p : List ℕ) × (isPlan N p ≡ true)) × ((q : List ℕ) → isPlan N q ≡ true → before s q ≡ true → ⊥))
+    unfolding nextAnswer
+    last-plan = (
+      λ a. let k = (given-iff N ok (nextPlan N s) none) .0 a in (k .0, next-none N s (k .1)),
+      λ k. (given-iff N ok (nextPlan N s) none) .1 (k .0, none-later (nextPlan N s) refl (k .1)),
+    )
+      where
+        none-later : (o : Option (List ℕ)) → nextPlan N s ≡ o → ((q : List ℕ) → isPlan N q ≡ true → before s q ≡ true → ⊥) → nextPlan N s ≡ none
+        none-later none e f = e
+        none-later (some q) e f = absurd (f q (next-is-plan N s e) (next-is-later N s e))
+
+    -- A plan is given wherever one is later.
+    pub given-if-later : (q : List ℕ) → isPlan N q ≡ true → before s q ≡ true → (p : List ℕ) × (nextAnswer N s ≡ plan p)
+    given-if-later q e l = go (nextPlan N s) refl
+      where
+        go : (o : Option (List ℕ)) → nextPlan N s ≡ o → (p : List ℕ) × (nextAnswer N s ≡ plan p)
+        go none n = absurd (next-none N s n q e l)
+        go (some p) y = (p, (next-given p) .1 y)
+
+  -- Demand 3: of two settings, the first not after the second, next gives equal replies exactly when no plan comes after the first up to and
+  -- including the second.
+  pub demand-3 : (s t : List ℕ) → isSetting N s ≡ true → isSetting N t ≡ true → before t s ≡ false →
+      (nextAnswer N s ≡ nextAnswer N t) ↔ ((p : List ℕ) → isPlan N p ≡ true → before s p ≡ true → before t p ≡ false → ⊥)
+  unfolding nextAnswer
+  demand-3 s t hs ht order = go (verdict N ok)
+    where
+      same : (nextPlan N s ≡ nextPlan N t) ↔ ((p : List ℕ) → isPlan N p ≡ true → before s p ≡ true → before t p ≡ false → ⊥)
+      same = next-same N s t hs ht order
+
+      go : Verdict N → (answer N (nextPlan N s) ≡ answer N (nextPlan N t)) ↔ ((p : List ℕ) → isPlan N p ≡ true → before s p ≡ true → before t p ≡ false → ⊥)
+      go (plans q e f) = (λ a. same .0 (chosen-inj _ _ (sym (f (nextPlan N s)) ∙ a ∙ f (nextPlan N t))), λ h. ap (answer N) (same .1 h))
+      go (no-way n none-is f) = (λ a p e l m. none-is p e, λ h. f (nextPlan N s) ∙ sym (f (nextPlan N t)))
+      go (one-lone i e y none-is f) = (λ a p e′ l m. none-is p e′, λ h. f (nextPlan N s) ∙ sym (f (nextPlan N t)))
