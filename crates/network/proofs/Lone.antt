@@ -16,13 +16,13 @@ use Rattle.network.specs.Lists.{range, every, some?, find, keep, elem}
 use Rattle.network.specs.Networks.{Network, basinsOf, lowestBasin, Accepted}
 use Rattle.network.specs.Settings.{isGated, gatesFrom, gateCount, isSetting}
 use Rattle.network.specs.Hangings.{Arc, arc, Walk, passing, arcs, ways, arcsUnder}
-use Rattle.network.specs.Plans.{strongUnder, isPlan, passable}
+use Rattle.network.specs.Plans.{strong, strongUnder, isPlan}
 use Rattle.network.specs.Lone.{sides, divides, crosses, noReach, reachAt, crossesAlone, isLone}
 use Rattle.network.specs.Replies.{loneSide}
 use Rattle.network.proofs.Bools.{and-left, and-right, and-make, decide, fails, passes, clash, not-passes, not-fails, not-true}
 use Rattle.network.proofs.Finds.{every-at, every-make, some-make, some-has, find-some, find-none, range-has, range-in, keep-in, elem-in, elem-has, elem-keep}
 use Rattle.network.proofs.Walks.{walk-inside}
-use Rattle.network.proofs.Cuts.{Strong, strong-walks, one-crossing}
+use Rattle.network.proofs.Cuts.{strong-walks, one-crossing}
 use Rattle.network.proofs.Ways.{Source, passingAt, arcs-in, gate-small}
 use Rattle.network.proofs.Networks.{accepted, basin-in, basin-below, lowest-in, reach-alike, arc-alike}
 
@@ -186,34 +186,39 @@ one-arc zero a b l = (a, b, λ y m. ⊎-elim (λ e. e) (λ n. absurd (List·Mem�
 one-arc (suc zero) a b l = (b, a, λ y m. ⊎-elim (λ e. e) (λ n. absurd (List·Memᴰ·not-nil n)) (List·Memᴰ·cases-cons m))
 one-arc (suc (suc x)) a b l = absurd (omega arith)
 
-pub plan-strong : (N : Network) (s : List ℕ) → isPlan N s ≡ true → Strong (basinsOf N) (arcsUnder N s)
-unfolding isPlan strongUnder
-plan-strong N s e = strong-walks (basinsOf N) (arcsUnder N s) (and-right (isSetting N s) _ e)
-
-setting-small : (N : Network) (s : List ℕ) (i : ℕ) → isPlan N s ≡ true → i < length (N .reaches) → isGated ((reachAt N i) .kind) ≡ true → getD (ways (N .reaches) s) i 3 ≤ 1
+pub plan-gate-small : (N : Network) (s : List ℕ) (i : ℕ) → isPlan N s ≡ true → i < length (N .reaches) → isGated ((reachAt N i) .kind) ≡ true → getD (ways (N .reaches) s) i 3 ≤ 1
 unfolding isPlan isSetting
-setting-small N s i e l g =
+plan-gate-small N s i e l g =
     let set : isSetting N s ≡ true = and-left (isSetting N s) _ e in
     gate-small (N .reaches) s i (eqb-true (length s) (gateCount N) (and-left (eqb (length s) (gateCount N)) _ set)) (and-right (eqb (length s) (gateCount N)) _ set) l g
 
--- no setting is a plan if a gated reach alone crosses a division
-pub cut-blocks : (N : Network) (i : ℕ) (S : List ℕ) → i < length (N .reaches) → isGated ((reachAt N i) .kind) ≡ true → Cut N i S → (s : List ℕ) → isPlan N s ≡ true → ⊥
-cut-blocks N i S l g cut s e =
+-- If a reach alone crosses a division and passes one way only, not everything reaches everything.
+pub cut-parts : (N : Network) (i : ℕ) (S : List ℕ) → i < length (N .reaches) → Cut N i S → (ws : List ℕ) → getD ws i 3 ≤ 1 → strong (basinsOf N) (arcs (N .reaches) ws) ≡ true → ⊥
+cut-parts N i S l cut ws small e =
     let f = alone-facts N S i l (cut .alone) in
-    let one = one-arc (getD (ways (N .reaches) s) i 3) ((reachAt N i) .a) ((reachAt N i) .b) (setting-small N s i e l g) in
+    let one = one-arc (getD ws i 3) ((reachAt N i) .a) ((reachAt N i) .b) small in
     let u = some-has (λ b. elem b S) (basinsOf N) (and-left (some? (λ b. elem b S) (basinsOf N)) _ (cut .division)) in
     let v = some-has (λ b. not (elem b S)) (basinsOf N) (and-right (some? (λ b. elem b S) (basinsOf N)) _ (cut .division)) in
-    let str = plan-strong N s e in
+    let str = strong-walks (basinsOf N) (arcs (N .reaches) ws) e in
     let alike : elem (u .0) S ≡ elem (v .0) S =
-    one-crossing (arcsUnder N s) (λ b. elem b S) (one .0) (one .1) (u .0) (v .0)
-    (λ c d m.
-    let src = arcs-in (N .reaches) (ways (N .reaches) s) (arc c d) m in
-    elim (ℕ-discrete (src .reach) i) [
-      | yes same ↦ inl (one .2 (arc c d) (subst (λ (j : ℕ). List·Memᴰ (arc c d) (passingAt (N .reaches) j (getD (ways (N .reaches) s) j 3))) same (src .passes)))
-      | no other ↦ inr (reach-alike (λ b. elem b S) (getD (ways (N .reaches) s) (src .reach) 3) _ _ c d (f .others (src .reach) (src .below) other) (src .passes))
-    ])
-    (str (u .0) (v .0) (u .1) (v .1)) (str (v .0) (u .0) (v .1) (u .1)) in
+        one-crossing (arcs (N .reaches) ws) (λ b. elem b S) (one .0) (one .1) (u .0) (v .0)
+        (λ c d m.
+        let src = arcs-in (N .reaches) ws (arc c d) m in
+        elim (ℕ-discrete (src .reach) i)
+        [ yes same ↦ inl (one .2 (arc c d) (subst (λ (j : ℕ). List·Memᴰ (arc c d) (passingAt (N .reaches) j (getD ws j 3))) same (src .passes)))
+        | no other ↦ inr (reach-alike (λ b. elem b S) (getD ws (src .reach) 3) _ _ c d (f .others (src .reach) (src .below) other) (src .passes))
+        ])
+        (str (u .0) (v .0) (u .1) (v .1)) (str (v .0) (u .0) (v .1) (u .1)) in
     clash (sym alike ∙ u .2) (not-true (elem (v .0) S) (v .2))
+
+-- so no setting is a plan if a gated reach does
+pub cut-blocks : (N : Network) (i : ℕ) (S : List ℕ) → i < length (N .reaches) → isGated ((reachAt N i) .kind) ≡ true → Cut N i S → (s : List ℕ) → isPlan N s ≡ true → ⊥
+unfolding isPlan strongUnder
+cut-blocks N i S l g cut s e = cut-parts N i S l cut (ways (N .reaches) s) (plan-gate-small N s i e l g) (and-right (isSetting N s) _ e)
+
+-- a lone reach that is hung, whatever else is
+pub lone-parts : (N : Network) (i : ℕ) → isLone N i ≡ true → (ws : List ℕ) → getD ws i 3 ≤ 1 → strong (basinsOf N) (arcs (N .reaches) ws) ≡ true → ⊥
+lone-parts N i e = let c = lone-cut N i e in cut-parts N i (c .0) (lone-below N i e) (c .1)
 
 pub lone-blocks : (N : Network) (i : ℕ) → isLone N i ≡ true → (s : List ℕ) → isPlan N s ≡ true → ⊥
 lone-blocks N i e = let c = lone-cut N i e in cut-blocks N i (c .0) (lone-below N i e) (lone-gated N i e) (c .1)

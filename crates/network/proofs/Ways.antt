@@ -231,7 +231,7 @@ gate-small t s i e all l y =
 abbrev pub Looser : List ℕ → List ℕ → Type 0
 Looser h h′ = (k : ℕ) → (getD h′ k 2 ≡ 2) ⊎ (getD h′ k 2 ≡ getD h k 2)
 
-passing-either : (x a b : ℕ) → Within (passing x a b) (passing 2 a b)
+pub passing-either : (x a b : ℕ) → Within (passing x a b) (passing 2 a b)
 passing-either zero a b y m = ⊎-elim (λ e. List·Memᴰ·head e) (λ n. absurd (List·Memᴰ·not-nil n)) (List·Memᴰ·cases-cons m)
 passing-either (suc zero) a b y m = List·Memᴰ·tail m
 passing-either (suc (suc zero)) a b y m = m

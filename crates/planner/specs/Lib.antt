@@ -1,0 +1,2 @@
+-- What the planner's contracts cite beside document 01's definitions.
+pub mod Partial
