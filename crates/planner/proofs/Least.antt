@@ -29,7 +29,7 @@ use Rattle.network.proofs.Ways.{Source, passingAt, arcs-in, arcs-has, passing-e
 use Rattle.network.proofs.Order.{before-irrefl, before-asym, before-total, setting-length, plan-setting, first-unique, next-unique}
 use Rattle.network.proofs.Lone.{plan-gate-small}
 use Rattle.network.proofs.Theorem.{plan-reaches}
-use Rattle.planner.specs.Partial.{bytesOf, hungTo}
+use Rattle.tables.specs.Partial.{bytesOf, hungTo}
 
 abbrev reachOf : Kind → ℕ → ℕ → Reach
 reachOf d a b = record { kind = d; a = a; b = b }
@@ -39,7 +39,7 @@ reachOf d a b = record { kind = d; a = a; b = b }
 same-head : (c : ℕ) (xs ys : List ℕ) → before (c ∷ xs) (c ∷ ys) ≡ before xs ys
 same-head c xs ys = rw (le-ltb c c (omega arith), eq-eqb c c refl)
 
-ways-order : (o : ℕ) (t : List Reach) (p q : List ℕ) → length p ≡ length (gatesFrom o t) → length q ≡ length (gatesFrom o t) → before (ways t p) (ways t q) ≡ before p q
+pub ways-order : (o : ℕ) (t : List Reach) (p q : List ℕ) → length p ≡ length (gatesFrom o t) → length q ≡ length (gatesFrom o t) → before (ways t p) (ways t q) ≡ before p q
 ways-order o [] [] q e f = refl
 ways-order o [] (x ∷ p) q e f = absurd (omega arith)
 ways-order o (r ∷ t) p q e f = go (r .kind) (r .a) (r .b) p q e f (λ p′ q′ e′ f′. ways-order (suc o) t p′ q′ e′ f′)
@@ -54,7 +54,7 @@ ways-order o (r ∷ t) p q e f = go (r .kind) (r .a) (r .b) p q e f (λ p′ q�
     go TwoWay a b p q e f rec = rec p q e f
 
 -- two lists that agree below i and differ there
-before-at : (xs ys : List ℕ) (i d : ℕ) → i < length xs → i < length ys → ((j : ℕ) → j < i → getD xs j d ≡ getD ys j d) → getD xs i d < getD ys i d → before xs ys ≡ true
+pub before-at : (xs ys : List ℕ) (i d : ℕ) → i < length xs → i < length ys → ((j : ℕ) → j < i → getD xs j d ≡ getD ys j d) → getD xs i d < getD ys i d → before xs ys ≡ true
 before-at [] ys i d l k f h = absurd (not-suc-le-zero l)
 before-at (x ∷ xs) [] i d l k f h = absurd (not-suc-le-zero k)
 before-at (x ∷ xs) (y ∷ ys) zero d l k f h = or-left _ (lt-ltb x y h)
@@ -62,7 +62,7 @@ before-at (x ∷ xs) (y ∷ ys) (suc i) d l k f h =
     or-right (ltb x y) (and-make (eq-eqb x y (f 0 (omega arith))) (before-at xs ys i d (le-of-suc-le-suc l) (le-of-suc-le-suc k) (λ j jl. f (suc j) (omega arith)) h))
 
 -- the first of two lists in order is not above the second where they first differ
-before-up : (xs ys : List ℕ) (i d : ℕ) → i < length xs → i < length ys → ((j : ℕ) → j < i → getD xs j d ≡ getD ys j d) → before xs ys ≡ true → getD xs i d ≤ getD ys i d
+pub before-up : (xs ys : List ℕ) (i d : ℕ) → i < length xs → i < length ys → ((j : ℕ) → j < i → getD xs j d ≡ getD ys j d) → before xs ys ≡ true → getD xs i d ≤ getD ys i d
 before-up [] ys i d l k f h = absurd (not-suc-le-zero l)
 before-up (x ∷ xs) [] i d l k f h = absurd (not-suc-le-zero k)
 before-up (x ∷ xs) (y ∷ ys) zero d l k f h = go (decLe x y)
@@ -81,7 +81,7 @@ head-up : (x y : ℕ) (xs ys : List ℕ) → before (x ∷ xs) (y ∷ ys) ≡ tr
 head-up x y xs ys h = before-up (x ∷ xs) (y ∷ ys) 0 0 (omega arith) (omega arith) (λ j l. absurd (not-suc-le-zero l)) h
 
 -- what stands between two lists that agree below i agrees with them there
-between : (xs zs ys : List ℕ) (i d : ℕ) → ((j : ℕ) → j < i → getD xs j d ≡ getD ys j d) → before xs zs ≡ true → before zs ys ≡ true → (j : ℕ) → j < i → getD zs j d ≡ getD xs j d
+pub between : (xs zs ys : List ℕ) (i d : ℕ) → ((j : ℕ) → j < i → getD xs j d ≡ getD ys j d) → before xs zs ≡ true → before zs ys ≡ true → (j : ℕ) → j < i → getD zs j d ≡ getD xs j d
 between xs zs ys zero d f p q j l = absurd (not-suc-le-zero l)
 between [] zs ys (suc i) d f p q j l = absurd (false≢true p)
 between (x ∷ xs) [] ys (suc i) d f p q j l = absurd (false≢true p)
@@ -123,11 +123,11 @@ module _ (N : Network) where
           (λ same. subst⁻¹ (λ (x : ℕ). List·Memᴰ y (passingAt t (s .reach) x)) same (s .passes))
           (f (s .reach) (s .below)))
 
-  plan-order : (p q : List ℕ) → isPlan N p ≡ true → isPlan N q ≡ true → before (ways t p) (ways t q) ≡ before p q
+  pub plan-order : (p q : List ℕ) → isPlan N p ≡ true → isPlan N q ≡ true → before (ways t p) (ways t q) ≡ before p q
   plan-order p q e f = ways-order 0 t p q (setting-length N p (plan-setting N p e)) (setting-length N q (plan-setting N q f))
 
   -- if a plan has another way at i than ws with i decided, or the same: what deciding i leaves
-  fits-set : (q ws : List ℕ) (i x : ℕ) → i < length ws → Fits N q ws → getD (ways t q) i 3 ≡ x → Fits N q (set ws i x)
+  pub fits-set : (q ws : List ℕ) (i x : ℕ) → i < length ws → Fits N q ws → getD (ways t q) i 3 ≡ x → Fits N q (set ws i x)
   fits-set q ws i x l f e j jl = go (ℕ-discrete j i)
     where
       go : Dec (j ≡ i) → (getD (set ws i x) j 3 ≡ 2) ⊎ (getD (set ws i x) j 3 ≡ getD (ways t q) j 3)
@@ -143,7 +143,7 @@ module _ (N : Network) where
       go (no n) = subst (λ (v : ℕ). (v ≡ 2) ⊎ (v ≡ getD (ways t q) j 3)) (getD-set-other ws i j x 3 n) (f j jl)
 
   -- what fits a list of ways with i set has that way at i
-  fits-at : (q ws : List ℕ) (i x : ℕ) → i < length ws → i < length t → x ≤ 1 → Fits N q (set ws i x) → getD (ways t q) i 3 ≡ x
+  pub fits-at : (q ws : List ℕ) (i x : ℕ) → i < length ws → i < length t → x ≤ 1 → Fits N q (set ws i x) → getD (ways t q) i 3 ≡ x
   fits-at q ws i x l k small f =
       ⊎-elim (λ two. absurd (omega (arith, two, getD-set-same ws i x 3 l))) (λ same. sym same ∙ getD-set-same ws i x 3 l) (f i k)
 
@@ -154,14 +154,14 @@ module _ (N : Network) where
   Decided ws i = (j : ℕ) → j < i → isGated ((reachAt N j) .kind) ≡ true → getD ws j 3 ≤ 1
 
   -- a reach that is no gate has one way under every setting
-  same-plain : (p q : List ℕ) (j : ℕ) → j < length t → isGated ((reachAt N j) .kind) ≡ false → getD (ways t p) j 3 ≡ getD (ways t q) j 3
+  pub same-plain : (p q : List ℕ) (j : ℕ) → j < length t → isGated ((reachAt N j) .kind) ≡ false → getD (ways t p) j 3 ≡ getD (ways t q) j 3
   same-plain p q j l n = plain-way t p j l n ∙ sym (plain-way t q j l n)
 
-  has-decided : (q ws : List ℕ) (j : ℕ) → j < length t → getD ws j 3 ≤ 1 → Fits N q ws → getD (ways t q) j 3 ≡ getD ws j 3
+  pub has-decided : (q ws : List ℕ) (j : ℕ) → j < length t → getD ws j 3 ≤ 1 → Fits N q ws → getD (ways t q) j 3 ≡ getD ws j 3
   has-decided q ws j l small f = ⊎-elim (λ two. absurd (omega (arith, two))) (λ same. sym same) (f j l)
 
   -- two settings that fit agree where ws is decided
-  agree : (p q ws : List ℕ) (i : ℕ) → i ≤ length t → Decided ws i → Fits N p ws → Fits N q ws → (j : ℕ) → j < i → getD (ways t p) j 3 ≡ getD (ways t q) j 3
+  pub agree : (p q ws : List ℕ) (i : ℕ) → i ≤ length t → Decided ws i → Fits N p ws → Fits N q ws → (j : ℕ) → j < i → getD (ways t p) j 3 ≡ getD (ways t q) j 3
   agree p q ws i le d f g j l =
       ⊎-elim
       (λ y. has-decided p ws j (omega arith) (d j l y) f ∙ sym (has-decided q ws j (omega arith) (d j l y) g))

@@ -1,2 +1,3 @@
 -- The laws of the planner.
 pub mod Least
+pub mod Nexts

@@ -1,2 +1,0 @@
--- What the planner's contracts cite beside document 01's definitions.
-pub mod Partial

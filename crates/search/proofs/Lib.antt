@@ -1,0 +1,9 @@
+-- The laws of the search's definitions.
+pub mod Laws
+pub mod Fills
+pub mod Halves
+pub mod Links
+pub mod Counts
+pub mod Visits
+pub mod Scans
+pub mod Fronts

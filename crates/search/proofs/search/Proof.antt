@@ -1,0 +1,134 @@
+-- `search` meets its contract. The loop's invariant is `Searching`: all that is seen is reached, and stands in the queue from place `at` on or leads only to what is seen.
+-- The measure is what is left of the queue.
+-- Assumes nothing.
+use Prim.Native.Nat.{ℕ, _-_, _<_}
+use mathlib.Core.Path.{_≡_, refl, sym, _∙_}
+use native.Mathlib.Omega.{arith}
+use lib.ListN.{length}
+use Rattle.search.specs.Ends.{arcsOf}
+use Rattle.search.specs.Searches.{Next}
+use Rattle.search.proofs.Counts.{unseen-le}
+use Rattle.search.proofs.Halves.{arc-below}
+use Rattle.search.proofs.Fronts.{Searching, begins, scans, meets, ends}
+use Rattle.search.proofs.search.Statement.{statement}
+use Rattle.search.proofs.search.Tie as tie
+
+abbrev Inv-loop : tie.InvT-loop
+Inv-loop n a b ways head next start goal seen₀ queue₀ tail₀ at₀ seen queue tail at =
+    Searching (arcsOf a b ways) n start seen queue at tail × (length seen ≡ length seen₀) × (length queue ≡ length queue₀)
+
+abbrev μ-loop : tie.MeasureT-loop
+μ-loop n a b ways head next start goal seen₀ queue₀ tail₀ at₀ seen queue tail at = length queue₀ - at
+
+-- the function's entry
+abbrev entry : tie.At-loop Inv-loop μ-loop → tie.Start Inv-loop μ-loop
+entry c = c .before .before .before .before .before .before .before .before .before .before .before .before .before .before .before .before .before .before .before
+
+-- every arc leads to a basin
+leads-in : (c : tie.Start Inv-loop μ-loop) (u w : ℕ) → Next (arcsOf (c .args .a .now) (c .args .b .now) (c .args .ways .now)) u w → w < c .args .n
+leads-in c u w m = arc-below (c .args .a .now) (c .args .b .now) (c .args .ways .now) (c .args .n) u w (c .pre .table) m
+
+-- the two slices keep their lengths
+seen-kept : (c : tie.At-loop Inv-loop μ-loop) → length (c .loop .seen) ≡ length (entry c .args .seen .now)
+seen-kept c = c .loop .inv .1 ∙ c .before .before .before .before .before .visit .kept .1 .0 ∙ c .before .before .before .before .before .before .before .before .before .before .clear .kept .1 .0
+
+queue-kept : (c : tie.At-loop Inv-loop μ-loop) → length (c .loop .queue) ≡ length (entry c .args .queue .now)
+queue-kept c = c .loop .inv .2 ∙ c .before .before .before .before .before .visit .kept .1 .1 .0
+
+clear-requires : tie.Need-clear-requires Inv-loop μ-loop
+clear-requires c κs = omega arith
+
+visit-requires : tie.Need-visit-requires Inv-loop μ-loop
+visit-requires c κs =
+    let cleared = c .before .before .before .before .clear in
+    omega (arith, cleared .kept .1 .0, unseen-le (cleared .last .1 .0))
+
+loop-holds : tie.Need-loop-holds Inv-loop μ-loop
+loop-holds c =
+    let start = c .before .before .before .before .before .before .before .before .before .before .before .before .before .before .before .before .before .before in
+    let cleared = c .before .before .before .before .before .before .before .before .before .clear .ensures in
+    (begins (start .args .seen .now) (start .pre .seen-room) (start .pre .queue-room) (start .pre .starts) cleared (c .before .before .before .before .visit .ensures), refl, refl)
+
+met-requires : tie.Need-met-requires Inv-loop μ-loop
+met-requires c κs = omega (arith, c .before .before .loop .inv .0 .sound .long)
+
+same-length : tie.Need-same-length Inv-loop μ-loop
+same-length c = seen-kept (c .before .before .before .before)
+
+same-length-2 : tie.Need-same-length-2 Inv-loop μ-loop
+same-length-2 c = queue-kept (c .before .before .before .before)
+
+returns : tie.Need-returns Inv-loop μ-loop
+returns c =
+    let l = c .before .before .before .before in
+    meets (entry l .args .goal) (l .loop .inv .0) (sym (c .before .met .ensures) ∙ c .if1 .taken)
+
+scan-requires : tie.Need-scan-requires Inv-loop μ-loop
+scan-requires c κs =
+    let t = c .before .before .before .before .before in
+    let start = entry (t .before) in
+    let s = t .before .loop .inv .0 .sound in
+    record {
+      basins = start .args .n;
+      table = start .pre .table;
+      ways-room = start .pre .ways-room;
+      index = start .pre .index;
+      seen-room = s .long;
+      waiting = t .loop-test .taken;
+      basin = s .basins (t .before .loop .at) (t .loop-test .taken);
+      room = s .room;
+    }
+
+add-at : tie.Need-add-at Inv-loop μ-loop
+add-at c =
+    let t = c .before .before .before .before .before .before .before .before .before .before in
+    omega (arith, t .loop-test .taken, t .before .loop .inv .0 .sound .room, queue-kept (t .before), entry (t .before) .good)
+
+loop-less : tie.Need-loop-less Inv-loop μ-loop
+loop-less c =
+    let t = c .before .before .before .before .before .before .before .before .before .before in
+    omega (arith, t .loop-test .taken, t .before .loop .inv .0 .sound .room, t .before .loop .inv .2)
+
+loop-again : tie.Need-loop-again Inv-loop μ-loop
+loop-again c =
+    let t = c .before .before .before .before .before .before .before .before .before .before in
+    let start = entry (t .before) in
+    let s = c .before .before .before .before .scan in
+    (scans (leads-in start) (t .loop-test .taken) (t .before .loop .inv .0) (s .ensures), s .kept .1 .1 .1 .1 .1 .0 ∙ t .before .loop .inv .1, s .kept .1 .1 .1 .1 .1 .1 .0 ∙ t .before .loop .inv .2)
+
+met-requires-2 : tie.Need-met-requires-2 Inv-loop μ-loop
+met-requires-2 c κs = omega (arith, c .before .before .loop .inv .0 .sound .long)
+
+same-length-3 : tie.Need-same-length-3 Inv-loop μ-loop
+same-length-3 c = seen-kept (c .before .before .before)
+
+same-length-4 : tie.Need-same-length-4 Inv-loop μ-loop
+same-length-4 c = queue-kept (c .before .before .before)
+
+returns-2 : tie.Need-returns-2 Inv-loop μ-loop
+returns-2 c =
+    let l = c .before .before .before in
+    let start = entry l in
+    ends (start .args .goal) (c .met2 .result) (leads-in start) (start .pre .starts) (c .before .before .loop-test .left) (l .loop .inv .0) (c .met2 .ensures)
+
+pub search-spec : {M : Type 1} → statement M
+search-spec =
+    tie.close
+    (tie.spec
+    Inv-loop
+    μ-loop
+    clear-requires
+    visit-requires
+    loop-holds
+    met-requires
+    same-length
+    same-length-2
+    returns
+    scan-requires
+    add-at
+    loop-less
+    loop-again
+    met-requires-2
+    same-length-3
+    same-length-4
+    returns-2)

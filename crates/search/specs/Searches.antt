@@ -1,0 +1,66 @@
+-- What a search does: how the marks and the queue grow, and what it finds.
+-- Assumes nothing.
+use Prim.Native.Nat.{ℕ, zero, suc, _+_, _≤_, _<_}
+use mathlib.Core.Path.{_≡_}
+use mathlib.Core.Bool.{Bool, false}
+use mathlib.Core.List.{List, [], _∷_, List·Memᴰ}
+use lib.ListN.{length, getD, set}
+use Rattle.network.specs.Hangings.{Arc, arc, reached}
+use Rattle.network.specs.Marks.{bit}
+use Rattle.search.specs.Chains.{Index, Table}
+
+-- A basin is seen where its byte is not 0.
+abbrev pub Seen : List ℕ → ℕ → Type 0
+Seen seen v = 0 < getD seen v 0
+
+-- the number of basins that are not seen
+abbrev pub unseen : List ℕ → ℕ
+unseen [] = 0
+unseen (zero ∷ seen) = suc (unseen seen)
+unseen (suc x ∷ seen) = unseen seen
+
+-- A visit of w: a basin that was not seen is marked and queued.
+pub data Visited (w : ℕ) (seen queue : List ℕ) (tail : ℕ) : List ℕ → List ℕ → ℕ → Type 0 where
+  first : getD seen w 0 ≡ 0 → Visited w seen queue tail (set seen w 1) (set queue tail w) (tail + 1)
+  again : Seen seen w → Visited w seen queue tail seen queue tail
+
+-- Visits of basins that pass the test P.
+pub data Grown (P : ℕ → Type 0) (seen queue : List ℕ) (tail : ℕ) : List ℕ → List ℕ → ℕ → Type 0 where
+  stay : Grown P seen queue tail seen queue tail
+  more : {w tail′ tail″ : ℕ} {seen′ queue′ seen″ queue″ : List ℕ} → Grown P seen queue tail seen′ queue′ tail′ → P w
+      → Visited w seen′ queue′ tail′ seen″ queue″ tail″ → Grown P seen queue tail seen″ queue″ tail″
+
+-- w is the end of an arc from u.
+abbrev pub Next : List Arc → ℕ → ℕ → Type 0
+Next A u w = List·Memᴰ (arc u w) A
+
+-- What a scan of the basin at place `at` of the queue requires.
+pub record Scannable (xs ys ws head next seen queue : List ℕ) (at tail : ℕ) : Type 0 where
+  pub basins : ℕ
+  pub table : Table basins xs ys
+  pub ways-room : length xs ≤ length ws
+  pub index : Index basins xs ys head next
+  pub seen-room : basins ≤ length seen
+  pub waiting : at < tail
+  pub basin : getD queue at 0 < basins
+  pub room : tail + unseen seen ≤ length queue
+
+-- What it leaves: only ends of arcs from that basin were visited, and all of them are seen.
+pub record Scanned (A : List Arc) (u : ℕ) (seen queue : List ℕ) (tail : ℕ) (seen′ queue′ : List ℕ) (tail′ : ℕ) : Type 0 where
+  pub grown : Grown (Next A u) seen queue tail seen′ queue′ tail′
+  pub closed : (w : ℕ) → Next A u w → Seen seen′ w
+
+-- What a search requires: a table with its index and its ways, a basin to start at, and room.
+pub record Searchable (n : ℕ) (xs ys ws head next : List ℕ) (start : ℕ) (seen queue : List ℕ) : Type 0 where
+  pub table : Table n xs ys
+  pub ways-room : length xs ≤ length ws
+  pub index : Index n xs ys head next
+  pub starts : start < n
+  pub seen-room : n ≤ length seen
+  pub queue-room : length seen ≤ length queue
+
+-- What it finds: whether the goal is reached, which no goal from n on is; and where it is not, a 1 at each basin reached and a 0 at each other.
+pub record Searched (A : List Arc) (n start goal : ℕ) (seen : List ℕ) (r : Bool) : Type 0 where
+  pub found : r ≡ reached A start goal
+  pub outside : n ≤ goal → r ≡ false
+  pub whole : r ≡ false → (v : ℕ) → v < n → getD seen v 0 ≡ bit (reached A start v)

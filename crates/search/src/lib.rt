@@ -1,0 +1,162 @@
+// Breadth-first search over the half-edges of a reach table: reach i gives half-edge 2 i at its end A, and 2 i + 1 at its end B.
+// An index links the half-edges of each basin, so that a search takes time in proportion to basins plus reaches.
+ghost use mathlib.Core.Path.{_≡_};
+ghost use mathlib.Core.Bool.{_&&_};
+ghost use mathlib.Core.List.{_++_};
+ghost use Prim.Native.Nat.{_+_, _≤_, _<_, _/_};
+ghost use lib.ListN.{length, getD, set, replicate, drop};
+ghost use lib.Dec.{ltb, eqb};
+ghost use Rattle.search.specs.Ends.{arcsOf, otherOf, leaves};
+ghost use Rattle.search.specs.Chains.{none, Index, Indexable};
+ghost use Rattle.search.specs.Searches.{unseen, Visited, Scannable, Scanned, Searchable, Searched};
+
+// What stands where there is no half-edge.
+pub const NONE: u16 = 65535;
+
+// Fills head[0..n] with NONE.
+fn empty(n: usize, head: &mut [u16])
+    requires { ⌜ n ≤ length (now head) ⌝ }
+    ensures { λ _. ⌜ now (head .exit) ≡ replicate n none ++ drop n (now (head .entry)) ⌝ }
+{
+    let mut i = 0;
+    while i < n {
+        head[i] = NONE;
+        i += 1;
+    }
+}
+
+// Fills seen[0..n] with 0.
+fn clear(n: usize, seen: &mut [u8])
+    requires { ⌜ n ≤ length (now seen) ⌝ }
+    ensures { λ _. ⌜ now (seen .exit) ≡ replicate n 0 ++ drop n (now (seen .entry)) ⌝ }
+{
+    let mut i = 0;
+    while i < n {
+        seen[i] = 0;
+        i += 1;
+    }
+}
+
+// Puts half-edge h before the others at basin v.
+fn link(head: &mut [u16], next: &mut [u16], v: u16, h: u16)
+    requires { ⌜ v < length (now head) ⌝ }
+    requires { ⌜ h < length (now next) ⌝ }
+    ensures { λ _. ⌜ now (head .exit) ≡ set (now (head .entry)) v h ⌝ }
+    ensures { λ _. ⌜ now (next .exit) ≡ set (now (next .entry)) h (getD (now (head .entry)) v 0) ⌝ }
+{
+    next[h as usize] = head[v as usize];
+    head[v as usize] = h;
+}
+
+// Makes the index of a table's half-edges: head[v] is the last half-edge at basin v, next[h] the one before h at the same basin.
+pub fn index(n: usize, a: &[u16], b: &[u16], head: &mut [u16], next: &mut [u16])
+    requires { ⌜ Indexable n (now a) (now b) (now head) (now next) ⌝ }
+    ensures { λ _. ⌜ Index n (now (a .entry)) (now (b .entry)) (now (head .exit)) (now (next .exit)) ⌝ }
+{
+    empty(n, head);
+    let mut i = 0;
+    while i < a.len() {
+        link(head, next, a[i], (2 * i) as u16);
+        link(head, next, b[i], (2 * i + 1) as u16);
+        i += 1;
+    }
+}
+
+// Whether the reach of half-edge h passes away from the basin at which h stands.
+fn passes(ways: &[u8], h: u16) -> bool
+    requires { ⌜ h / 2 < length (now ways) ⌝ }
+    ensures { λ r. ⌜ r ≡ leaves (now (ways .entry)) h ⌝ }
+{
+    let way = ways[h as usize / 2] as u16;
+    way == 2 || way == h % 2
+}
+
+// The basin at the far end of the reach of half-edge h.
+fn far(a: &[u16], b: &[u16], h: u16) -> u16
+    requires { ⌜ h / 2 < length (now a) ⌝ }
+    requires { ⌜ h / 2 < length (now b) ⌝ }
+    ensures { λ r. ⌜ r ≡ otherOf (now (a .entry)) (now (b .entry)) h ⌝ }
+{
+    let i = h as usize / 2;
+    if h % 2 == 0 { b[i] } else { a[i] }
+}
+
+// Marks basin w and puts it at the end of the queue, unless it is seen already. Returns the queue's end.
+fn visit(w: u16, seen: &mut [u8], queue: &mut [u16], tail: usize) -> usize
+    requires { ⌜ w < length (now seen) ⌝ }
+    requires { ⌜ tail + unseen (now seen) ≤ length (now queue) ⌝ }
+    ensures { λ r. ⌜ Visited w (now (seen .entry)) (now (queue .entry)) tail (now (seen .exit)) (now (queue .exit)) r ⌝ }
+{
+    let v = w as usize;
+    if seen[v] == 0 {
+        seen[v] = 1;
+        queue[tail] = w;
+        return tail + 1;
+    }
+    tail
+}
+
+// Whether the goal is a basin that is seen.
+fn met(n: usize, goal: u16, seen: &[u8]) -> bool
+    requires { ⌜ n ≤ length (now seen) ⌝ }
+    ensures { λ r. ⌜ r ≡ ltb goal n && eqb (getD (now (seen .entry)) goal 0) 1 ⌝ }
+{
+    let g = goal as usize;
+    if g < n { seen[g] == 1 } else { false }
+}
+
+// Visits each basin to which a half-edge passes from the basin at place `at` of the queue. Returns the queue's end.
+fn scan(
+    a: &[u16],
+    b: &[u16],
+    ways: &[u8],
+    head: &[u16],
+    next: &[u16],
+    seen: &mut [u8],
+    queue: &mut [u16],
+    at: usize,
+    tail: usize,
+) -> usize
+    requires { ⌜ Scannable (now a) (now b) (now ways) (now head) (now next) (now seen) (now queue) at tail ⌝ }
+    ensures { λ r. ⌜ Scanned (arcsOf (now (a .entry)) (now (b .entry)) (now (ways .entry))) (getD (now (queue .entry)) at 0)
+        (now (seen .entry)) (now (queue .entry)) tail (now (seen .exit)) (now (queue .exit)) r ⌝ }
+{
+    let mut end = tail;
+    let mut h = head[queue[at] as usize];
+    while h != NONE {
+        if passes(ways, h) {
+            end = visit(far(a, b, h), seen, queue, end);
+        }
+        h = next[h as usize];
+    }
+    end
+}
+
+// Whether the goal is reached from start. Where it is not, seen holds 1 at each basin reached and 0 at each other.
+pub fn search(
+    n: usize,
+    a: &[u16],
+    b: &[u16],
+    ways: &[u8],
+    head: &[u16],
+    next: &[u16],
+    start: u16,
+    goal: u16,
+    seen: &mut [u8],
+    queue: &mut [u16],
+) -> bool
+    requires { ⌜ Searchable n (now a) (now b) (now ways) (now head) (now next) start (now seen) (now queue) ⌝ }
+    ensures { λ r. ⌜ Searched (arcsOf (now (a .entry)) (now (b .entry)) (now (ways .entry))) n start goal (now (seen .exit)) r ⌝ }
+{
+    clear(n, seen);
+    let mut tail = visit(start, seen, queue, 0);
+    let mut at = 0;
+    while at < tail {
+        if met(n, goal, seen) {
+            return true;
+        }
+        tail = scan(a, b, ways, head, next, seen, queue, at, tail);
+        at += 1;
+    }
+    met(n, goal, seen)
+}

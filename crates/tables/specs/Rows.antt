@@ -1,0 +1,29 @@
+-- A network lent as rows of numbers, and what its kinds alone decide.
+-- Assumes nothing.
+use Prim.Native.Nat.{ℕ, zero, suc, _+_}
+use mathlib.Core.Bool.{cond}
+use mathlib.Core.List.{List, [], _∷_}
+use Rattle.network.specs.Networks.{Network}
+use Rattle.network.specs.Tables.{kindOf, tableOf}
+use Rattle.network.specs.Settings.{isGated}
+use Rattle.network.specs.Hangings.{way, after}
+
+-- The network of a basin count and three rows: kinds, ends A, ends B.
+abbrev pub netOf : ℕ → List ℕ → List ℕ → List ℕ → Network
+netOf n ks xs ys = record { basins = n; reaches = tableOf ks xs ys }
+
+-- The number of gated reaches, by their kinds.
+abbrev pub gatesIn : List ℕ → ℕ
+gatesIn [] = 0
+gatesIn (k ∷ ks) = cond (isGated (kindOf k)) (suc (gatesIn ks)) (gatesIn ks)
+
+-- The ways of the reaches under a hanging, by their kinds.
+abbrev pub waysRow : List ℕ → List ℕ → List ℕ
+waysRow [] h = []
+waysRow (k ∷ ks) h = way (kindOf k) h ∷ waysRow ks (after (kindOf k) h)
+
+-- The bytes of the gated reaches if the reaches have the ways ws.
+abbrev pub bytesRow : List ℕ → List ℕ → List ℕ
+bytesRow [] ws = []
+bytesRow (k ∷ ks) [] = []
+bytesRow (k ∷ ks) (w ∷ ws) = cond (isGated (kindOf k)) (w ∷ bytesRow ks ws) (bytesRow ks ws)

@@ -1,0 +1,1 @@
+// The reach table as rows of numbers.
