@@ -201,14 +201,14 @@ cut-parts N i S l cut ws small e =
     let v = some-has (λ b. not (elem b S)) (basinsOf N) (and-right (some? (λ b. elem b S) (basinsOf N)) _ (cut .division)) in
     let str = strong-walks (basinsOf N) (arcs (N .reaches) ws) e in
     let alike : elem (u .0) S ≡ elem (v .0) S =
-        one-crossing (arcs (N .reaches) ws) (λ b. elem b S) (one .0) (one .1) (u .0) (v .0)
-        (λ c d m.
-        let src = arcs-in (N .reaches) ws (arc c d) m in
-        elim (ℕ-discrete (src .reach) i)
-        [ yes same ↦ inl (one .2 (arc c d) (subst (λ (j : ℕ). List·Memᴰ (arc c d) (passingAt (N .reaches) j (getD ws j 3))) same (src .passes)))
-        | no other ↦ inr (reach-alike (λ b. elem b S) (getD ws (src .reach) 3) _ _ c d (f .others (src .reach) (src .below) other) (src .passes))
-        ])
-        (str (u .0) (v .0) (u .1) (v .1)) (str (v .0) (u .0) (v .1) (u .1)) in
+    one-crossing (arcs (N .reaches) ws) (λ b. elem b S) (one .0) (one .1) (u .0) (v .0)
+    (λ c d m.
+    let src = arcs-in (N .reaches) ws (arc c d) m in
+    elim (ℕ-discrete (src .reach) i) [
+      | yes same ↦ inl (one .2 (arc c d) (subst (λ (j : ℕ). List·Memᴰ (arc c d) (passingAt (N .reaches) j (getD ws j 3))) same (src .passes)))
+      | no other ↦ inr (reach-alike (λ b. elem b S) (getD ws (src .reach) 3) _ _ c d (f .others (src .reach) (src .below) other) (src .passes))
+    ])
+    (str (u .0) (v .0) (u .1) (v .1)) (str (v .0) (u .0) (v .1) (u .1)) in
     clash (sym alike ∙ u .2) (not-true (elem (v .0) S) (v .2))
 
 -- so no setting is a plan if a gated reach does

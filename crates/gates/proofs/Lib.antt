@@ -1,3 +1,4 @@
 -- The laws of the planner.
+pub mod Readies
 pub mod Least
 pub mod Nexts

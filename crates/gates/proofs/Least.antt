@@ -186,6 +186,7 @@ module _ (N : Network) where
       where
         fits-s : Fits N s ws
         fits-s = fits-free s ws i 0 free (m .fits)
+
         least : (q : List ℕ) → isPlan N q ≡ true → Fits N q ws → before q s ≡ false
         least q e f =
             ⊎-elim
@@ -200,14 +201,14 @@ module _ (N : Network) where
     -- Where none can have it as drawn, the least one has it turned.
     pub least-turned : strong (basinsOf N) (arcs t (set ws i 0)) ≡ false → (s : List ℕ) → LeastPlan N (set ws i 1) s → LeastPlan N ws s
     least-turned lost s m =
-        record
-        { is-plan = m .is-plan
-        ; fits = fits-free s ws i 1 free (m .fits)
-        ; least = λ q e f.
-            ⊎-elim
-            (λ at0. clash (fits-strong q (set ws i 0) e (fits-set q ws i 0 room f at0)) lost)
-            (λ at1. m .least q e (fits-set q ws i 1 room f at1))
-            (way-of q e)
+        record {
+          is-plan = m .is-plan;
+          fits = fits-free s ws i 1 free (m .fits);
+          least = λ q e f.
+              ⊎-elim
+              (λ at0. clash (fits-strong q (set ws i 0) e (fits-set q ws i 0 room f at0)) lost)
+              (λ at1. m .least q e (fits-set q ws i 1 room f at1))
+              (way-of q e);
         }
 
 -- ---- all gates decided
@@ -255,20 +256,24 @@ module _ (N : Network) where
     where
       s : List ℕ
       s = bytesOf (N .reaches) ws
+
       same : ways (N .reaches) s ≡ ws
       same = bytes-ways (N .reaches) ws full shaped
+
       is-plan : isPlan N s ≡ true
       is-plan =
           and-make
           (and-make (eq-eqb (length s) (gateCount N) (bytes-length 0 (N .reaches) ws full)) (bytes-small (N .reaches) ws d))
           (subst⁻¹ (λ (v : List ℕ). strong (basinsOf N) (arcs (N .reaches) v) ≡ true) same str)
+
       fits : Fits N s ws
       fits j l = inr (ap (λ (v : List ℕ). getD v j 3) (sym same))
+
       least : (q : List ℕ) → isPlan N q ≡ true → Fits N q ws → before q s ≡ false
       least q e f =
           let all : ways (N .reaches) q ≡ ways (N .reaches) s =
-              ext-getD 3 (ways (N .reaches) q) (ways (N .reaches) s) (length-ways (N .reaches) q ∙ sym (length-ways (N .reaches) s))
-              (λ j l. agree N q s ws (length (N .reaches)) (omega arith) d f fits j (omega (arith, length-ways (N .reaches) q))) in
+          ext-getD 3 (ways (N .reaches) q) (ways (N .reaches) s) (length-ways (N .reaches) q ∙ sym (length-ways (N .reaches) s))
+          (λ j l. agree N q s ws (length (N .reaches)) (omega arith) d f fits j (omega (arith, length-ways (N .reaches) q))) in
           sym (plan-order N q s e is-plan) ∙ ap (λ (v : List ℕ). before v (ways (N .reaches) s)) all ∙ before-irrefl (ways (N .reaches) s)
 
   -- ---- the first plan

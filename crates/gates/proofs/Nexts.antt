@@ -24,7 +24,7 @@ use Rattle.network.proofs.Ways.{length-ways, plain-way, gate-way, gate-small}
 use Rattle.network.proofs.Order.{before-irrefl, setting-length, plan-setting, next-is-plan, next-is-later, next-unique}
 use Rattle.network.proofs.Lone.{plan-gate-small}
 use Rattle.tables.specs.Partial.{hungTo}
-use Rattle.planner.proofs.Least.{ways-order, before-at, before-up, between, Fits, LeastPlan, fits-strong, fits-set, fits-at, same-plain, Shaped}
+use Rattle.gates.proofs.Least.{ways-order, before-at, before-up, between, Fits, LeastPlan, fits-strong, fits-set, fits-at, same-plain, Shaped}
 
 -- ---- ways hung as a setting has them up to a reach
 
@@ -85,6 +85,7 @@ module _ (N : Network) (s : List ℕ) where
     where
       x : ℕ
       x = getD (ways t s) i 3
+
       at : (j : ℕ) → j < length (set (hungTo t s i) i x) → getD (set (hungTo t s i) i x) j 3 ≡ getD (hungTo t s (suc i)) j 3
       at j jl = go (ℕ-discrete j i) (decLt j i)
         where
@@ -99,6 +100,7 @@ module _ (N : Network) (s : List ℕ) where
     where
       x : ℕ
       x = getD (ways t []) i 3
+
       at : (j : ℕ) → j < length (set (hungTo t s (suc i)) i x) → getD (set (hungTo t s (suc i)) i x) j 3 ≡ getD (hungTo t s i) j 3
       at j jl = go (ℕ-discrete j i) (decLt j i)
         where
@@ -193,8 +195,10 @@ module _ (N : Network) (s : List ℕ) where
       where
         room : i < length (hungTo t s i)
         room = omega (arith, hung-length i (omega arith))
+
         r-at : getD (ways t r) i 3 ≡ 1
         r-at = fits-at N r (hungTo t s i) i 1 room l (omega arith) (m .fits)
+
         r-alike : (j : ℕ) → j < i → getD (ways t s) j 3 ≡ getD (ways t r) j 3
         r-alike j k =
             ⊎-elim
@@ -208,8 +212,10 @@ module _ (N : Network) (s : List ℕ) where
           where
             setting-gate : (j : ℕ) → j < i → isGated ((reachAt N j) .kind) ≡ true → getD (ways t s) j 3 ≤ 1
             setting-gate j k y = gate-byte N s fit j (omega arith) y
+
         later : before s r ≡ true
         later = sym (order r (m .is-plan)) ∙ before-at (ways t s) (ways t r) i 3 (omega (arith, length-ways t s)) (omega (arith, length-ways t r)) r-alike (omega (arith, r-at, zero-at))
+
         earliest : (q : List ℕ) → isPlan N q ≡ true → before s q ≡ true → before q r ≡ false
         earliest q e after-s = fails (before q r) (λ below-r. go below-r (ℕ-discrete (getD (ways t q) i 3) (getD (ways t s) i 3)))
           where
@@ -217,6 +223,7 @@ module _ (N : Network) (s : List ℕ) where
             q-alike below-r =
                 between (ways t s) (ways t q) (ways t r) i 3 r-alike (order q e ∙ after-s)
                 (ways-order 0 t q r (setting-length N q (plan-setting N q e)) (setting-length N r (plan-setting N r (m .is-plan))) ∙ below-r)
+
             go : before q r ≡ true → Dec (getD (ways t q) i 3 ≡ getD (ways t s) i 3) → ⊥
             go below-r (yes same) = more q e after-s (alike-more q i (q-alike below-r) same)
             go below-r (no n) =

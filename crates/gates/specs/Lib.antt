@@ -1,0 +1,3 @@
+-- What the contracts of the gate functions say.
+pub mod Ready
+pub mod Hung

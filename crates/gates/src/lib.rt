@@ -1,0 +1,161 @@
+// Hanging gates one after the other over a table whose half-edges are indexed: which basin fails to reach all, whether a gate can be hung
+// one way or the other without loss, and where a setting can be left for a later one.
+// These functions are for the planner; what they require it has checked.
+ghost use mathlib.Core.Path.{_≡_};
+ghost use mathlib.Core.List.{map};
+ghost use Prim.Native.Nat.{_≤_, _<_};
+ghost use lib.ListN.{length, getD, set};
+ghost use Rattle.network.specs.Hangings.{reached};
+ghost use Rattle.search.specs.Ends.{arcsOf};
+ghost use Rattle.gates.specs.Ready.{Ready, flipWay, FirstUnseen, Missed, Weakest};
+ghost use Rattle.gates.specs.Hung.{Leads, HungGate};
+use search::NONE;
+
+// The way against the arrows.
+fn flipped(way: u8) -> u8
+    ensures { λ r. ⌜ r ≡ flipWay way ⌝ }
+{
+    if way == 0 {
+        1
+    } else if way == 1 {
+        0
+    } else {
+        way
+    }
+}
+
+// The way against the arrows of each reach.
+fn flip(ways: &[u8], back: &mut [u8])
+    requires { ⌜ length (now back) ≡ length (now ways) ⌝ }
+    ensures { λ _. ⌜ now (back .exit) ≡ map flipWay (now (ways .entry)) ⌝ }
+{
+    let mut i = 0;
+    while i < ways.len() {
+        back[i] = flipped(ways[i]);
+        i += 1;
+    }
+}
+
+// The lowest basin whose byte is 0, or n if there is none.
+fn first_unseen(n: usize, seen: &[u8]) -> usize
+    requires { ⌜ n ≤ length (now seen) ⌝ }
+    ensures { λ r. ⌜ FirstUnseen n (now (seen .entry)) r ⌝ }
+{
+    let mut v = 0;
+    while v < n {
+        if seen[v] == 0 {
+            return v;
+        }
+        v += 1;
+    }
+    n
+}
+
+// The lowest basin that is not reached from start, or n if all are.
+pub fn missed(
+    n: usize,
+    a: &[u16],
+    b: &[u16],
+    ways: &[u8],
+    head: &[u16],
+    next: &[u16],
+    start: u16,
+    seen: &mut [u8],
+    queue: &mut [u16],
+) -> usize
+    requires { ⌜ Ready n (now a) (now b) (now ways) (now head) (now next) (now seen) (now queue) ⌝ }
+    requires { ⌜ start < n ⌝ }
+    ensures { λ r. ⌜ Missed (arcsOf (now (a .entry)) (now (b .entry)) (now (ways .entry))) n start (now (seen .exit)) r ⌝ }
+{
+    search::search(n, a, b, ways, head, next, start, NONE, seen, queue);
+    first_unseen(n, seen)
+}
+
+// The lowest basin that does not reach all, or n if all do: if basin 0 reaches all, a basin does exactly if it reaches basin 0.
+pub fn weakest(
+    n: usize,
+    a: &[u16],
+    b: &[u16],
+    ways: &[u8],
+    back: &mut [u8],
+    head: &[u16],
+    next: &[u16],
+    seen: &mut [u8],
+    queue: &mut [u16],
+) -> usize
+    requires { ⌜ Ready n (now a) (now b) (now ways) (now head) (now next) (now seen) (now queue) ⌝ }
+    requires { ⌜ length (now back) ≡ length (now ways) ⌝ }
+    ensures { λ r. ⌜ Weakest (arcsOf (now (a .entry)) (now (b .entry)) (now (ways .entry))) n r ⌝ }
+{
+    if missed(n, a, b, ways, head, next, 0, seen, queue) < n {
+        return 0;
+    }
+    flip(ways, back);
+    missed(n, a, b, back, head, next, 0, seen, queue)
+}
+
+// Whether end B of reach i leads to its end A: then it can be hung as drawn without loss.
+fn leads_back(
+    n: usize,
+    a: &[u16],
+    b: &[u16],
+    ways: &[u8],
+    head: &[u16],
+    next: &[u16],
+    i: usize,
+    seen: &mut [u8],
+    queue: &mut [u16],
+) -> bool
+    requires { ⌜ Ready n (now a) (now b) (now ways) (now head) (now next) (now seen) (now queue) ⌝ }
+    requires { ⌜ i < length (now a) ⌝ }
+    ensures { λ r. ⌜ Leads (arcsOf (now (a .entry)) (now (b .entry)) (now (ways .entry))) n (getD (now (b .entry)) i 0) (getD (now (a .entry)) i 0) (now (seen .exit)) r ⌝ }
+{
+    search::search(n, a, b, ways, head, next, b[i], a[i], seen, queue)
+}
+
+// Whether end A of reach i leads to its end B: then it can be hung turned without loss.
+fn leads_on(
+    n: usize,
+    a: &[u16],
+    b: &[u16],
+    ways: &[u8],
+    head: &[u16],
+    next: &[u16],
+    i: usize,
+    seen: &mut [u8],
+    queue: &mut [u16],
+) -> bool
+    requires { ⌜ Ready n (now a) (now b) (now ways) (now head) (now next) (now seen) (now queue) ⌝ }
+    requires { ⌜ i < length (now a) ⌝ }
+    ensures { λ r. ⌜ Leads (arcsOf (now (a .entry)) (now (b .entry)) (now (ways .entry))) n (getD (now (a .entry)) i 0) (getD (now (b .entry)) i 0) (now (seen .exit)) r ⌝ }
+{
+    search::search(n, a, b, ways, head, next, a[i], b[i], seen, queue)
+}
+
+// Hangs reach i as drawn if that loses nothing, else turned if that does not. Otherwise it stays left out, and seen holds what its end A leads to.
+fn hang_gate(
+    n: usize,
+    a: &[u16],
+    b: &[u16],
+    ways: &mut [u8],
+    head: &[u16],
+    next: &[u16],
+    i: usize,
+    seen: &mut [u8],
+    queue: &mut [u16],
+) -> bool
+    requires { ⌜ Ready n (now a) (now b) (now ways) (now head) (now next) (now seen) (now queue) ⌝ }
+    requires { ⌜ i < length (now a) ⌝ }
+    ensures { λ r. ⌜ HungGate n (now (a .entry)) (now (b .entry)) (now (ways .entry)) i (now (ways .exit)) (now (seen .exit)) r ⌝ }
+{
+    ways[i] = 3;
+    if leads_back(n, a, b, ways, head, next, i, seen, queue) {
+        ways[i] = 0;
+        return true;
+    }
+    if leads_on(n, a, b, ways, head, next, i, seen, queue) {
+        ways[i] = 1;
+        return true;
+    }
+    false
+}
