@@ -29,6 +29,7 @@ use Rattle.network.proofs.Ways.{Source, passingAt, arcs-in, arcs-has, passing-e
 use Rattle.network.proofs.Order.{before-irrefl, before-asym, before-total, setting-length, plan-setting, first-unique, next-unique}
 use Rattle.network.proofs.Lone.{plan-gate-small}
 use Rattle.network.proofs.Theorem.{plan-reaches}
+use Rattle.gates.specs.Least.{Fits, LeastPlan, Decided, Shaped}
 use Rattle.tables.specs.Partial.{bytesOf, hungTo}
 
 abbrev reachOf : Kind → ℕ → ℕ → Reach
@@ -95,16 +96,6 @@ between (x ∷ xs) (z ∷ zs) (y ∷ ys) (suc i) d f p q (suc j) l =
 
 -- ---- completing ways
 
--- the setting p has the way of each reach that ws decides
-abbrev pub Fits : Network → List ℕ → List ℕ → Type 0
-Fits N p ws = (j : ℕ) → j < length (N .reaches) → (getD ws j 3 ≡ 2) ⊎ (getD ws j 3 ≡ getD (ways (N .reaches) p) j 3)
-
--- the least plan that fits
-pub record LeastPlan (N : Network) (ws s : List ℕ) : Type 0 where
-  pub is-plan : isPlan N s ≡ true
-  pub fits : Fits N s ws
-  pub least : (q : List ℕ) → isPlan N q ≡ true → Fits N q ws → before q s ≡ false
-
 module _ (N : Network) where
   abbrev t : List Reach
   t = N .reaches
@@ -149,10 +140,6 @@ module _ (N : Network) where
 
   -- ---- deciding one gate
 
-  -- the gates below i are decided
-  abbrev pub Decided : List ℕ → ℕ → Type 0
-  Decided ws i = (j : ℕ) → j < i → isGated ((reachAt N j) .kind) ≡ true → getD ws j 3 ≤ 1
-
   -- a reach that is no gate has one way under every setting
   pub same-plain : (p q : List ℕ) (j : ℕ) → j < length t → isGated ((reachAt N j) .kind) ≡ false → getD (ways t p) j 3 ≡ getD (ways t q) j 3
   same-plain p q j l n = plain-way t p j l n ∙ sym (plain-way t q j l n)
@@ -161,7 +148,7 @@ module _ (N : Network) where
   has-decided q ws j l small f = ⊎-elim (λ two. absurd (omega (arith, two))) (λ same. sym same) (f j l)
 
   -- two settings that fit agree where ws is decided
-  pub agree : (p q ws : List ℕ) (i : ℕ) → i ≤ length t → Decided ws i → Fits N p ws → Fits N q ws → (j : ℕ) → j < i → getD (ways t p) j 3 ≡ getD (ways t q) j 3
+  pub agree : (p q ws : List ℕ) (i : ℕ) → i ≤ length t → Decided N ws i → Fits N p ws → Fits N q ws → (j : ℕ) → j < i → getD (ways t p) j 3 ≡ getD (ways t q) j 3
   agree p q ws i le d f g j l =
       ⊎-elim
       (λ y. has-decided p ws j (omega arith) (d j l y) f ∙ sym (has-decided q ws j (omega arith) (d j l y) g))
@@ -181,7 +168,7 @@ module _ (N : Network) where
         go (suc (suc x)) e l = absurd (omega arith)
 
     -- Where a plan has the gate as drawn, the least one has it so.
-    pub least-drawn : Decided ws i → (s : List ℕ) → LeastPlan N (set ws i 0) s → LeastPlan N ws s
+    pub least-drawn : Decided N ws i → (s : List ℕ) → LeastPlan N (set ws i 0) s → LeastPlan N ws s
     least-drawn d s m = record { is-plan = m .is-plan; fits = fits-s; least = least }
       where
         fits-s : Fits N s ws
@@ -212,10 +199,6 @@ module _ (N : Network) where
         }
 
 -- ---- all gates decided
-
--- the ways of the reaches that are no gates are those of their kinds
-abbrev pub Shaped : List Reach → List ℕ → Type 0
-Shaped t ws = (j : ℕ) → j < length t → isGated ((getD t j noReach) .kind) ≡ false → getD ws j 3 ≡ way ((getD t j noReach) .kind) []
 
 pub bytes-ways : (t : List Reach) (ws : List ℕ) → length ws ≡ length t → Shaped t ws → ways t (bytesOf t ws) ≡ ws
 bytes-ways [] [] e f = refl

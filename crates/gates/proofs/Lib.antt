@@ -2,3 +2,4 @@
 pub mod Readies
 pub mod Least
 pub mod Nexts
+pub mod Goings

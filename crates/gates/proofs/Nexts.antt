@@ -23,8 +23,9 @@ use Rattle.network.proofs.Bools.{and-left, and-right, decide, clash, fails}
 use Rattle.network.proofs.Ways.{length-ways, plain-way, gate-way, gate-small}
 use Rattle.network.proofs.Order.{before-irrefl, setting-length, plan-setting, next-is-plan, next-is-later, next-unique}
 use Rattle.network.proofs.Lone.{plan-gate-small}
+use Rattle.gates.specs.Least.{Fits, LeastPlan, Shaped, Alike, NoneFrom}
 use Rattle.tables.specs.Partial.{hungTo}
-use Rattle.gates.proofs.Least.{ways-order, before-at, before-up, between, Fits, LeastPlan, fits-strong, fits-set, fits-at, same-plain, Shaped}
+use Rattle.gates.proofs.Least.{ways-order, before-at, before-up, between, fits-strong, fits-set, fits-at, same-plain}
 
 -- ---- ways hung as a setting has them up to a reach
 
@@ -118,15 +119,7 @@ module _ (N : Network) (s : List ℕ) where
 
   -- ---- no plan parts from the setting upwards at reach i or later
 
-  -- q has the ways of s below i
-  abbrev pub Alike : List ℕ → ℕ → Type 0
-  Alike q i = (j : ℕ) → j < i → getD (ways t q) j 3 ≡ getD (ways t s) j 3
-
-  -- no later plan is alike below i
-  abbrev pub NoneFrom : ℕ → Type 0
-  NoneFrom i = (q : List ℕ) → isPlan N q ≡ true → before s q ≡ true → Alike q i → ⊥
-
-  alike-more : (q : List ℕ) (i : ℕ) → Alike q i → getD (ways t q) i 3 ≡ getD (ways t s) i 3 → Alike q (suc i)
+  alike-more : (q : List ℕ) (i : ℕ) → Alike N s q i → getD (ways t q) i 3 ≡ getD (ways t s) i 3 → Alike N s q (suc i)
   alike-more q i f e j l = go (ℕ-discrete j i)
     where
       go : Dec (j ≡ i) → getD (ways t q) j 3 ≡ getD (ways t s) j 3
@@ -134,7 +127,7 @@ module _ (N : Network) (s : List ℕ) where
       go (no n) = f j (omega arith)
 
   -- a setting that is alike below i fits the ways hung so far
-  pub alike-fits : (q : List ℕ) (i : ℕ) → i ≤ length t → Alike q i → Fits N q (hungTo t s i)
+  pub alike-fits : (q : List ℕ) (i : ℕ) → i ≤ length t → Alike N s q i → Fits N q (hungTo t s i)
   alike-fits q i l f j jl = go (decLt j i)
     where
       go : Dec (j < i) → (getD (hungTo t s i) j 3 ≡ 2) ⊎ (getD (hungTo t s i) j 3 ≡ getD (ways t q) j 3)
@@ -149,13 +142,13 @@ module _ (N : Network) (s : List ℕ) where
     order : (q : List ℕ) → isPlan N q ≡ true → before (ways t s) (ways t q) ≡ before s q
     order q e = ways-order 0 t s q (setting-length N s fit) (setting-length N q (plan-setting N q e))
 
-    pub none-from-end : NoneFrom (length t)
+    pub none-from-end : NoneFrom N s (length t)
     none-from-end q e later f =
         let same : ways t q ≡ ways t s = ext-getD 3 (ways t q) (ways t s) (length-ways t q ∙ sym (length-ways t s)) (λ j l. f j (omega (arith, length-ways t q))) in
         clash (order q e ∙ later) (ap (λ (v : List ℕ). before (ways t s) v) same ∙ before-irrefl (ways t s))
 
     -- a later plan that is alike below i and not at i has the gate i turned, where s has it as drawn
-    parts : (q : List ℕ) (i : ℕ) → i < length t → isPlan N q ≡ true → before s q ≡ true → Alike q i → (getD (ways t q) i 3 ≡ getD (ways t s) i 3 → ⊥) → getD (ways t s) i 3 < getD (ways t q) i 3
+    parts : (q : List ℕ) (i : ℕ) → i < length t → isPlan N q ≡ true → before s q ≡ true → Alike N s q i → (getD (ways t q) i 3 ≡ getD (ways t s) i 3 → ⊥) → getD (ways t s) i 3 < getD (ways t q) i 3
     parts q i l e later f n =
         let up : getD (ways t s) i 3 ≤ getD (ways t q) i 3 = before-up (ways t s) (ways t q) i 3 (omega (arith, length-ways t s)) (omega (arith, length-ways t q)) (λ j k. sym (f j k)) (order q e ∙ later) in
         go (ℕ-discrete (getD (ways t q) i 3) (getD (ways t s) i 3)) up
@@ -165,20 +158,20 @@ module _ (N : Network) (s : List ℕ) where
         go (no m) up = omega arith
 
     -- one reach less, if no plan can part there
-    none-from : (i : ℕ) → i < length t → NoneFrom (suc i) → ((q : List ℕ) → isPlan N q ≡ true → Alike q i → getD (ways t s) i 3 < getD (ways t q) i 3 → ⊥) → NoneFrom i
+    none-from : (i : ℕ) → i < length t → NoneFrom N s (suc i) → ((q : List ℕ) → isPlan N q ≡ true → Alike N s q i → getD (ways t s) i 3 < getD (ways t q) i 3 → ⊥) → NoneFrom N s i
     none-from i l more no-part q e later f = go (ℕ-discrete (getD (ways t q) i 3) (getD (ways t s) i 3))
       where
         go : Dec (getD (ways t q) i 3 ≡ getD (ways t s) i 3) → ⊥
         go (yes same) = more q e later (alike-more q i f same)
         go (no n) = no-part q e f (parts q i l e later f n)
 
-    pub none-plain : (i : ℕ) → i < length t → NoneFrom (suc i) → isGated ((reachAt N i) .kind) ≡ false → NoneFrom i
+    pub none-plain : (i : ℕ) → i < length t → NoneFrom N s (suc i) → isGated ((reachAt N i) .kind) ≡ false → NoneFrom N s i
     none-plain i l more n = none-from i l more (λ q e f up. omega (arith, same-plain N q s i l n))
 
-    pub none-turned : (i : ℕ) → i < length t → NoneFrom (suc i) → isGated ((reachAt N i) .kind) ≡ true → getD (ways t s) i 3 ≡ 1 → NoneFrom i
+    pub none-turned : (i : ℕ) → i < length t → NoneFrom N s (suc i) → isGated ((reachAt N i) .kind) ≡ true → getD (ways t s) i 3 ≡ 1 → NoneFrom N s i
     none-turned i l more g one = none-from i l more (λ q e f up. omega (arith, plan-gate-small N q i e l g))
 
-    pub none-lost : (i : ℕ) → i < length t → NoneFrom (suc i) → isGated ((reachAt N i) .kind) ≡ true → strong (basinsOf N) (arcs t (set (hungTo t s i) i 1)) ≡ false → NoneFrom i
+    pub none-lost : (i : ℕ) → i < length t → NoneFrom N s (suc i) → isGated ((reachAt N i) .kind) ≡ true → strong (basinsOf N) (arcs t (set (hungTo t s i) i 1)) ≡ false → NoneFrom N s i
     none-lost i l more g lost =
         none-from i l more
         (λ q e f up.
@@ -186,11 +179,11 @@ module _ (N : Network) (s : List ℕ) where
         clash (fits-strong N q (set (hungTo t s i) i 1) e (fits-set N q (hungTo t s i) i 1 (omega (arith, hung-length i (omega arith))) (alike-fits q i (omega arith) f) one)) lost)
 
     -- where the gate i cannot be hung as s has it, no plan is alike below suc i
-    pub none-stopped : (i : ℕ) → i < length t → strong (basinsOf N) (arcs t (hungTo t s (suc i))) ≡ false → NoneFrom (suc i)
+    pub none-stopped : (i : ℕ) → i < length t → strong (basinsOf N) (arcs t (hungTo t s (suc i))) ≡ false → NoneFrom N s (suc i)
     none-stopped i l lost q e later f = clash (fits-strong N q (hungTo t s (suc i)) e (alike-fits q (suc i) l f)) lost
 
     -- The least plan that parts upwards at the last gate at which one can is the next plan.
-    pub least-next : (i : ℕ) → i < length t → NoneFrom (suc i) → isGated ((reachAt N i) .kind) ≡ true → getD (ways t s) i 3 ≡ 0 → (r : List ℕ) → LeastPlan N (set (hungTo t s i) i 1) r → nextPlan N s ≡ some r
+    pub least-next : (i : ℕ) → i < length t → NoneFrom N s (suc i) → isGated ((reachAt N i) .kind) ≡ true → getD (ways t s) i 3 ≡ 0 → (r : List ℕ) → LeastPlan N (set (hungTo t s i) i 1) r → nextPlan N s ≡ some r
     least-next i l more g zero-at r m = next-unique N s r (m .is-plan) later earliest
       where
         room : i < length (hungTo t s i)
@@ -219,7 +212,7 @@ module _ (N : Network) (s : List ℕ) where
         earliest : (q : List ℕ) → isPlan N q ≡ true → before s q ≡ true → before q r ≡ false
         earliest q e after-s = fails (before q r) (λ below-r. go below-r (ℕ-discrete (getD (ways t q) i 3) (getD (ways t s) i 3)))
           where
-            q-alike : before q r ≡ true → Alike q i
+            q-alike : before q r ≡ true → Alike N s q i
             q-alike below-r =
                 between (ways t s) (ways t q) (ways t r) i 3 r-alike (order q e ∙ after-s)
                 (ways-order 0 t q r (setting-length N q (plan-setting N q e)) (setting-length N r (plan-setting N r (m .is-plan))) ∙ below-r)
@@ -230,5 +223,5 @@ module _ (N : Network) (s : List ℕ) where
                 let one : getD (ways t q) i 3 ≡ 1 = omega (arith, plan-gate-small N q i e l g, parts q i l e after-s (q-alike below-r) n) in
                 clash below-r (m .least q e (fits-set N q (hungTo t s i) i 1 room (alike-fits q i (omega arith) (q-alike below-r)) one))
 
-    pub none-next : NoneFrom 0 → nextPlan N s ≡ none
+    pub none-next : NoneFrom N s 0 → nextPlan N s ≡ none
     none-next f = next-never N s (λ q e later. f q e later (λ j l. absurd (not-suc-le-zero l)))

@@ -20,7 +20,7 @@ use Rattle.network.specs.Lone.{reachAt, isLone, lowestLone}
 use Rattle.network.specs.Marks.{markBytes, marksOf, marked, onesIn}
 use Rattle.network.specs.Replies.{Outcome, shutIn, lone, shutInBasin, shutInSide, loneSide, shutInFinding, loneFinding}
 use Rattle.network.proofs.Bools.{decide, fails, clash, not-true, not-passes}
-use Rattle.network.proofs.Finds.{every-fails, find-some, find-none, find-first, keep-in, elem-in, elem-has, elem-keep}
+use Rattle.network.proofs.Finds.{every-fails, find-some, find-none, find-first, keep-in, keep-same, elem-in, elem-has, elem-keep}
 use Rattle.network.proofs.Marks.{marked-is, unmarked-past, marks-same, count-is}
 use Rattle.network.proofs.Cuts.{reached-on, reached-self}
 use Rattle.network.proofs.Ways.{looser-within}
@@ -30,10 +30,6 @@ use Rattle.network.proofs.Theorem.{plan-passable, unhung-2}
 use Rattle.network.proofs.Replies.{lowest-is-lone}
 
 -- ---- marks of a set of basins
-
-keep-same : (p q : ℕ → Bool) (xs : List ℕ) → ((x : ℕ) → List·Memᴰ x xs → p x ≡ q x) → keep p xs ≡ keep q xs
-keep-same p q [] f = refl
-keep-same p q (x ∷ xs) f = rw (f x (List·Memᴰ·head refl), keep-same p q xs (λ y m. f y (List·Memᴰ·tail m)))
 
 module _ (N : Network) (ok : Accepted N) (S : List ℕ) (basins : (b : ℕ) → List·Memᴰ b S → List·Memᴰ b (basinsOf N)) where
   room : (b : ℕ) → List·Memᴰ b (basinsOf N) → b < 8 * markBytes

@@ -162,3 +162,8 @@ elem-in b xs h = let r = some-has (eqb b) xs h in Memᴰ·cast (eqb-true b (r .0
 
 pub elem-keep : (p : ℕ → Bool) {b : ℕ} {xs : List ℕ} → List·Memᴰ b xs → elem b (keep p xs) ≡ p b
 elem-keep p {b} {xs} m = same-test (elem b (keep p xs)) (p b) (λ e. (keep-in p xs (elem-in b (keep p xs) e)) .1) (λ e. elem-has (keep-has p m e))
+
+-- tests that agree on the members keep the same
+pub keep-same : (p q : ℕ → Bool) (xs : List ℕ) → ((x : ℕ) → List·Memᴰ x xs → p x ≡ q x) → keep p xs ≡ keep q xs
+keep-same p q [] f = refl
+keep-same p q (x ∷ xs) f = rw (f x (List·Memᴰ·head refl), keep-same p q xs (λ y m. f y (List·Memᴰ·tail m)))

@@ -202,7 +202,7 @@ every-getD p [] i d e l = absurd (not-suc-le-zero l)
 every-getD p (x ∷ xs) zero d e l = and-left (p x) _ e
 every-getD p (x ∷ xs) (suc i) d e l = every-getD p xs i d (and-right (p x) _ e) (le-of-suc-le-suc l)
 
-plain-small : (d : Kind) → isGated d ≡ false → way d [] ≤ 2
+pub plain-small : (d : Kind) → isGated d ≡ false → way d [] ≤ 2
 plain-small Gated e = absurd (true≢false e)
 plain-small Flap e = omega arith
 plain-small TwoWay e = omega arith

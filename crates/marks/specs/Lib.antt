@@ -1,0 +1,2 @@
+-- What the contracts of marks say: which basins are marked.
+pub mod Sets

@@ -1,0 +1,78 @@
+// Marks: a set of basins written as 32 bytes, and the count of marked basins.
+// Basin b is bit b mod 8, lowest bit first, of byte b div 8; unused bits are 0.
+ghost use mathlib.Core.Path.{_≡_};
+ghost use mathlib.Core.List.{_++_};
+ghost use Prim.Native.Nat.{_+_, _≤_, _<_};
+ghost use lib.ListN.{length, take, drop};
+ghost use Rattle.network.specs.Lists.{elem};
+ghost use Rattle.network.specs.Marks.{markBytes, bit, markByte, marksOf, onesIn};
+ghost use Rattle.network.specs.Words.{wordOf};
+ghost use Rattle.marks.specs.Sets.{markedSet};
+
+// The bytes of marks.
+pub const MARK_BYTES: usize = 32;
+
+// The bit of basin b: 1 where it is below n and its byte is x, and 0 elsewhere.
+fn mark_bit(n: usize, seen: &[u8], x: u8, b: usize) -> u8
+    requires { ⌜ n ≤ length (now seen) ⌝ }
+    ensures { λ r. ⌜ r ≡ bit (elem b (markedSet n (now (seen .entry)) x)) ⌝ }
+{
+    if b < n && seen[b] == x { 1 } else { 0 }
+}
+
+// Byte k of the marks, which takes the bits of its eight basins from the highest to the lowest.
+fn mark_byte(n: usize, seen: &[u8], x: u8, k: usize) -> u8
+    requires { ⌜ n ≤ length (now seen) ⌝ }
+    requires { ⌜ k < markBytes ⌝ }
+    ensures { λ r. ⌜ r ≡ markByte (markedSet n (now (seen .entry)) x) k ⌝ }
+{
+    let mut byte = 0;
+    let mut j = 0;
+    while j < 8 {
+        byte = 2 * byte + mark_bit(n, seen, x, 8 * k + 7 - j);
+        j += 1;
+    }
+    byte
+}
+
+// Writes the marks of the basins below n whose byte in `seen` is x.
+pub fn put_marks(n: usize, seen: &[u8], x: u8, marks: &mut [u8])
+    requires { ⌜ n ≤ length (now seen) ⌝ }
+    requires { ⌜ markBytes ≤ length (now marks) ⌝ }
+    ensures { λ _. ⌜ now (marks .exit) ≡ marksOf (markedSet n (now (seen .entry)) x) ++ drop markBytes (now (marks .entry)) ⌝ }
+{
+    let mut k = 0;
+    while k < MARK_BYTES {
+        marks[k] = mark_byte(n, seen, x, k);
+        k += 1;
+    }
+}
+
+// The eight bytes of marks from `at` on as one word, the lowest byte first.
+fn word_at(marks: &[u8], at: usize) -> u64
+    requires { ⌜ at + 8 ≤ length (now marks) ⌝ }
+    ensures { λ r. ⌜ r ≡ wordOf (take 8 (drop at (now (marks .entry)))) ⌝ }
+{
+    let mut word = 0;
+    let mut j = 0;
+    while j < 8 {
+        let byte = marks[at + 7 - j] as u64;
+        word = 256 * word + byte;
+        j += 1;
+    }
+    word
+}
+
+// The count of marked basins: the ones in the bytes of marks, taken as 64-bit words.
+pub fn count_marks(marks: &[u8]) -> u16
+    requires { ⌜ markBytes ≤ length (now marks) ⌝ }
+    ensures { λ r. ⌜ r ≡ onesIn (take markBytes (now (marks .entry))) ⌝ }
+{
+    let mut total = 0;
+    let mut at = 0;
+    while at < MARK_BYTES {
+        total += u64::count_ones(word_at(marks, at)) as u16;
+        at += 8;
+    }
+    total
+}

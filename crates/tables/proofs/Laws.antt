@@ -1,0 +1,130 @@
+-- Laws of a table lent as rows: what its kinds alone decide, its length, and its members.
+-- Assumes nothing.
+use Prim.Native.Nat.{ℕ, zero, suc, min, _≤_, _<_}
+use mathlib.Core.Path.{_≡_, refl, sym, ap}
+use mathlib.Core.Bool.{Bool, true, false, cond, _&&_}
+use mathlib.Core.List.{List, [], _∷_, map}
+use native.Mathlib.Nat.{not-suc-le-zero, le-of-suc-le-suc}
+use native.Mathlib.Omega.{arith}
+use lib.ListN.{length, getD, take, replicate}
+use lib.Dec.{leb, eqb}
+use Rattle.network.specs.declared.Kind.{Kind}
+use Rattle.network.specs.declared.Kind.the-variants.{Gated, Flap, TwoWay}
+use Rattle.network.specs.declared.Reach.{Reach}
+use Rattle.network.specs.Lists.{every}
+use Rattle.network.specs.Tables.{kindOf, tableOf}
+use Rattle.network.specs.Settings.{isGated, gatesFrom, isSetting}
+use Rattle.network.specs.Hangings.{way, after, ways}
+use Rattle.network.specs.Lone.{noReach}
+use Rattle.tables.specs.Rows.{netOf, gatesIn, waysRow, bytesRow}
+use Rattle.tables.specs.Partial.{bytesOf}
+
+-- the reach with a kind's number and two ends
+abbrev pub reachOf : ℕ → ℕ → ℕ → Reach
+reachOf k x y = record { kind = kindOf k; a = x; b = y }
+
+-- ---- rows of any lengths
+
+-- the length of the shortest row
+abbrev pub shortest : List ℕ → List ℕ → List ℕ → ℕ
+shortest ks xs ys = min (length ks) (min (length xs) (length ys))
+
+-- a table is as long as its shortest row
+pub table-short : (ks xs ys : List ℕ) → length (tableOf ks xs ys) ≡ shortest ks xs ys
+table-short [] xs ys = omega arith
+table-short (k ∷ ks) [] ys = omega arith
+table-short (k ∷ ks) (x ∷ xs) [] = omega arith
+table-short (k ∷ ks) (x ∷ xs) (y ∷ ys) = omega (arith, table-short ks xs ys)
+
+take-table : (m : ℕ) (ks xs ys : List ℕ) → length (tableOf ks xs ys) ≤ m → tableOf (take m ks) (take m xs) (take m ys) ≡ tableOf ks xs ys
+take-table zero [] xs ys l = refl
+take-table zero (k ∷ ks) [] ys l = refl
+take-table zero (k ∷ ks) (x ∷ xs) [] l = refl
+take-table zero (k ∷ ks) (x ∷ xs) (y ∷ ys) l = absurd (not-suc-le-zero l)
+take-table (suc m) [] xs ys l = refl
+take-table (suc m) (k ∷ ks) [] ys l = refl
+take-table (suc m) (k ∷ ks) (x ∷ xs) [] l = refl
+take-table (suc m) (k ∷ ks) (x ∷ xs) (y ∷ ys) l = ap (λ t. reachOf k x y ∷ t) (take-table m ks xs ys (le-of-suc-le-suc l))
+
+-- what stands beyond the shortest row counts for nothing
+pub table-take : (ks xs ys : List ℕ) → let m = shortest ks xs ys in tableOf (take m ks) (take m xs) (take m ys) ≡ tableOf ks xs ys
+table-take ks xs ys = take-table (shortest ks xs ys) ks xs ys (omega (arith, table-short ks xs ys))
+
+-- each reach has its kind and its ends from the rows
+pub table-at : (i : ℕ) (ks xs ys : List ℕ) → i < length (tableOf ks xs ys) → getD (tableOf ks xs ys) i noReach ≡ reachOf (getD ks i 0) (getD xs i 0) (getD ys i 0)
+table-at i [] xs ys l = absurd (not-suc-le-zero l)
+table-at i (k ∷ ks) [] ys l = absurd (not-suc-le-zero l)
+table-at i (k ∷ ks) (x ∷ xs) [] l = absurd (not-suc-le-zero l)
+table-at zero (k ∷ ks) (x ∷ xs) (y ∷ ys) l = refl
+table-at (suc i) (k ∷ ks) (x ∷ xs) (y ∷ ys) l = table-at i ks xs ys (le-of-suc-le-suc l)
+
+-- ---- rows of equal length
+
+-- Induction over rows of equal length.
+rows : (P : List ℕ → List ℕ → List ℕ → Type 0) → P [] [] [] → ((k x y : ℕ) (ks xs ys : List ℕ) → P ks xs ys → P (k ∷ ks) (x ∷ xs) (y ∷ ys))
+    → (ks xs ys : List ℕ) → length xs ≡ length ks → length ys ≡ length ks → P ks xs ys
+rows P z s [] [] [] e f = z
+rows P z s [] [] (y ∷ ys) e f = absurd (omega arith)
+rows P z s [] (x ∷ xs) ys e f = absurd (omega arith)
+rows P z s (k ∷ ks) [] ys e f = absurd (omega arith)
+rows P z s (k ∷ ks) (x ∷ xs) [] e f = absurd (omega arith)
+rows P z s (k ∷ ks) (x ∷ xs) (y ∷ ys) e f = s k x y ks xs ys (rows P z s ks xs ys (omega arith) (omega arith))
+
+length-gate : (b : Bool) (o : ℕ) (l : List ℕ) {n : ℕ} → length l ≡ n → length (cond b (o ∷ l) l) ≡ cond b (suc n) n
+length-gate true o l e = ap suc e
+length-gate false o l e = e
+
+module _ (ks xs ys : List ℕ) (e : length xs ≡ length ks) (f : length ys ≡ length ks) where
+  pub row-length : length (tableOf ks xs ys) ≡ length ks
+  row-length = omega (arith, table-short ks xs ys)
+
+  -- what the kinds alone decide
+  pub row-ways : (h : List ℕ) → ways (tableOf ks xs ys) h ≡ waysRow ks h
+  row-ways =
+      rows (λ ks xs ys. (h : List ℕ) → ways (tableOf ks xs ys) h ≡ waysRow ks h) (λ h. refl) (λ k x y ks xs ys r h. ap (λ ws. way (kindOf k) h ∷ ws) (r (after (kindOf k) h))) ks xs ys e f
+
+  pub row-bytes : (ws : List ℕ) → bytesOf (tableOf ks xs ys) ws ≡ bytesRow ks ws
+  row-bytes =
+      rows (λ ks xs ys. (ws : List ℕ) → bytesOf (tableOf ks xs ys) ws ≡ bytesRow ks ws) (λ ws. refl) (λ k x y ks xs ys r ws. elim ws [ [] ↦ refl | w ∷ vs ↦ ap (λ l. cond (isGated (kindOf k)) (w ∷ l) l) (r vs) ]) ks xs ys e f
+
+  pub row-gates : (o : ℕ) → length (gatesFrom o (tableOf ks xs ys)) ≡ gatesIn ks
+  row-gates =
+      rows (λ ks xs ys. (o : ℕ) → length (gatesFrom o (tableOf ks xs ys)) ≡ gatesIn ks) (λ o. refl) (λ k x y ks xs ys r o. length-gate (isGated (kindOf k)) o (gatesFrom (suc o) (tableOf ks xs ys)) (r (suc o))) ks xs ys e f
+
+  -- its members
+  row-reach : (i : ℕ) → i < length ks → getD (tableOf ks xs ys) i noReach ≡ reachOf (getD ks i 0) (getD xs i 0) (getD ys i 0)
+  row-reach i l = table-at i ks xs ys (omega (arith, row-length))
+
+  pub row-kind : (i : ℕ) → i < length ks → (getD (tableOf ks xs ys) i noReach) .kind ≡ kindOf (getD ks i 0)
+  row-kind i l = ap (λ r. r .kind) (row-reach i l)
+
+  pub row-a : (i : ℕ) → i < length ks → (getD (tableOf ks xs ys) i noReach) .a ≡ getD xs i 0
+  row-a i l = ap (λ r. r .a) (row-reach i l)
+
+  pub row-b : (i : ℕ) → i < length ks → (getD (tableOf ks xs ys) i noReach) .b ≡ getD ys i 0
+  row-b i l = ap (λ r. r .b) (row-reach i l)
+
+  pub row-ends-a : map (λ r. r .a) (tableOf ks xs ys) ≡ xs
+  row-ends-a = rows (λ ks xs ys. map (λ r. r .a) (tableOf ks xs ys) ≡ xs) refl (λ k x y ks xs ys r. ap (λ l. x ∷ l) r) ks xs ys e f
+
+  pub row-ends-b : map (λ r. r .b) (tableOf ks xs ys) ≡ ys
+  row-ends-b = rows (λ ks xs ys. map (λ r. r .b) (tableOf ks xs ys) ≡ ys) refl (λ k x y ks xs ys r. ap (λ l. y ∷ l) r) ks xs ys e f
+
+  -- a setting of the network, by the kinds
+  pub row-setting : (n : ℕ) (s : List ℕ) → isSetting (netOf n ks xs ys) s ≡ eqb (length s) (gatesIn ks) && every (λ x. leb x 1) s
+  unfolding isSetting
+  row-setting n s = rw (row-gates 0)
+
+-- ---- a table's ways
+
+after-unhung : (d : Kind) (t : List Reach) → ((g : ℕ) → ways t (replicate g 2) ≡ ways t []) → (g : ℕ)
+    → way d (replicate g 2) ∷ ways t (after d (replicate g 2)) ≡ way d [] ∷ ways t (after d [])
+after-unhung Gated t rest zero = refl
+after-unhung Gated t rest (suc g) = ap (λ ws. 2 ∷ ws) (rest g)
+after-unhung Flap t rest g = ap (λ ws. 0 ∷ ws) (rest g)
+after-unhung TwoWay t rest g = ap (λ ws. 2 ∷ ws) (rest g)
+
+-- gates that are all hung either way are as gates without a byte
+pub ways-unhung : (t : List Reach) (g : ℕ) → ways t (replicate g 2) ≡ ways t []
+ways-unhung [] g = refl
+ways-unhung (r ∷ t) g = after-unhung (r .kind) t (ways-unhung t) g
