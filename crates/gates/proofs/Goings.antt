@@ -72,12 +72,14 @@ module _ (N : Network) (ok : Accepted N) (ws : List ℕ) (i : ℕ) (below : i < 
             go : Dec (j ≡ i) → getD (set ws i x) j 3 ≡ way ((reachAt N j) .kind) []
             go (yes e) = clash g (subst (λ (k : ℕ). isGated ((reachAt N k) .kind) ≡ false) e n)
             go (no m) = getD-set-other ws i j x 3 m ∙ b .shaped j l n
+
         decided : Decided N (set ws i x) (suc i)
         decided j l h = go (ℕ-discrete j i)
           where
             go : Dec (j ≡ i) → getD (set ws i x) j 3 ≤ 1
             go (yes e) = rw (e, getD-set-same ws i x 3 room) small
             go (no m) = rw (getD-set-other ws i j x 3 m) (b .decided j (omega arith) h)
+
         undecided : Open N (set ws i x) (suc i)
         undecided j l k h = getD-set-other ws i j x 3 (omega arith) ∙ b .undecided j (omega arith) k h
 
@@ -91,6 +93,7 @@ module _ (N : Network) (ok : Accepted N) (ws : List ℕ) (i : ℕ) (below : i < 
       where
         plain : isGated ((reachAt N j) .kind) ≡ false → getD ws j 3 ≤ 2
         plain n = rw (b .shaped j l n) (plain-small ((reachAt N j) .kind) n)
+
         gated : isGated ((reachAt N j) .kind) ≡ true → getD ws j 3 ≤ 2
         gated y = go (decLt j i)
           where
@@ -146,19 +149,19 @@ module _ (N : Network) (ok : Accepted N) (ws₀ : List ℕ) (from : ℕ) (ws : L
     pub going-drawn : reached (arcs (N .reaches) (set ws i 3)) ((reachAt N i) .b) ((reachAt N i) .a) ≡ true → Going N ws₀ from (set ws i 0) (suc i)
     going-drawn e =
         let str = as-drawn ∙ e in
-        record
-        { begun = begun-hung N ok ws i below (w .begun) g 0 (omega arith) str
-        ; onward = λ s m. w .onward s (least-drawn N ws i below (w .begun .full) g (free N ok ws i below (w .begun) g) (w .begun .decided) s m)
-        ; clear = clear-more (not-lone N ok ws i below (w .begun) g 0 (omega arith) str)
+        record {
+          begun = begun-hung N ok ws i below (w .begun) g 0 (omega arith) str;
+          onward = λ s m. w .onward s (least-drawn N ws i below (w .begun .full) g (free N ok ws i below (w .begun) g) (w .begun .decided) s m);
+          clear = clear-more (not-lone N ok ws i below (w .begun) g 0 (omega arith) str);
         }
 
     pub going-turned : reached (arcs (N .reaches) (set ws i 3)) ((reachAt N i) .b) ((reachAt N i) .a) ≡ false → reached (arcs (N .reaches) (set ws i 3)) ((reachAt N i) .a) ((reachAt N i) .b) ≡ true → Going N ws₀ from (set ws i 1) (suc i)
     going-turned n e =
         let str = as-turned ∙ e in
-        record
-        { begun = begun-hung N ok ws i below (w .begun) g 1 (omega arith) str
-        ; onward = λ s m. w .onward s (least-turned N ws i below (w .begun .full) g (free N ok ws i below (w .begun) g) (as-drawn ∙ n) s m)
-        ; clear = clear-more (not-lone N ok ws i below (w .begun) g 1 (omega arith) str)
+        record {
+          begun = begun-hung N ok ws i below (w .begun) g 1 (omega arith) str;
+          onward = λ s m. w .onward s (least-turned N ws i below (w .begun .full) g (free N ok ws i below (w .begun) g) (as-drawn ∙ n) s m);
+          clear = clear-more (not-lone N ok ws i below (w .begun) g 1 (omega arith) str);
         }
 
 -- all gates are decided

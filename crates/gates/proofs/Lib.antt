@@ -3,3 +3,4 @@ pub mod Readies
 pub mod Least
 pub mod Nexts
 pub mod Goings
+pub mod Rows

@@ -6,8 +6,11 @@ use mathlib.Core.Path.{_≡_, refl, sym, ap, subst, _∙_}
 use mathlib.Core.Bool.{Bool, true, false}
 use mathlib.Core.Logic.{_⊎_, inl, inr, ⊎-elim}
 use mathlib.Core.List.{List, [], _∷_, _++_, map, List·Memᴰ, List·Memᴰ·head, List·Memᴰ·tail, List·Memᴰ·cases-cons, List·Memᴰ·not-nil, Memᴰ·append-left, Memᴰ·append-right, List·Memᴰ·append-cases}
-use lib.ListN.{length, getD, length-map}
+use lib.ListN.{length, getD, set}
+use lib.Seq.{set-set}
 use Rattle.network.specs.Lists.{range}
+use Rattle.network.specs.Tables.{kindOf}
+use Rattle.network.specs.Settings.{isGated}
 use Rattle.network.specs.Hangings.{Arc, passing, reached}
 use Rattle.network.specs.Plans.{reachesAll}
 use Rattle.network.specs.Marks.{bit}
@@ -18,7 +21,7 @@ use Rattle.search.specs.Ends.{arcsOf}
 use Rattle.search.specs.Searches.{Searchable, Searched}
 use Rattle.search.proofs.Laws.{reached-turned}
 use Rattle.gates.specs.Ready.{Ready, flipWay, FirstUnseen, Missed, Weakest}
-use Rattle.gates.specs.Hung.{Leads}
+use Rattle.gates.specs.Hung.{Leads, leftOut, Tried, hung, lost, HungGate, drawn, turned, stuck}
 
 pub searchable : {n : ℕ} {xs ys ws head next seen queue : List ℕ} (start : ℕ) → Ready n xs ys ws head next seen queue → start < n → Searchable n xs ys ws head next start seen queue
 searchable start r l =
@@ -36,6 +39,45 @@ ready-notes seen′ queue′ r e f =
 pub searched-leads : {A : List Arc} {n u v : ℕ} {seen : List ℕ} {r : Bool} → Searched A n u v seen r → Leads A n u v seen r
 searched-leads s = record { found = s .found; noted = s .whole }
 
+-- a reach that was left out gets its way, or is usable either way again
+pub tried-hung : {A : List Arc} {n u v : ℕ} {seen : List ℕ} {r : Bool} (ws : List ℕ) (i x : ℕ) → Leads A n u v seen r → r ≡ true → Tried A n u v x ws i (set (set ws i 3) i x) seen true
+tried-hung ws i x l e = hung (sym (l .found) ∙ e) (set-set ws i 3 x) refl
+
+pub tried-lost : {A : List Arc} {n u v x : ℕ} {seen : List ℕ} {r : Bool} (ws : List ℕ) (i : ℕ) → Leads A n u v seen r → r ≡ false → Tried A n u v x ws i (set (set ws i 3) i 2) seen false
+tried-lost ws i l e = lost (sym (l .found) ∙ e) (set-set ws i 3 2) refl (l .noted e)
+
+-- ---- a gate
+
+-- a reach is a gate exactly if its kind is 0
+pub kind-gate : (k : ℕ) → k ≡ 0 → isGated (kindOf k) ≡ true
+kind-gate k e = rw e
+
+pub kind-plain : (k : ℕ) → (k ≡ 0 → ⊥) → isGated (kindOf k) ≡ false
+kind-plain zero n = absurd (n refl)
+kind-plain (suc zero) n = refl
+kind-plain (suc (suc k)) n = refl
+
+module _ {n : ℕ} (ks : List ℕ) {xs ys : List ℕ} (ws : List ℕ) (i : ℕ) (g : isGated (kindOf (getD ks i 0)) ≡ true) {ws₁ seen₁ : List ℕ} {r₁ : Bool} where
+  -- the first try succeeded
+  pub gate-drawn : Tried (leftOut xs ys ws i) n (getD ys i 0) (getD xs i 0) 0 ws i ws₁ seen₁ r₁ → r₁ ≡ true → HungGate n ks xs ys ws i ws₁ seen₁ true
+  gate-drawn (hung p e q) y = drawn g p e refl
+  gate-drawn (lost p e q f) y = clash y q
+
+  -- it did not, and the second decides
+  pub gate-turned : {ws₂ seen₂ : List ℕ} {r₂ : Bool} → Tried (leftOut xs ys ws i) n (getD ys i 0) (getD xs i 0) 0 ws i ws₁ seen₁ r₁ → r₁ ≡ false
+      → Tried (leftOut xs ys ws₁ i) n (getD xs i 0) (getD ys i 0) 1 ws₁ i ws₂ seen₂ r₂ → HungGate n ks xs ys ws i ws₂ seen₂ r₂
+  gate-turned (hung p e q) y t = clash q y
+  gate-turned (lost p e q f) y t = second t
+    where
+      same : leftOut xs ys ws₁ i ≡ leftOut xs ys ws i
+      same = ap (λ (v : List ℕ). leftOut xs ys v i) e ∙ ap (arcsOf xs ys) (set-set ws i 2 3)
+
+      second : {ws₂ seen₂ : List ℕ} {r₂ : Bool} → Tried (leftOut xs ys ws₁ i) n (getD xs i 0) (getD ys i 0) 1 ws₁ i ws₂ seen₂ r₂ → HungGate n ks xs ys ws i ws₂ seen₂ r₂
+      second (hung p′ e′ q′) = turned g p (subst (λ (A : List Arc). reached A (getD xs i 0) (getD ys i 0) ≡ true) same p′) (e′ ∙ ap (λ (v : List ℕ). set v i 1) e ∙ set-set ws i 2 1) q′
+      second {seen₂} (lost p′ e′ q′ f′) =
+          stuck g p (subst (λ (A : List Arc). reached A (getD xs i 0) (getD ys i 0) ≡ false) same p′) q′
+          (subst (λ (A : List Arc). (v : ℕ) → v < n → getD seen₂ v 0 ≡ bit (reached A (getD xs i 0) v)) same f′)
+
 -- ---- all basins
 
 bit-0 : (b : Bool) → bit b ≡ 0 → b ≡ false
@@ -50,11 +92,11 @@ bit-above false e = absurd (omega arith)
 pub missed-first : {A : List Arc} {n start goal : ℕ} {seen : List ℕ} {r : ℕ} {found : Bool} → n ≤ goal → Searched A n start goal seen found → FirstUnseen n seen r → Missed A n start seen r
 missed-first {A} {n} {start} {goal} {seen} {r} far s f =
     let noted : (v : ℕ) → v < n → getD seen v 0 ≡ bit (reached A start v) = s .whole (s .outside far) in
-    record
-    { bound = f .bound
-    ; lower = λ v l. bit-above (reached A start v) (subst (λ (x : ℕ). 0 < x) (noted v (omega (arith, f .bound))) (f .lower v l))
-    ; at = λ l. bit-0 (reached A start r) (sym (noted r l) ∙ f .at l)
-    ; noted = noted
+    record {
+      bound = f .bound;
+      lower = λ v l. bit-above (reached A start v) (subst (λ (x : ℕ). 0 < x) (noted v (omega (arith, f .bound))) (f .lower v l));
+      at = λ l. bit-0 (reached A start r) (sym (noted r l) ∙ f .at l);
+      noted = noted;
     }
 
 -- ---- against the arrows
@@ -95,23 +137,23 @@ reached-flipped xs ys ws u v = reached-same (arcsOf xs ys (map flipWay ws)) (arc
 -- basin 0 does not
 pub weakest-0 : {A : List Arc} {n r : ℕ} {seen : List ℕ} → Missed A n 0 seen r → r < n → Weakest A n 0
 weakest-0 {A} {n} {r} m l =
-    record
-    { bound = omega arith
-    ; lower = λ u k. absurd (omega arith)
-    ; at = λ k. fails (reachesAll (range 0 n) A 0) (λ e. clash (every-at (reached A 0) e (range-has 0 n (omega arith) (omega arith))) (m .at l))
+    record {
+      bound = omega arith;
+      lower = λ u k. absurd (omega arith);
+      at = λ k. fails (reachesAll (range 0 n) A 0) (λ e. clash (every-at (reached A 0) e (range-has 0 n (omega arith) (omega arith))) (m .at l));
     }
 
 -- it does, and so does each basin that leads to it
 pub weakest-back : {A B : List Arc} {n r : ℕ} {seen seen′ : List ℕ} → 0 < n → Missed A n 0 seen n → ((u v : ℕ) → reached B u v ≡ reached A v u) → Missed B n 0 seen′ r → Weakest A n r
-weakest-back {A} {B} {n} {r} pos m turned k =
-    record
-    { bound = k .bound
-    ; lower = λ u l.
-        every-make (reached A u) (range 0 n)
-        (λ v mv.
-        walk-reached
-        (walk-trans (reached-walk A u 0 (sym (turned 0 u) ∙ k .lower u l)) (reached-walk A 0 v (m .lower v (omega (arith, (range-in 0 n mv) .1))))))
-    ; at = λ l.
-        fails (reachesAll (range 0 n) A r)
-        (λ e. clash (every-at (reached A r) e (range-has 0 n (omega arith) (omega arith))) (sym (turned 0 r) ∙ k .at l))
+weakest-back {A} {B} {n} {r} pos m against k =
+    record {
+      bound = k .bound;
+      lower = λ u l.
+          every-make (reached A u) (range 0 n)
+          (λ v mv.
+          walk-reached
+          (walk-trans (reached-walk A u 0 (sym (against 0 u) ∙ k .lower u l)) (reached-walk A 0 v (m .lower v (omega (arith, (range-in 0 n mv) .1))))));
+      at = λ l.
+          fails (reachesAll (range 0 n) A r)
+          (λ e. clash (every-at (reached A r) e (range-has 0 n (omega arith) (omega arith))) (sym (against 0 r) ∙ k .at l));
     }

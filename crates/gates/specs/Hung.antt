@@ -5,6 +5,8 @@ use mathlib.Core.Path.{_≡_}
 use mathlib.Core.Bool.{Bool, true, false}
 use mathlib.Core.List.{List}
 use lib.ListN.{getD, set}
+use Rattle.network.specs.Tables.{kindOf}
+use Rattle.network.specs.Settings.{isGated}
 use Rattle.network.specs.Hangings.{Arc, reached}
 use Rattle.network.specs.Marks.{bit}
 use Rattle.search.specs.Ends.{arcsOf}
@@ -18,10 +20,19 @@ pub record Leads (A : List Arc) (n u v : ℕ) (seen : List ℕ) (r : Bool) : Typ
 abbrev pub leftOut : List ℕ → List ℕ → List ℕ → ℕ → List Arc
 leftOut xs ys ws i = arcsOf xs ys (set ws i 3)
 
--- Reach i hung as drawn if its end B leads to A without it, else turned if A leads to B, else left out.
-pub data HungGate (n : ℕ) (xs ys ws : List ℕ) (i : ℕ) : List ℕ → List ℕ → Bool → Type 0 where
-  drawn : {seen : List ℕ} → reached (leftOut xs ys ws i) (getD ys i 0) (getD xs i 0) ≡ true → HungGate n xs ys ws i (set ws i 0) seen true
-  turned : {seen : List ℕ} → reached (leftOut xs ys ws i) (getD ys i 0) (getD xs i 0) ≡ false → reached (leftOut xs ys ws i) (getD xs i 0) (getD ys i 0) ≡ true
-      → HungGate n xs ys ws i (set ws i 1) seen true
-  stuck : {seen : List ℕ} → reached (leftOut xs ys ws i) (getD ys i 0) (getD xs i 0) ≡ false → reached (leftOut xs ys ws i) (getD xs i 0) (getD ys i 0) ≡ false
-      → ((v : ℕ) → v < n → getD seen v 0 ≡ bit (reached (leftOut xs ys ws i) (getD xs i 0) v)) → HungGate n xs ys ws i (set ws i 3) seen false
+-- Reach i got the way x if u leads to v along A; otherwise it is usable either way, and seen holds what is reached from u.
+pub data Tried (A : List Arc) (n u v x : ℕ) (ws : List ℕ) (i : ℕ) : List ℕ → List ℕ → Bool → Type 0 where
+  hung : {ws′ seen : List ℕ} {r : Bool} → reached A u v ≡ true → ws′ ≡ set ws i x → r ≡ true → Tried A n u v x ws i ws′ seen r
+  lost : {ws′ seen : List ℕ} {r : Bool} → reached A u v ≡ false → ws′ ≡ set ws i 2 → r ≡ false
+      → ((w : ℕ) → w < n → getD seen w 0 ≡ bit (reached A u w)) → Tried A n u v x ws i ws′ seen r
+
+-- Reach i, if it is a gate, hung as drawn if its end B leads to A without it, else turned if A leads to B; else usable either way.
+pub data HungGate (n : ℕ) (ks xs ys ws : List ℕ) (i : ℕ) : List ℕ → List ℕ → Bool → Type 0 where
+  no-gate : {ws′ seen : List ℕ} {r : Bool} → isGated (kindOf (getD ks i 0)) ≡ false → ws′ ≡ ws → r ≡ true → HungGate n ks xs ys ws i ws′ seen r
+  drawn : {ws′ seen : List ℕ} {r : Bool} → isGated (kindOf (getD ks i 0)) ≡ true → reached (leftOut xs ys ws i) (getD ys i 0) (getD xs i 0) ≡ true
+      → ws′ ≡ set ws i 0 → r ≡ true → HungGate n ks xs ys ws i ws′ seen r
+  turned : {ws′ seen : List ℕ} {r : Bool} → isGated (kindOf (getD ks i 0)) ≡ true → reached (leftOut xs ys ws i) (getD ys i 0) (getD xs i 0) ≡ false
+      → reached (leftOut xs ys ws i) (getD xs i 0) (getD ys i 0) ≡ true → ws′ ≡ set ws i 1 → r ≡ true → HungGate n ks xs ys ws i ws′ seen r
+  stuck : {ws′ seen : List ℕ} {r : Bool} → isGated (kindOf (getD ks i 0)) ≡ true → reached (leftOut xs ys ws i) (getD ys i 0) (getD xs i 0) ≡ false
+      → reached (leftOut xs ys ws i) (getD xs i 0) (getD ys i 0) ≡ false → r ≡ false
+      → ((v : ℕ) → v < n → getD seen v 0 ≡ bit (reached (leftOut xs ys ws i) (getD xs i 0) v)) → HungGate n ks xs ys ws i ws′ seen r

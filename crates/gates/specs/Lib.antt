@@ -3,3 +3,4 @@ pub mod Ready
 pub mod Least
 pub mod Hung
 pub mod Greedy
+pub mod Follows

@@ -5,10 +5,12 @@ ghost use mathlib.Core.Path.{_≡_};
 ghost use mathlib.Core.List.{map};
 ghost use Prim.Native.Nat.{_≤_, _<_};
 ghost use lib.ListN.{length, getD, set};
-ghost use Rattle.network.specs.Hangings.{reached};
+ghost use Rattle.network.specs.Networks.{Accepted};
+ghost use Rattle.tables.specs.Rows.{netOf};
 ghost use Rattle.search.specs.Ends.{arcsOf};
 ghost use Rattle.gates.specs.Ready.{Ready, flipWay, FirstUnseen, Missed, Weakest};
-ghost use Rattle.gates.specs.Hung.{Leads, HungGate};
+ghost use Rattle.gates.specs.Hung.{Leads, leftOut, Tried, HungGate};
+ghost use Rattle.gates.specs.Greedy.{Begun, Greedy};
 use search::NONE;
 
 // The way against the arrows.
@@ -132,8 +134,8 @@ fn leads_on(
     search::search(n, a, b, ways, head, next, a[i], b[i], seen, queue)
 }
 
-// Hangs reach i as drawn if that loses nothing, else turned if that does not. Otherwise it stays left out, and seen holds what its end A leads to.
-fn hang_gate(
+// Hangs reach i as drawn if that loses nothing; otherwise it is usable either way, and seen holds what its end B leads to without it.
+fn try_drawn(
     n: usize,
     a: &[u16],
     b: &[u16],
@@ -146,16 +148,97 @@ fn hang_gate(
 ) -> bool
     requires { ⌜ Ready n (now a) (now b) (now ways) (now head) (now next) (now seen) (now queue) ⌝ }
     requires { ⌜ i < length (now a) ⌝ }
-    ensures { λ r. ⌜ HungGate n (now (a .entry)) (now (b .entry)) (now (ways .entry)) i (now (ways .exit)) (now (seen .exit)) r ⌝ }
+    ensures { λ r. ⌜ Tried (leftOut (now (a .entry)) (now (b .entry)) (now (ways .entry)) i) n (getD (now (b .entry)) i 0) (getD (now (a .entry)) i 0) 0
+        (now (ways .entry)) i (now (ways .exit)) (now (seen .exit)) r ⌝ }
 {
     ways[i] = 3;
     if leads_back(n, a, b, ways, head, next, i, seen, queue) {
         ways[i] = 0;
         return true;
     }
+    ways[i] = 2;
+    false
+}
+
+// Hangs reach i turned if that loses nothing; otherwise it is usable either way, and seen holds what its end A leads to without it.
+fn try_turned(
+    n: usize,
+    a: &[u16],
+    b: &[u16],
+    ways: &mut [u8],
+    head: &[u16],
+    next: &[u16],
+    i: usize,
+    seen: &mut [u8],
+    queue: &mut [u16],
+) -> bool
+    requires { ⌜ Ready n (now a) (now b) (now ways) (now head) (now next) (now seen) (now queue) ⌝ }
+    requires { ⌜ i < length (now a) ⌝ }
+    ensures { λ r. ⌜ Tried (leftOut (now (a .entry)) (now (b .entry)) (now (ways .entry)) i) n (getD (now (a .entry)) i 0) (getD (now (b .entry)) i 0) 1
+        (now (ways .entry)) i (now (ways .exit)) (now (seen .exit)) r ⌝ }
+{
+    ways[i] = 3;
     if leads_on(n, a, b, ways, head, next, i, seen, queue) {
         ways[i] = 1;
         return true;
     }
+    ways[i] = 2;
     false
+}
+
+// Hangs reach i, if it is a gate, as drawn where that loses nothing, else turned where that does not. Says whether it could.
+fn hang_gate(
+    n: usize,
+    kinds: &[u8],
+    a: &[u16],
+    b: &[u16],
+    ways: &mut [u8],
+    head: &[u16],
+    next: &[u16],
+    i: usize,
+    seen: &mut [u8],
+    queue: &mut [u16],
+) -> bool
+    requires { ⌜ Ready n (now a) (now b) (now ways) (now head) (now next) (now seen) (now queue) ⌝ }
+    requires { ⌜ length (now kinds) ≡ length (now a) ⌝ }
+    requires { ⌜ i < length (now a) ⌝ }
+    ensures { λ r. ⌜ HungGate n (now (kinds .entry)) (now (a .entry)) (now (b .entry)) (now (ways .entry)) i (now (ways .exit)) (now (seen .exit)) r ⌝ }
+{
+    if kinds[i] != 0 {
+        return true;
+    }
+    if try_drawn(n, a, b, ways, head, next, i, seen, queue) {
+        return true;
+    }
+    try_turned(n, a, b, ways, head, next, i, seen, queue)
+}
+
+// Hangs the gates from reach `from` on, one after the other. Returns the number of reaches, or the first gate that can be hung neither way.
+pub fn greedy(
+    n: usize,
+    kinds: &[u8],
+    a: &[u16],
+    b: &[u16],
+    ways: &mut [u8],
+    head: &[u16],
+    next: &[u16],
+    from: usize,
+    seen: &mut [u8],
+    queue: &mut [u16],
+) -> usize
+    requires { ⌜ Ready n (now a) (now b) (now ways) (now head) (now next) (now seen) (now queue) ⌝ }
+    requires { ⌜ length (now kinds) ≡ length (now a) ⌝ }
+    requires { ⌜ Accepted (netOf n (now kinds) (now a) (now b)) ⌝ }
+    requires { ⌜ from ≤ length (now a) ⌝ }
+    requires { ⌜ Begun (netOf n (now kinds) (now a) (now b)) (now ways) from ⌝ }
+    ensures { λ r. ⌜ Greedy (netOf n (now (kinds .entry)) (now (a .entry)) (now (b .entry))) (now (ways .entry)) from (now (ways .exit)) (now (seen .exit)) r ⌝ }
+{
+    let mut i = from;
+    while i < a.len() {
+        if !hang_gate(n, kinds, a, b, ways, head, next, i, seen, queue) {
+            return i;
+        }
+        i += 1;
+    }
+    i
 }

@@ -1,7 +1,7 @@
 -- Laws of a table lent as rows: what its kinds alone decide, its length, and its members.
 -- Assumes nothing.
 use Prim.Native.Nat.{ℕ, zero, suc, min, _≤_, _<_}
-use mathlib.Core.Path.{_≡_, refl, sym, ap}
+use mathlib.Core.Path.{_≡_, refl, ap}
 use mathlib.Core.Bool.{Bool, true, false, cond, _&&_}
 use mathlib.Core.List.{List, [], _∷_, map}
 use native.Mathlib.Nat.{not-suc-le-zero, le-of-suc-le-suc}

@@ -1,3 +1,4 @@
--- The reach table as rows of numbers, and ways of which some gates are hung.
+-- The reach table as rows of numbers, ways of which some gates are hung, and the answer to a table.
 pub mod Rows
 pub mod Partial
+pub mod Answers

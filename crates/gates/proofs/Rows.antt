@@ -1,0 +1,69 @@
+-- The gates of a network lent as rows: what the searches over its ends say of the network.
+-- Assumes nothing.
+use Prim.Native.Nat.{ℕ, zero, suc, _+_, _≤_, _<_}
+use native.Mathlib.Omega.{arith}
+use mathlib.Core.Path.{_≡_, refl, sym, ap, ap₂, subst, subst⁻¹, _∙_}
+use mathlib.Core.Bool.{Bool, true, false}
+use mathlib.Core.List.{List}
+use lib.ListN.{length, getD, set}
+use Rattle.network.specs.Networks.{Network, Accepted}
+use Rattle.network.specs.Tables.{kindOf, tableOf}
+use Rattle.network.specs.Settings.{isGated}
+use Rattle.network.specs.Hangings.{Arc, arcs, reached}
+use Rattle.network.specs.Lone.{reachAt, isLone}
+use Rattle.network.specs.Marks.{bit}
+use Rattle.network.proofs.Bools.{clash}
+use Rattle.search.specs.Ends.{arcsOf}
+use Rattle.search.proofs.Laws.{arcs-ends}
+use Rattle.tables.specs.Rows.{netOf}
+use Rattle.tables.proofs.Laws.{row-length, row-kind, row-a, row-b, row-ends-a, row-ends-b}
+use Rattle.gates.specs.Hung.{leftOut, HungGate, no-gate, drawn, turned, stuck}
+use Rattle.gates.specs.Greedy.{Begun, Greedy, all-hung, stuck-at}
+use Rattle.gates.proofs.Goings.{Going, going-plain, going-drawn, going-turned, going-end, stuck-cut, stuck-is-lone}
+
+module _ (n : ℕ) (ks xs ys : List ℕ) (ea : length xs ≡ length ks) (eb : length ys ≡ length ks) where
+  pub row-arcs : (ws : List ℕ) → arcs (tableOf ks xs ys) ws ≡ arcsOf xs ys ws
+  row-arcs ws = arcs-ends (tableOf ks xs ys) ws ∙ ap₂ (λ (u v : List ℕ). arcsOf u v ws) (row-ends-a ks xs ys ea eb) (row-ends-b ks xs ys ea eb)
+
+  pub row-below : (i : ℕ) → i < length ks → i < length (tableOf ks xs ys)
+  row-below i l = omega (arith, row-length ks xs ys ea eb)
+
+  -- whether a gate can be hung, said of the network
+  pub row-reached : (ws : List ℕ) (i : ℕ) → i < length ks → reached (arcs (tableOf ks xs ys) (set ws i 3)) ((reachAt (netOf n ks xs ys) i) .b) ((reachAt (netOf n ks xs ys) i) .a) ≡ reached (leftOut xs ys ws i) (getD ys i 0) (getD xs i 0)
+  row-reached ws i l = rw (row-arcs (set ws i 3), row-a ks xs ys ea eb i l, row-b ks xs ys ea eb i l)
+
+  pub row-reached-on : (ws : List ℕ) (i : ℕ) → i < length ks → reached (arcs (tableOf ks xs ys) (set ws i 3)) ((reachAt (netOf n ks xs ys) i) .a) ((reachAt (netOf n ks xs ys) i) .b) ≡ reached (leftOut xs ys ws i) (getD xs i 0) (getD ys i 0)
+  row-reached-on ws i l = rw (row-arcs (set ws i 3), row-a ks xs ys ea eb i l, row-b ks xs ys ea eb i l)
+
+  pub row-gated : (i : ℕ) (b : Bool) → i < length ks → isGated (kindOf (getD ks i 0)) ≡ b → isGated ((reachAt (netOf n ks xs ys) i) .kind) ≡ b
+  row-gated i b l e = ap isGated (row-kind ks xs ys ea eb i l) ∙ e
+
+  module _ (ok : Accepted (netOf n ks xs ys)) (ws₀ : List ℕ) (from : ℕ) (ws : List ℕ) (i : ℕ) (l : i < length ks) (w : Going (netOf n ks xs ys) ws₀ from ws i) where
+    -- one reach more
+    pub going-on : {ws′ seen : List ℕ} {r : Bool} → HungGate n ks xs ys ws i ws′ seen r → r ≡ true → Going (netOf n ks xs ys) ws₀ from ws′ (suc i)
+    going-on (no-gate g e q) y = subst⁻¹ (λ (v : List ℕ). Going (netOf n ks xs ys) ws₀ from v (suc i)) e (going-plain (netOf n ks xs ys) ok ws₀ from ws i (row-below i l) w (row-gated i false l g))
+    going-on (drawn g p e q) y =
+        subst⁻¹ (λ (v : List ℕ). Going (netOf n ks xs ys) ws₀ from v (suc i)) e
+        (going-drawn (netOf n ks xs ys) ok ws₀ from ws i (row-below i l) w (row-gated i true l g) (row-reached ws i l ∙ p))
+    going-on (turned g p p′ e q) y =
+        subst⁻¹ (λ (v : List ℕ). Going (netOf n ks xs ys) ws₀ from v (suc i)) e
+        (going-turned (netOf n ks xs ys) ok ws₀ from ws i (row-below i l) w (row-gated i true l g) (row-reached ws i l ∙ p) (row-reached-on ws i l ∙ p′))
+    going-on (stuck g p p′ q f) y = clash y q
+
+    -- or the gate that can be hung neither way
+    pub going-stuck : {ws′ seen : List ℕ} {r : Bool} (ws″ : List ℕ) → HungGate n ks xs ys ws i ws′ seen r → r ≡ false → Greedy (netOf n ks xs ys) ws₀ from ws″ seen i
+    going-stuck ws″ (no-gate g e q) y = clash q y
+    going-stuck ws″ (drawn g p e q) y = clash q y
+    going-stuck ws″ (turned g p p′ e q) y = clash q y
+    going-stuck {seen} ws″ (stuck g p p′ q f) y =
+        let gate = row-gated i true l g in
+        let ba = row-reached ws i l ∙ p in
+        let ab = row-reached-on ws i l ∙ p′ in
+        stuck-at (row-below i l) (stuck-is-lone (netOf n ks xs ys) ok ws i (row-below i l) (w .begun) gate ba ab) (w .clear)
+        (stuck-cut (netOf n ks xs ys) ok ws i (row-below i l) (w .begun) gate ba ab seen
+        (λ v k. f v k ∙ sym (ap bit (ap₂ (λ (A : List Arc) (u : ℕ). reached A u v) (row-arcs (set ws i 3)) (row-a ks xs ys ea eb i l)))))
+
+  pub going-done : (ws₀ : List ℕ) (from : ℕ) (ws seen : List ℕ) (i : ℕ) → i ≡ length ks → Going (netOf n ks xs ys) ws₀ from ws i → Greedy (netOf n ks xs ys) ws₀ from ws seen i
+  going-done ws₀ from ws seen i e w =
+      let same : i ≡ length (tableOf ks xs ys) = e ∙ sym (row-length ks xs ys ea eb) in
+      all-hung same (going-end (netOf n ks xs ys) ws₀ from ws (subst (λ (j : ℕ). Going (netOf n ks xs ys) ws₀ from ws j) same w))

@@ -1,0 +1,58 @@
+-- Which fault a network lent as rows has, by the tests of its table in their order.
+-- Assumes nothing.
+use Prim.Native.Nat.{ℕ, _≤_, _<_}
+use mathlib.Core.Path.{_≡_}
+use mathlib.Core.Bool.{Bool, true, false, _&&_}
+use mathlib.Core.List.{List}
+use mathlib.Core.Option.{none, some}
+use lib.ListN.{length, getD}
+use lib.Dec.{leb, ltb}
+use borrow.Author.Tests.{leb-true, ltb-true, le-leb, lt-ltb}
+use Rattle.network.specs.declared.Reach.{Reach}
+use Rattle.network.specs.declared.Refusal.the-variants.{BasinCount, TooManyReaches, EndOutOfRange}
+use Rattle.network.specs.Networks.{Network, maxBasins, goodCount, goodLength, goodEnds, tableFault}
+use Rattle.network.specs.Tables.{tableOf}
+use Rattle.network.specs.Lone.{noReach}
+use Rattle.network.proofs.Bools.{and-left, and-right, and-make, fails}
+use Rattle.tables.proofs.Laws.{table-at}
+
+module _ (N : Network) where
+  -- the basin count, by the number
+  pub count-good : 1 ≤ N .basins → N .basins ≤ maxBasins → goodCount N ≡ true
+  count-good p q = and-make (le-leb 1 (N .basins) p) (le-leb (N .basins) maxBasins q)
+
+  pub count-bad : (1 ≤ N .basins → N .basins ≤ maxBasins → ⊥) → goodCount N ≡ false
+  count-bad n =
+      let some-basin = leb 1 (N .basins) in
+      fails (goodCount N) (λ e. n (leb-true 1 (N .basins) (and-left some-basin _ e)) (leb-true (N .basins) maxBasins (and-right some-basin _ e)))
+
+  -- the first test that fails decides
+  pub fault-count : goodCount N ≡ false → tableFault N ≡ some BasinCount
+  unfolding tableFault
+  fault-count e = rw e
+
+  pub fault-length : goodCount N ≡ true → goodLength N ≡ false → tableFault N ≡ some TooManyReaches
+  unfolding tableFault
+  fault-length e f = rw (e, f)
+
+  pub fault-ends : goodCount N ≡ true → goodLength N ≡ true → goodEnds N ≡ false → tableFault N ≡ some EndOutOfRange
+  unfolding tableFault
+  fault-ends e f g = rw (e, f, g)
+
+  pub fault-none : goodCount N ≡ true → goodLength N ≡ true → goodEnds N ≡ true → tableFault N ≡ none
+  unfolding tableFault
+  fault-none e f g = rw (e, f, g)
+
+-- both ends of a reach are below the basin count
+abbrev pub endsBelow : ℕ → Reach → Bool
+endsBelow n r = ltb (r .a) n && ltb (r .b) n
+
+module _ (n i : ℕ) (ks xs ys : List ℕ) (l : i < length (tableOf ks xs ys)) where
+  -- by the two numbers in the rows
+  pub ends-good : getD xs i 0 < n → getD ys i 0 < n → endsBelow n (getD (tableOf ks xs ys) i noReach) ≡ true
+  ends-good p q = rw (table-at i ks xs ys l) (and-make (lt-ltb (getD xs i 0) n p) (lt-ltb (getD ys i 0) n q))
+
+  pub ends-bad : (getD xs i 0 < n → getD ys i 0 < n → ⊥) → endsBelow n (getD (tableOf ks xs ys) i noReach) ≡ false
+  ends-bad f =
+      let below = ltb (getD xs i 0) n in
+      rw (table-at i ks xs ys l) (fails (below && ltb (getD ys i 0) n) (λ e. f (ltb-true (getD xs i 0) n (and-left below _ e)) (ltb-true (getD ys i 0) n (and-right below _ e))))

@@ -1,0 +1,11 @@
+-- What a table gets as an answer.
+-- Assumes nothing.
+use mathlib.Core.Option.{Option, none, some}
+use Rattle.network.specs.declared.Refusal.{Refusal}
+use Rattle.tables.specs.declared.TableAnswer.{TableAnswer}
+use Rattle.tables.specs.declared.TableAnswer.the-variants.{Accepted, Refused}
+
+-- A table is refused for its fault, and accepted if it has none.
+abbrev pub answerOf : Option Refusal → TableAnswer
+answerOf none = Accepted
+answerOf (some r) = Refused r
