@@ -21,6 +21,10 @@ use Rattle.gates.specs.Hung.{leftOut, HungGate, no-gate, drawn, turned, 
 use Rattle.gates.specs.Greedy.{Begun, Greedy, all-hung, stuck-at}
 use Rattle.gates.proofs.Goings.{Going, going-plain, going-drawn, going-turned, going-end, stuck-cut, stuck-is-lone}
 
+bit-small : (b : Bool) → bit b ≤ 1
+bit-small true = omega arith
+bit-small false = omega arith
+
 module _ (n : ℕ) (ks xs ys : List ℕ) (ea : length xs ≡ length ks) (eb : length ys ≡ length ks) where
   pub row-arcs : (ws : List ℕ) → arcs (tableOf ks xs ys) ws ≡ arcsOf xs ys ws
   row-arcs ws = arcs-ends (tableOf ks xs ys) ws ∙ ap₂ (λ (u v : List ℕ). arcsOf u v ws) (row-ends-a ks xs ys ea eb) (row-ends-b ks xs ys ea eb)
@@ -62,6 +66,7 @@ module _ (n : ℕ) (ks xs ys : List ℕ) (ea : length xs ≡ length ks) (eb : le
         stuck-at (row-below i l) (stuck-is-lone (netOf n ks xs ys) ok ws i (row-below i l) (w .begun) gate ba ab) (w .clear)
         (stuck-cut (netOf n ks xs ys) ok ws i (row-below i l) (w .begun) gate ba ab seen
         (λ v k. f v k ∙ sym (ap bit (ap₂ (λ (A : List Arc) (u : ℕ). reached A u v) (row-arcs (set ws i 3)) (row-a ks xs ys ea eb i l)))))
+        (λ v k. subst⁻¹ (λ (x : ℕ). x ≤ 1) (f v k) (bit-small (reached (leftOut xs ys ws i) (getD xs i 0) v)))
 
   pub going-done : (ws₀ : List ℕ) (from : ℕ) (ws seen : List ℕ) (i : ℕ) → i ≡ length ks → Going (netOf n ks xs ys) ws₀ from ws i → Greedy (netOf n ks xs ys) ws₀ from ws seen i
   going-done ws₀ from ws seen i e w =

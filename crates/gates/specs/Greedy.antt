@@ -23,8 +23,8 @@ pub record Begun (N : Network) (ws : List ℕ) (i : ℕ) : Type 0 where
   pub whole : strong (basinsOf N) (arcs (N .reaches) ws) ≡ true
 
 -- What deciding the gates from i on leaves: the least plan that fits, or the first gate that can be hung neither way. That one is lone,
--- those before it are not, and it alone crosses the side of the basins whose byte is 1.
+-- those before it are not, and it alone crosses the side of the basins whose byte is 1, not 0.
 pub data Greedy (N : Network) (ws : List ℕ) (i : ℕ) : List ℕ → List ℕ → ℕ → Type 0 where
   all-hung : {ws′ seen : List ℕ} {r : ℕ} → r ≡ length (N .reaches) → LeastPlan N ws (bytesOf (N .reaches) ws′) → Greedy N ws i ws′ seen r
   stuck-at : {ws′ seen : List ℕ} {r : ℕ} → r < length (N .reaches) → isLone N r ≡ true → ((j : ℕ) → i ≤ j → j < r → isLone N j ≡ false)
-      → crossesAlone N (keep (λ b. eqb (getD seen b 0) 1) (basinsOf N)) r ≡ true → Greedy N ws i ws′ seen r
+      → crossesAlone N (keep (λ b. eqb (getD seen b 0) 1) (basinsOf N)) r ≡ true → ((v : ℕ) → v < N .basins → getD seen v 0 ≤ 1) → Greedy N ws i ws′ seen r

@@ -167,3 +167,14 @@ elem-keep p {b} {xs} m = same-test (elem b (keep p xs)) (p b) (λ e. (keep-in p 
 pub keep-same : (p q : ℕ → Bool) (xs : List ℕ) → ((x : ℕ) → List·Memᴰ x xs → p x ≡ q x) → keep p xs ≡ keep q xs
 keep-same p q [] f = refl
 keep-same p q (x ∷ xs) f = rw (f x (List·Memᴰ·head refl), keep-same p q xs (λ y m. f y (List·Memᴰ·tail m)))
+
+-- the lowest number of a range that passes a test is what is found
+pub find-lowest : (p : ℕ → Bool) (i n k : ℕ) → i ≤ k → k < i + n → p k ≡ true → ((j : ℕ) → i ≤ j → j < k → p j ≡ false) → find p (range i n) ≡ some k
+find-lowest p i zero k l m y f = absurd (omega arith)
+find-lowest p i (suc n) k l m y f =
+    ⊎-elim
+    (λ same. let e : i ≡ k = sym (eqb-true k i same) in find-yes p (range (suc i) n) (rw e y) ∙ ap some e)
+    (λ other.
+    let n′ : k ≡ i → ⊥ = eqb-false k i other in
+    find-no p (range (suc i) n) (f i (omega arith) (omega arith)) ∙ find-lowest p (suc i) n k (omega arith) (omega arith) y (λ j a b. f j (omega arith) b))
+    (decide (eqb k i))

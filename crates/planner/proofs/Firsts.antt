@@ -1,0 +1,151 @@
+-- The first plan and the findings, from what the searches found.
+-- Assumes nothing.
+use Prim.Native.Nat.{ℕ, zero, suc, _+_, _*_, _≤_, _<_}
+use native.Mathlib.Omega.{arith}
+use native.Mathlib.Decide.{decLt}
+use mathlib.Core.Path.{_≡_, refl, sym, ap, subst, subst⁻¹, _∙_}
+use mathlib.Core.Bool.{Bool, true, false, not}
+use mathlib.Core.Logic.{_⊎_, inl, inr, ⊎-elim}
+use mathlib.Core.Option.{Option, none, some, Option·getD}
+use mathlib.Core.List.{List, [], _∷_, List·Memᴰ}
+use lib.ListN.{length, getD}
+use lib.Dec.{eqb}
+use borrow.Author.Tests.{eqb-true, eq-eqb, ne-eqb}
+use Rattle.network.specs.Lists.{range, every, find, keep, elem}
+use Rattle.network.specs.Networks.{Network, basinsOf, lowestBasin, Accepted}
+use Rattle.network.specs.Hangings.{Arc, ways, arcs, arcsUnder, reached, unhung}
+use Rattle.network.specs.Plans.{reachesAll, strong, isPlan, passable, firstPlan}
+use Rattle.network.specs.Lone.{crossesAlone, isLone, lowestLone}
+use Rattle.network.specs.Marks.{bit, markBytes, marksOf}
+use Rattle.network.specs.Settings.{gateCount}
+use Rattle.network.specs.Replies.{Outcome, plan, shutInBasin, shutInSide, loneSide, shutInFinding, loneFinding, chosen, orLone, answer, firstAnswer}
+use Rattle.network.proofs.Bools.{fails, clash, not-passes, not-fails}
+use Rattle.network.proofs.Finds.{every-at, every-make, find-is, find-lowest, range-has, range-in, keep-in, keep-same, elem-in, elem-keep}
+use Rattle.network.proofs.Marks.{marks-same}
+use Rattle.network.proofs.Networks.{accepted, basin-in, basin-below, lowest-in, lowest-is-0}
+use Rattle.network.proofs.Lone.{Alone, LoneSide, alone-facts, alone-rest, alone-same, side-basins, cut-unique, lone-below, lone-blocks, lone-side}
+use Rattle.tables.proofs.Laws.{ways-unhung}
+use Rattle.tables.specs.Partial.{bytesOf}
+use Rattle.marks.specs.Sets.{markedSet}
+use Rattle.gates.specs.Ready.{Weakest, Missed}
+use Rattle.gates.specs.Least.{LeastPlan}
+use Rattle.gates.specs.Greedy.{Begun, Greedy, all-hung, stuck-at}
+use Rattle.gates.proofs.Least.{least-first}
+use Rattle.planner.specs.declared.Found.{Found}
+use Rattle.planner.specs.declared.Found.the-variants.{Shut, Stuck, Hung}
+use Rattle.planner.specs.Found.{outcomeOf, otherThan, Noted, FirstFound, shut, stuck, hung}
+use Rattle.planner.proofs.Rooms.{passable-open}
+
+-- ---- shut in
+
+eqb-bit : (x : Bool) → eqb (bit x) 1 ≡ x
+eqb-bit true = refl
+eqb-bit false = refl
+
+-- all basins reach all exactly if the lowest that does not is past the last
+pub strong-weakest : (n : ℕ) (A : List Arc) (r : ℕ) → Weakest A n r → strong (range 0 n) A ≡ eqb r n
+strong-weakest n A r w = go (decLt r n)
+  where
+    go : Dec (r < n) → strong (range 0 n) A ≡ eqb r n
+    go (yes l) =
+        fails (strong (range 0 n) A) (λ e. clash (every-at (reachesAll (range 0 n) A) e (range-has 0 n (omega arith) (omega arith))) (w .at l))
+        ∙ sym (ne-eqb r n (omega arith))
+    go (no k) =
+        every-make (reachesAll (range 0 n) A) (range 0 n) (λ u m. w .lower u (omega (arith, w .bound, (range-in 0 n m) .1)))
+        ∙ sym (eq-eqb r n (omega (arith, w .bound)))
+
+module _ (N : Network) where
+  abbrev opened : List Arc
+  opened = arcs (N .reaches) (ways (N .reaches) [])
+
+  opened-is : arcsUnder N (unhung N) ≡ opened
+  opened-is = ap (arcs (N .reaches)) (ways-unhung (N .reaches) (gateCount N))
+
+  pub shut-first : (r : ℕ) (ws seen : List ℕ) → Weakest opened (N .basins) r → r < N .basins → ((v : ℕ) → v < N .basins → getD seen v 0 ≡ bit (reached opened r v)) → FirstFound N ws seen Shut
+  unfolding shutInSide shutInBasin
+  shut-first r ws seen w l noted = shut (passable-open N ∙ strong-weakest (N .basins) opened r w ∙ ne-eqb r (N .basins) (omega arith)) (ap marksOf (sym side))
+    where
+      test : List Arc → ℕ → Bool
+      test A u = not (reachesAll (basinsOf N) A u)
+      at : shutInBasin N ≡ some r
+      at =
+          ap (λ (A : List Arc). find (test A) (basinsOf N)) opened-is
+          ∙ find-lowest (test opened) 0 (N .basins) r (omega arith) (omega arith) (not-passes (w .at l)) (λ j a b. not-fails (w .lower j b))
+      side : shutInSide N ≡ markedSet (N .basins) seen 1
+      side =
+          ap (λ (o : Option ℕ). keep (reached (arcsUnder N (unhung N)) (Option·getD o 0)) (basinsOf N)) at
+          ∙ ap (λ (A : List Arc). keep (reached A r) (basinsOf N)) opened-is
+          ∙ keep-same (reached opened r) (λ b. eqb (getD seen b 0) 1) (basinsOf N) (λ b m. sym (ap (λ (x : ℕ). eqb x 1) (noted b (basin-below N b m)) ∙ eqb-bit (reached opened r b)))
+
+-- ---- a lone reach
+
+  module _ (ok : Accepted N) where
+    -- the side of a lone reach is the one without basin 0 of the two that it alone crosses
+    lone-marks : passable N ≡ true → (r : ℕ) → isLone N r ≡ true → (P : ℕ → Bool) → Alone N P r → P (lowestBasin N) ≡ false → marksOf (keep P (basinsOf N)) ≡ marksOf (loneSide N r)
+    unfolding passable
+    lone-marks pass r e P alone out = marks-same (keep P (basinsOf N)) (loneSide N r) same
+      where
+        same : (b : ℕ) → b < 8 * markBytes → elem b (keep P (basinsOf N)) ≡ elem b (loneSide N r)
+        same b l = go (decLt b (N .basins))
+          where
+            side : LoneSide N r (loneSide N r)
+            side = lone-side N ok r e
+            go : Dec (b < N .basins) → elem b (keep P (basinsOf N)) ≡ elem b (loneSide N r)
+            go (yes k) =
+                elem-keep P (basin-in N b k)
+                ∙ cut-unique N ok (unhung N) pass r P (λ x. elem x (loneSide N r)) alone (alone-facts N (loneSide N r) r (lone-below N r e) (side .cut .alone)) (out ∙ sym (side .without)) b (basin-in N b k)
+            go (no k) =
+                fails (elem b (keep P (basinsOf N))) (λ y. k (basin-below N b ((keep-in P (basinsOf N) (elem-in b (keep P (basinsOf N)) y)) .0)))
+                ∙ sym (fails (elem b (loneSide N r)) (λ y. k (basin-below N b (side-basins (basinsOf N) (loneSide N r) (side .cut .side) b (elem-in b (loneSide N r) y)))))
+
+    -- bytes 0 and 1: the one or the other
+    eqb-other : (x : ℕ) → x ≤ 1 → eqb x 0 ≡ not (eqb x 1)
+    eqb-other zero l = refl
+    eqb-other (suc zero) l = refl
+    eqb-other (suc (suc x)) l = absurd (omega arith)
+
+    byte-0 : (x : ℕ) → eqb x (otherThan x) ≡ false
+    byte-0 zero = refl
+    byte-0 (suc x) = ne-eqb (suc x) 0 (omega arith)
+
+    other-alone : (r : ℕ) (seen : List ℕ) → r < length (N .reaches) → ((v : ℕ) → v < N .basins → getD seen v 0 ≤ 1) → (x : ℕ) → Alone N (λ b. eqb (getD seen b 0) 1) r → Alone N (λ b. eqb (getD seen b 0) (otherThan x)) r
+    other-alone r seen l small zero f = f
+    other-alone r seen l small (suc x) f =
+        alone-same N ok (λ b. not (eqb (getD seen b 0) 1)) (λ b. eqb (getD seen b 0) 0) r l (λ b m. eqb-other (getD seen b 0) (small b (basin-below N b m))) (alone-rest N (λ b. eqb (getD seen b 0) 1) r f)
+
+    stuck-noted : passable N ≡ true → (r : ℕ) (seen : List ℕ) → isLone N r ≡ true → crossesAlone N (keep (λ b. eqb (getD seen b 0) 1) (basinsOf N)) r ≡ true → ((v : ℕ) → v < N .basins → getD seen v 0 ≤ 1) → Noted N seen (Stuck r)
+    stuck-noted pass r seen e cross small =
+        lone-marks pass r e (λ b. eqb (getD seen b 0) (otherThan (getD seen 0 0)))
+        (other-alone r seen (lone-below N r e) small (getD seen 0 0)
+        (alone-same N ok (λ b. elem b (keep (λ b. eqb (getD seen b 0) 1) (basinsOf N))) (λ b. eqb (getD seen b 0) 1) r (lone-below N r e) (λ b m. sym (elem-keep (λ b. eqb (getD seen b 0) 1) m))
+        (alone-facts N (keep (λ b. eqb (getD seen b 0) 1) (basinsOf N)) r (lone-below N r e) cross)))
+        (subst⁻¹ (λ (z : ℕ). eqb (getD seen z 0) (otherThan (getD seen 0 0)) ≡ false) (lowest-is-0 N) (byte-0 (getD seen 0 0)))
+
+    -- ---- the three ends of the search
+
+    no-lone : (s : List ℕ) → isPlan N s ≡ true → lowestLone N ≡ none
+    unfolding lowestLone
+    no-lone s e = find-is (isLone N) (range 0 (length (N .reaches))) (λ i m. fails (isLone N i) (λ y. lone-blocks N i y s e))
+
+    lowest-at : (r : ℕ) → isLone N r ≡ true → r < length (N .reaches) → ((j : ℕ) → 0 ≤ j → j < r → isLone N j ≡ false) → lowestLone N ≡ some r
+    unfolding lowestLone
+    lowest-at r e l f = find-lowest (isLone N) 0 (length (N .reaches)) r (omega arith) (omega arith) e f
+
+    pub passed-weakest : (r : ℕ) → Weakest opened (N .basins) r → (r < N .basins → ⊥) → passable N ≡ true
+    passed-weakest r w n = passable-open N ∙ strong-weakest (N .basins) opened r w ∙ eq-eqb r (N .basins) (omega (arith, w .bound))
+
+    pub stuck-first : {ws₁ ws seen : List ℕ} {r : ℕ} → passable N ≡ true → r < length (N .reaches) → Greedy N (ways (N .reaches) []) 0 ws₁ seen r → FirstFound N ws seen (Stuck r)
+    stuck-first pass l (all-hung e m) = absurd (omega arith)
+    stuck-first {seen} {r} pass l (stuck-at k e clear cross small) = stuck pass (lowest-at r e k clear) k (stuck-noted pass r seen e cross small)
+
+    pub hung-first : {ws seen : List ℕ} {r : ℕ} → passable N ≡ true → (r < length (N .reaches) → ⊥) → Greedy N (ways (N .reaches) []) 0 ws seen r → FirstFound N ws seen Hung
+    hung-first pass n (all-hung e m) = hung pass (no-lone _ (m .is-plan)) m
+    hung-first pass n (stuck-at k e clear cross small) = absurd (n k)
+
+  -- ---- and the reply that they make
+
+  pub first-outcome : {ws seen : List ℕ} {f : Found} → FirstFound N ws seen f → firstAnswer N ≡ outcomeOf N ws f
+  unfolding firstAnswer answer
+  first-outcome (shut n k) = rw n
+  first-outcome (stuck p e l k) = rw (p, e)
+  first-outcome (hung p e m) = rw (p, e, least-first N _ m)

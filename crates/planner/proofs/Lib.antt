@@ -1,0 +1,3 @@
+-- The laws of the planner.
+pub mod Rooms
+pub mod Firsts

@@ -1,0 +1,42 @@
+-- What the search for the first plan finds.
+-- Assumes nothing.
+use Prim.Native.Nat.{ℕ, zero, suc, _<_}
+use mathlib.Core.Path.{_≡_}
+use mathlib.Core.Bool.{Bool, true, false}
+use mathlib.Core.Option.{Option, none, some}
+use mathlib.Core.List.{List, []}
+use lib.ListN.{length, getD}
+use Rattle.network.specs.Networks.{Network}
+use Rattle.network.specs.Hangings.{ways}
+use Rattle.network.specs.Plans.{passable}
+use Rattle.network.specs.Lone.{lowestLone}
+use Rattle.network.specs.Marks.{marksOf}
+use Rattle.network.specs.Replies.{Outcome, plan, shutInSide, loneSide, shutInFinding, loneFinding}
+use Rattle.tables.specs.Partial.{bytesOf}
+use Rattle.marks.specs.Sets.{markedSet}
+use Rattle.gates.specs.Least.{LeastPlan}
+use Rattle.planner.specs.declared.Found.{Found}
+use Rattle.planner.specs.declared.Found.the-variants.{Shut, Stuck, Hung}
+
+-- The reply that is written down from it: the plan is made of the ways ws.
+abbrev pub outcomeOf : Network → List ℕ → Found → Outcome
+outcomeOf N ws Shut = shutInFinding N
+outcomeOf N ws (Stuck r) = loneFinding N r
+outcomeOf N ws Hung = plan (bytesOf (N .reaches) ws)
+
+-- The other byte than that of basin 0.
+abbrev pub otherThan : ℕ → ℕ
+otherThan zero = 1
+otherThan (suc x) = 0
+
+-- What was noted for each basin is the side of the finding: where it is shut in the basins with the byte 1, at a lone reach those with the
+-- other byte than basin 0.
+abbrev pub Noted : Network → List ℕ → Found → Type 0
+Noted N seen Shut = marksOf (markedSet (N .basins) seen 1) ≡ marksOf (shutInSide N)
+Noted N seen (Stuck r) = marksOf (markedSet (N .basins) seen (otherThan (getD seen 0 0))) ≡ marksOf (loneSide N r)
+Noted N seen Hung = Unit {0}
+
+pub data FirstFound (N : Network) : List ℕ → List ℕ → Found → Type 0 where
+  shut : {ws seen : List ℕ} → passable N ≡ false → Noted N seen Shut → FirstFound N ws seen Shut
+  stuck : {ws seen : List ℕ} {r : ℕ} → passable N ≡ true → lowestLone N ≡ some r → r < length (N .reaches) → Noted N seen (Stuck r) → FirstFound N ws seen (Stuck r)
+  hung : {ws seen : List ℕ} → passable N ≡ true → lowestLone N ≡ none → LeastPlan N (ways (N .reaches) []) (bytesOf (N .reaches) ws) → FirstFound N ws seen Hung
