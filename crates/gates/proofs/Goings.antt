@@ -63,7 +63,7 @@ module _ (N : Network) (ok : Accepted N) (ws : List ℕ) (i : ℕ) (below : i < 
     either : strong (basinsOf N) (arcs (N .reaches) (set ws i 2)) ≡ true
     either = subst⁻¹ (λ (v : List ℕ). strong (basinsOf N) (arcs (N .reaches) v) ≡ true) (ap (λ (x : ℕ). set ws i x) (sym free) ∙ set-getD ws i 3) (b .whole)
 
-    begun-hung : (x : ℕ) → x ≤ 1 → strong (basinsOf N) (arcs (N .reaches) (set ws i x)) ≡ true → Begun N (set ws i x) (suc i)
+    pub begun-hung : (x : ℕ) → x ≤ 1 → strong (basinsOf N) (arcs (N .reaches) (set ws i x)) ≡ true → Begun N (set ws i x) (suc i)
     begun-hung x small str = record { full = length-set ws i x ∙ b .full; shaped = shaped; decided = decided; undecided = undecided; whole = str }
       where
         shaped : Shaped (N .reaches) (set ws i x)

@@ -19,7 +19,7 @@ use Rattle.network.specs.declared.Reach.{Reach}
 use Rattle.network.specs.Lists.{every}
 use Rattle.network.specs.Networks.{Network, basinsOf, Accepted}
 use Rattle.network.specs.Settings.{isGated, gatesFrom, gateCount, isSetting, before}
-use Rattle.network.specs.Hangings.{way, after, ways, arcs, arcsUnder, unhung}
+use Rattle.network.specs.Hangings.{way, after, ways, arcs, unhung}
 use Rattle.network.specs.Plans.{strong, strongUnder, isPlan, passable, firstPlan}
 use Rattle.network.specs.Lone.{noReach, reachAt}
 use Rattle.network.proofs.Bools.{and-right, and-make, decide, clash, or-left, or-right, fails}
@@ -100,19 +100,23 @@ module _ (N : Network) where
   abbrev t : List Reach
   t = N .reaches
 
+  -- ways that leave each reach as it is, or either way, reach no less
+  pub looser-strong : (us ws : List ℕ) → ((j : ℕ) → j < length t → (getD ws j 3 ≡ 2) ⊎ (getD ws j 3 ≡ getD us j 3)) → strong (basinsOf N) (arcs t us) ≡ true → strong (basinsOf N) (arcs t ws) ≡ true
+  looser-strong us ws f = strong-within (basinsOf N) (arcs t us) (arcs t ws) within
+    where
+      within : Within (arcs t us) (arcs t ws)
+      within y m =
+          let s = arcs-in t us y m in
+          arcs-has t ws (s .reach) y (s .below)
+          (⊎-elim
+          (λ free. subst⁻¹ (λ (x : ℕ). List·Memᴰ y (passingAt t (s .reach) x)) free (passing-either (getD us (s .reach) 3) _ _ y (s .passes)))
+          (λ same. subst⁻¹ (λ (x : ℕ). List·Memᴰ y (passingAt t (s .reach) x)) same (s .passes))
+          (f (s .reach) (s .below)))
+
   -- a plan that fits reaches no more than ws does
   pub fits-strong : (q ws : List ℕ) → isPlan N q ≡ true → Fits N q ws → strong (basinsOf N) (arcs t ws) ≡ true
   unfolding strongUnder
-  fits-strong q ws e f = strong-within (basinsOf N) (arcsUnder N q) (arcs t ws) within (plan-reaches N q e)
-    where
-      within : Within (arcsUnder N q) (arcs t ws)
-      within y m =
-          let s = arcs-in t (ways t q) y m in
-          arcs-has t ws (s .reach) y (s .below)
-          (⊎-elim
-          (λ free. subst⁻¹ (λ (x : ℕ). List·Memᴰ y (passingAt t (s .reach) x)) free (passing-either (getD (ways t q) (s .reach) 3) _ _ y (s .passes)))
-          (λ same. subst⁻¹ (λ (x : ℕ). List·Memᴰ y (passingAt t (s .reach) x)) same (s .passes))
-          (f (s .reach) (s .below)))
+  fits-strong q ws e f = looser-strong (ways t q) ws f (plan-reaches N q e)
 
   pub plan-order : (p q : List ℕ) → isPlan N p ≡ true → isPlan N q ≡ true → before (ways t p) (ways t q) ≡ before p q
   plan-order p q e f = ways-order 0 t p q (setting-length N p (plan-setting N p e)) (setting-length N q (plan-setting N q f))

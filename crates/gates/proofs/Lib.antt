@@ -4,3 +4,5 @@ pub mod Least
 pub mod Nexts
 pub mod Goings
 pub mod Rows
+pub mod Parts
+pub mod Follows

@@ -46,6 +46,14 @@ tried-hung ws i x l e = hung (sym (l .found) ∙ e) (set-set ws i 3 x) refl
 pub tried-lost : {A : List Arc} {n u v x : ℕ} {seen : List ℕ} {r : Bool} (ws : List ℕ) (i : ℕ) → Leads A n u v seen r → r ≡ false → Tried A n u v x ws i (set (set ws i 3) i 2) seen false
 tried-lost ws i l e = lost (sym (l .found) ∙ e) (set-set ws i 3 2) refl (l .noted e)
 
+-- only the ways of the other reaches matter
+pub tried-same : {n u v x : ℕ} (xs ys ws vs : List ℕ) (i : ℕ) {ws′ seen : List ℕ} {r : Bool} → ((y : ℕ) → set ws i y ≡ set vs i y)
+    → Tried (leftOut xs ys ws i) n u v x ws i ws′ seen r → Tried (leftOut xs ys vs i) n u v x vs i ws′ seen r
+tried-same {u} {v} {x} xs ys ws vs i f (hung p e q) = hung (subst (λ (l : List ℕ). reached (arcsOf xs ys l) u v ≡ true) (f 3) p) (e ∙ f x) q
+tried-same {n} {u} {v} xs ys ws vs i {seen} f (lost p e q g) =
+    lost (subst (λ (l : List ℕ). reached (arcsOf xs ys l) u v ≡ false) (f 3) p) (e ∙ f 2) q
+    (subst (λ (l : List ℕ). (w : ℕ) → w < n → getD seen w 0 ≡ bit (reached (arcsOf xs ys l) u w)) (f 3) g)
+
 -- ---- a gate
 
 -- a reach is a gate exactly if its kind is 0
@@ -67,16 +75,11 @@ module _ {n : ℕ} (ks : List ℕ) {xs ys : List ℕ} (ws : List ℕ) (i : ℕ) 
   pub gate-turned : {ws₂ seen₂ : List ℕ} {r₂ : Bool} → Tried (leftOut xs ys ws i) n (getD ys i 0) (getD xs i 0) 0 ws i ws₁ seen₁ r₁ → r₁ ≡ false
       → Tried (leftOut xs ys ws₁ i) n (getD xs i 0) (getD ys i 0) 1 ws₁ i ws₂ seen₂ r₂ → HungGate n ks xs ys ws i ws₂ seen₂ r₂
   gate-turned (hung p e q) y t = clash q y
-  gate-turned (lost p e q f) y t = second t
+  gate-turned (lost p e q f) y t = second (tried-same xs ys ws₁ ws i (λ z. ap (λ (v : List ℕ). set v i z) e ∙ set-set ws i 2 z) t)
     where
-      same : leftOut xs ys ws₁ i ≡ leftOut xs ys ws i
-      same = ap (λ (v : List ℕ). leftOut xs ys v i) e ∙ ap (arcsOf xs ys) (set-set ws i 2 3)
-
-      second : {ws₂ seen₂ : List ℕ} {r₂ : Bool} → Tried (leftOut xs ys ws₁ i) n (getD xs i 0) (getD ys i 0) 1 ws₁ i ws₂ seen₂ r₂ → HungGate n ks xs ys ws i ws₂ seen₂ r₂
-      second (hung p′ e′ q′) = turned g p (subst (λ (A : List Arc). reached A (getD xs i 0) (getD ys i 0) ≡ true) same p′) (e′ ∙ ap (λ (v : List ℕ). set v i 1) e ∙ set-set ws i 2 1) q′
-      second {seen₂} (lost p′ e′ q′ f′) =
-          stuck g p (subst (λ (A : List Arc). reached A (getD xs i 0) (getD ys i 0) ≡ false) same p′) q′
-          (subst (λ (A : List Arc). (v : ℕ) → v < n → getD seen₂ v 0 ≡ bit (reached A (getD xs i 0) v)) same f′)
+      second : {ws₂ seen₂ : List ℕ} {r₂ : Bool} → Tried (leftOut xs ys ws i) n (getD xs i 0) (getD ys i 0) 1 ws i ws₂ seen₂ r₂ → HungGate n ks xs ys ws i ws₂ seen₂ r₂
+      second (hung p′ e′ q′) = turned g p p′ e′ q′
+      second (lost p′ e′ q′ f′) = stuck g p p′ q′ f′
 
 -- ---- all basins
 

@@ -2,7 +2,7 @@
 -- Assumes nothing.
 use Prim.Native.Nat.{ℕ, suc, _≤_, _<_}
 use mathlib.Core.Path.{_≡_}
-use mathlib.Core.Bool.{true, false}
+use mathlib.Core.Bool.{Bool, true, false}
 use mathlib.Core.List.{List, [], _++_}
 use lib.ListN.{length, getD, set, take, drop}
 use Rattle.network.specs.Networks.{Network, basinsOf}
@@ -10,6 +10,8 @@ use Rattle.network.specs.Settings.{isGated, isSetting}
 use Rattle.network.specs.Hangings.{ways, arcs}
 use Rattle.network.specs.Plans.{strong}
 use Rattle.network.specs.Lone.{reachAt}
+use Rattle.network.specs.Tables.{kindOf}
+use Rattle.gates.specs.Hung.{leftOut, Tried}
 
 -- The ways us are those under a setting.
 pub record Under (N : Network) (us : List ℕ) : Type 0 where
@@ -28,6 +30,10 @@ Whole N ws = strong (basinsOf N) (arcs (N .reaches) ws) ≡ true
 abbrev pub Broken : Network → List ℕ → Type 0
 Broken N ws = strong (basinsOf N) (arcs (N .reaches) ws) ≡ false
 
+-- So it is with the ways us up to each reach below `to`.
+abbrev pub WholeBelow : Network → List ℕ → ℕ → Type 0
+WholeBelow N us to = (j : ℕ) → j < to → Whole N (upTo N us j)
+
 -- The setting was followed to its end, or up to the first gate that loses something if it is hung so.
 pub data Followed (N : Network) (us : List ℕ) : List ℕ → ℕ → Type 0 where
   through : {ws : List ℕ} {r : ℕ} → r ≡ length (N .reaches) → ws ≡ us → Whole N us → Followed N us ws r
@@ -42,3 +48,19 @@ pub data TurnedBack (N : Network) (us : List ℕ) (to : ℕ) : List ℕ → ℕ 
   turned-at : {ws : List ℕ} {r : ℕ} → r < to → isGated ((reachAt N r) .kind) ≡ true → getD us r 3 ≡ 0 → ws ≡ set (upTo N us r) r 1 → Whole N ws
       → ((j : ℕ) → r < j → j < to → NoPart N us j) → TurnedBack N us to ws r
   nowhere : {ws : List ℕ} {r : ℕ} → r ≡ length (N .reaches) → ((j : ℕ) → j < to → NoPart N us j) → TurnedBack N us to ws r
+
+-- What hanging reach i as us has it does: nothing if it is no gate, else it is tried as drawn where its byte is 0, turned where it is not.
+pub data HungAs (n : ℕ) (ks xs ys us ws : List ℕ) (i : ℕ) : List ℕ → List ℕ → Bool → Type 0 where
+  no-gate : {ws′ seen : List ℕ} {r : Bool} → isGated (kindOf (getD ks i 0)) ≡ false → ws′ ≡ ws → r ≡ true → HungAs n ks xs ys us ws i ws′ seen r
+  as-drawn : {ws′ seen : List ℕ} {r : Bool} → isGated (kindOf (getD ks i 0)) ≡ true → getD us i 0 ≡ 0
+      → Tried (leftOut xs ys ws i) n (getD ys i 0) (getD xs i 0) 0 ws i ws′ seen r → HungAs n ks xs ys us ws i ws′ seen r
+  as-turned : {ws′ seen : List ℕ} {r : Bool} → isGated (kindOf (getD ks i 0)) ≡ true → (getD us i 0 ≡ 0 → ⊥)
+      → Tried (leftOut xs ys ws i) n (getD xs i 0) (getD ys i 0) 1 ws i ws′ seen r → HungAs n ks xs ys us ws i ws′ seen r
+
+-- What trying to part from us upwards at reach i does: nothing if it is no gate; if it is turned already it is usable either way; else it is tried turned.
+pub data PartedAt (n : ℕ) (ks xs ys us ws : List ℕ) (i : ℕ) : List ℕ → List ℕ → Bool → Type 0 where
+  passed : {ws′ seen : List ℕ} {r : Bool} → isGated (kindOf (getD ks i 0)) ≡ false → ws′ ≡ ws → r ≡ false → PartedAt n ks xs ys us ws i ws′ seen r
+  freed : {ws′ seen : List ℕ} {r : Bool} → isGated (kindOf (getD ks i 0)) ≡ true → (getD us i 0 ≡ 0 → ⊥) → ws′ ≡ set ws i 2 → r ≡ false
+      → PartedAt n ks xs ys us ws i ws′ seen r
+  tried : {ws′ seen : List ℕ} {r : Bool} → isGated (kindOf (getD ks i 0)) ≡ true → getD us i 0 ≡ 0
+      → Tried (leftOut xs ys ws i) n (getD xs i 0) (getD ys i 0) 1 ws i ws′ seen r → PartedAt n ks xs ys us ws i ws′ seen r

@@ -11,6 +11,7 @@ ghost use Rattle.search.specs.Ends.{arcsOf};
 ghost use Rattle.gates.specs.Ready.{Ready, flipWay, FirstUnseen, Missed, Weakest};
 ghost use Rattle.gates.specs.Hung.{Leads, leftOut, Tried, HungGate};
 ghost use Rattle.gates.specs.Greedy.{Begun, Greedy};
+ghost use Rattle.gates.specs.Follows.{Under, upTo, Whole, WholeBelow, Followed, TurnedBack, HungAs, PartedAt};
 use search::NONE;
 
 // The way against the arrows.
@@ -241,4 +242,129 @@ pub fn greedy(
         i += 1;
     }
     i
+}
+
+// Hangs reach i, if it is a gate, as `under` has it where that loses nothing; otherwise it is usable either way. Says whether it could.
+fn hang_as(
+    n: usize,
+    kinds: &[u8],
+    a: &[u16],
+    b: &[u16],
+    under: &[u8],
+    ways: &mut [u8],
+    head: &[u16],
+    next: &[u16],
+    i: usize,
+    seen: &mut [u8],
+    queue: &mut [u16],
+) -> bool
+    requires { ⌜ Ready n (now a) (now b) (now ways) (now head) (now next) (now seen) (now queue) ⌝ }
+    requires { ⌜ length (now kinds) ≡ length (now a) ⌝ }
+    requires { ⌜ length (now under) ≡ length (now a) ⌝ }
+    requires { ⌜ i < length (now a) ⌝ }
+    ensures { λ r. ⌜ HungAs n (now (kinds .entry)) (now (a .entry)) (now (b .entry)) (now (under .entry)) (now (ways .entry)) i (now (ways .exit)) (now (seen .exit)) r ⌝ }
+{
+    if kinds[i] != 0 {
+        return true;
+    }
+    if under[i] == 0 {
+        return try_drawn(n, a, b, ways, head, next, i, seen, queue);
+    }
+    try_turned(n, a, b, ways, head, next, i, seen, queue)
+}
+
+// Hangs the gates one after the other as `under` has them, from ways of which all gates are usable either way.
+// Returns the number of reaches, or the first gate that loses something if it is hung so: that one and those after it are usable either way.
+pub fn follow(
+    n: usize,
+    kinds: &[u8],
+    a: &[u16],
+    b: &[u16],
+    under: &[u8],
+    ways: &mut [u8],
+    head: &[u16],
+    next: &[u16],
+    seen: &mut [u8],
+    queue: &mut [u16],
+) -> usize
+    requires { ⌜ Ready n (now a) (now b) (now ways) (now head) (now next) (now seen) (now queue) ⌝ }
+    requires { ⌜ length (now kinds) ≡ length (now a) ⌝ }
+    requires { ⌜ Accepted (netOf n (now kinds) (now a) (now b)) ⌝ }
+    requires { ⌜ Under (netOf n (now kinds) (now a) (now b)) (now under) ⌝ }
+    requires { ⌜ now ways ≡ upTo (netOf n (now kinds) (now a) (now b)) (now under) 0 ⌝ }
+    requires { ⌜ Whole (netOf n (now kinds) (now a) (now b)) (now ways) ⌝ }
+    ensures { λ r. ⌜ Followed (netOf n (now (kinds .entry)) (now (a .entry)) (now (b .entry))) (now (under .entry)) (now (ways .exit)) r ⌝ }
+{
+    let mut i = 0;
+    while i < a.len() {
+        if !hang_as(n, kinds, a, b, under, ways, head, next, i, seen, queue) {
+            return i;
+        }
+        i += 1;
+    }
+    i
+}
+
+// Hangs reach i turned if it is a gate that `under` has as drawn and that loses nothing; otherwise a gate is usable either way. Says whether it was hung.
+fn part_at(
+    n: usize,
+    kinds: &[u8],
+    a: &[u16],
+    b: &[u16],
+    under: &[u8],
+    ways: &mut [u8],
+    head: &[u16],
+    next: &[u16],
+    i: usize,
+    seen: &mut [u8],
+    queue: &mut [u16],
+) -> bool
+    requires { ⌜ Ready n (now a) (now b) (now ways) (now head) (now next) (now seen) (now queue) ⌝ }
+    requires { ⌜ length (now kinds) ≡ length (now a) ⌝ }
+    requires { ⌜ length (now under) ≡ length (now a) ⌝ }
+    requires { ⌜ i < length (now a) ⌝ }
+    ensures { λ r. ⌜ PartedAt n (now (kinds .entry)) (now (a .entry)) (now (b .entry)) (now (under .entry)) (now (ways .entry)) i (now (ways .exit)) (now (seen .exit)) r ⌝ }
+{
+    if kinds[i] != 0 {
+        return false;
+    }
+    if under[i] != 0 {
+        ways[i] = 2;
+        return false;
+    }
+    try_turned(n, a, b, ways, head, next, i, seen, queue)
+}
+
+// From ways that `under` has up to reach `to`, looks back for the last gate before it that is drawn and can be turned without loss, and turns it.
+// Returns its number, or the number of reaches if there is none. The gates after it are usable either way.
+pub fn turn_back(
+    n: usize,
+    kinds: &[u8],
+    a: &[u16],
+    b: &[u16],
+    under: &[u8],
+    ways: &mut [u8],
+    head: &[u16],
+    next: &[u16],
+    to: usize,
+    seen: &mut [u8],
+    queue: &mut [u16],
+) -> usize
+    requires { ⌜ Ready n (now a) (now b) (now ways) (now head) (now next) (now seen) (now queue) ⌝ }
+    requires { ⌜ length (now kinds) ≡ length (now a) ⌝ }
+    requires { ⌜ Accepted (netOf n (now kinds) (now a) (now b)) ⌝ }
+    requires { ⌜ Under (netOf n (now kinds) (now a) (now b)) (now under) ⌝ }
+    requires { ⌜ to ≤ length (now a) ⌝ }
+    requires { ⌜ now ways ≡ upTo (netOf n (now kinds) (now a) (now b)) (now under) to ⌝ }
+    requires { ⌜ WholeBelow (netOf n (now kinds) (now a) (now b)) (now under) to ⌝ }
+    ensures { λ r. ⌜ TurnedBack (netOf n (now (kinds .entry)) (now (a .entry)) (now (b .entry))) (now (under .entry)) to (now (ways .exit)) r ⌝ }
+{
+    let mut i = to;
+    while i > 0 {
+        i -= 1;
+        if part_at(n, kinds, a, b, under, ways, head, next, i, seen, queue) {
+            return i;
+        }
+    }
+    a.len()
 }

@@ -14,7 +14,7 @@ use borrow.Author.Tests.{eqb-true, eq-eqb, ne-eqb}
 use Rattle.network.specs.Lists.{range, every, find, keep, elem}
 use Rattle.network.specs.Networks.{Network, basinsOf, lowestBasin, Accepted}
 use Rattle.network.specs.Hangings.{Arc, ways, arcs, arcsUnder, reached, unhung}
-use Rattle.network.specs.Plans.{reachesAll, strong, isPlan, passable, firstPlan}
+use Rattle.network.specs.Plans.{reachesAll, strong, strongUnder, isPlan, passable, firstPlan}
 use Rattle.network.specs.Lone.{crossesAlone, isLone, lowestLone}
 use Rattle.network.specs.Marks.{bit, markBytes, marksOf}
 use Rattle.network.specs.Settings.{gateCount}
@@ -34,7 +34,10 @@ use Rattle.gates.proofs.Least.{least-first}
 use Rattle.planner.specs.declared.Found.{Found}
 use Rattle.planner.specs.declared.Found.the-variants.{Shut, Stuck, Hung}
 use Rattle.planner.specs.Found.{outcomeOf, otherThan, Noted, FirstFound, shut, stuck, hung}
-use Rattle.planner.proofs.Rooms.{passable-open}
+use Rattle.planner.specs.Rooms.{Room}
+use Rattle.planner.proofs.Rooms.{room-under, passable-open}
+use Rattle.search.specs.Ends.{arcsOf}
+use Rattle.tables.specs.Rows.{netOf, waysRow}
 
 -- ---- shut in
 
@@ -54,6 +57,11 @@ strong-weakest n A r w = go (decLt r n)
         every-make (reachesAll (range 0 n) A) (range 0 n) (λ u m. w .lower u (omega (arith, w .bound, (range-in 0 n m) .1)))
         ∙ sym (eq-eqb r n (omega (arith, w .bound)))
 
+-- the two searches of the check
+pub under-weakest : {n r : ℕ} {ks xs ys ws ws′ back head next seen queue : List ℕ} → Room n ks xs ys ws back head next seen queue → (s : List ℕ) → ws′ ≡ waysRow ks s → Weakest (arcsOf xs ys ws′) n r → eqb r n ≡ strongUnder (netOf n ks xs ys) s
+under-weakest {n} {r} {ks} {xs} {ys} room s e w =
+    sym (room-under room s ∙ strong-weakest n (arcsOf xs ys (waysRow ks s)) r (subst (λ (v : List ℕ). Weakest (arcsOf xs ys v) n r) e w))
+
 module _ (N : Network) where
   abbrev opened : List Arc
   opened = arcs (N .reaches) (ways (N .reaches) [])
@@ -67,17 +75,19 @@ module _ (N : Network) where
     where
       test : List Arc → ℕ → Bool
       test A u = not (reachesAll (basinsOf N) A u)
+
       at : shutInBasin N ≡ some r
       at =
           ap (λ (A : List Arc). find (test A) (basinsOf N)) opened-is
           ∙ find-lowest (test opened) 0 (N .basins) r (omega arith) (omega arith) (not-passes (w .at l)) (λ j a b. not-fails (w .lower j b))
+
       side : shutInSide N ≡ markedSet (N .basins) seen 1
       side =
           ap (λ (o : Option ℕ). keep (reached (arcsUnder N (unhung N)) (Option·getD o 0)) (basinsOf N)) at
           ∙ ap (λ (A : List Arc). keep (reached A r) (basinsOf N)) opened-is
           ∙ keep-same (reached opened r) (λ b. eqb (getD seen b 0) 1) (basinsOf N) (λ b m. sym (ap (λ (x : ℕ). eqb x 1) (noted b (basin-below N b m)) ∙ eqb-bit (reached opened r b)))
 
--- ---- a lone reach
+  -- ---- a lone reach
 
   module _ (ok : Accepted N) where
     -- the side of a lone reach is the one without basin 0 of the two that it alone crosses
@@ -90,6 +100,7 @@ module _ (N : Network) where
           where
             side : LoneSide N r (loneSide N r)
             side = lone-side N ok r e
+
             go : Dec (b < N .basins) → elem b (keep P (basinsOf N)) ≡ elem b (loneSide N r)
             go (yes k) =
                 elem-keep P (basin-in N b k)

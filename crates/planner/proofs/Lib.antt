@@ -1,3 +1,4 @@
 -- The laws of the planner.
 pub mod Rooms
 pub mod Firsts
+pub mod Rows

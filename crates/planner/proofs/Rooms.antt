@@ -24,15 +24,15 @@ module _ {n : ℕ} {ks xs ys ws back head next seen queue : List ℕ} (r : Room 
   pub room-table : Table n xs ys
   room-table =
       let facts = accepted (netOf n ks xs ys) (r .accepted) in
-      record
-      { paired = r .ends-b ∙ sym (r .ends-a)
-      ; few = omega (arith, facts .few-reaches, row-length ks xs ys (r .ends-a) (r .ends-b), r .ends-a)
-      ; ends-a = λ i l.
-          let k : i < length ks = omega (arith, r .ends-a) in
-          subst (λ (x : ℕ). x < n) (row-a ks xs ys (r .ends-a) (r .ends-b) i k) (facts .end-a i (row-below n ks xs ys (r .ends-a) (r .ends-b) i k))
-      ; ends-b = λ i l.
-          let k : i < length ks = omega (arith, r .ends-a) in
-          subst (λ (x : ℕ). x < n) (row-b ks xs ys (r .ends-a) (r .ends-b) i k) (facts .end-b i (row-below n ks xs ys (r .ends-a) (r .ends-b) i k))
+      record {
+        paired = r .ends-b ∙ sym (r .ends-a);
+        few = omega (arith, facts .few-reaches, row-length ks xs ys (r .ends-a) (r .ends-b), r .ends-a);
+        ends-a = λ i l.
+            let k : i < length ks = omega (arith, r .ends-a) in
+            subst (λ (x : ℕ). x < n) (row-a ks xs ys (r .ends-a) (r .ends-b) i k) (facts .end-a i (row-below n ks xs ys (r .ends-a) (r .ends-b) i k));
+        ends-b = λ i l.
+            let k : i < length ks = omega (arith, r .ends-a) in
+            subst (λ (x : ℕ). x < n) (row-b ks xs ys (r .ends-a) (r .ends-b) i k) (facts .end-b i (row-below n ks xs ys (r .ends-a) (r .ends-b) i k));
       }
 
   pub room-index : {head′ next′ : List ℕ} → length head′ ≡ length head → length next′ ≡ length next → Indexable n xs ys head′ next′
@@ -42,14 +42,14 @@ module _ {n : ℕ} {ks xs ys ws back head next seen queue : List ℕ} (r : Room 
   pub room-ready : {ws′ head′ next′ seen′ queue′ : List ℕ} → length ws′ ≡ length ws → Index n xs ys head′ next′ → length seen′ ≡ length seen → length queue′ ≡ length queue → Ready n xs ys ws′ head′ next′ seen′ queue′
   room-ready e ix f g =
       let facts = accepted (netOf n ks xs ys) (r .accepted) in
-      record
-      { some-basin = facts .some-basin
-      ; few-basins = omega (arith, facts .few-basins)
-      ; table = room-table
-      ; ways-full = e ∙ r .ways-room ∙ sym (r .ends-a)
-      ; index = ix
-      ; seen-room = omega (arith, r .seen-room)
-      ; queue-room = omega (arith, r .queue-room)
+      record {
+        some-basin = facts .some-basin;
+        few-basins = omega (arith, facts .few-basins);
+        table = room-table;
+        ways-full = e ∙ r .ways-room ∙ sym (r .ends-a);
+        index = ix;
+        seen-room = omega (arith, r .seen-room);
+        queue-room = omega (arith, r .queue-room);
       }
 
   -- what the rows pass is what the network passes

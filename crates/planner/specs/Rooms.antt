@@ -1,13 +1,39 @@
 -- An accepted table of rows with lent working memory.
 -- Assumes nothing.
-use Prim.Native.Nat.{ℕ, _≤_}
+use Prim.Native.Nat.{ℕ, _*_, _≤_}
 use mathlib.Core.Path.{_≡_}
-use mathlib.Core.List.{List}
+use mathlib.Core.Bool.{true}
+use mathlib.Core.List.{List, []}
 use lib.ListN.{length}
-use Rattle.network.specs.Networks.{Accepted}
+use Rattle.network.specs.Networks.{maxBasins, maxReaches, Accepted}
+use Rattle.network.specs.Plans.{passable}
+use Rattle.network.specs.Marks.{markBytes}
 use Rattle.search.specs.Ends.{halves}
-use Rattle.tables.specs.Rows.{netOf}
+use Rattle.search.specs.Chains.{Index, Indexable}
+use Rattle.tables.specs.Rows.{netOf, gatesIn, waysRow}
 
+-- The rows are of one length, and the table is accepted.
+pub record Level (n : ℕ) (ks xs ys : List ℕ) : Type 0 where
+  pub accepted : Accepted (netOf n ks xs ys)
+  pub ends-a : length xs ≡ length ks
+  pub ends-b : length ys ≡ length ks
+
+-- And the lent buffers are long enough.
+pub record Lent (n : ℕ) (ks xs ys plan marks : List ℕ) : Type 0 where
+  pub level : Level n ks xs ys
+  pub plan-room : gatesIn ks ≤ length plan
+  pub marks-room : markBytes ≤ length marks
+
+-- Working memory for the largest table.
+pub record Space (ws back head next seen queue : List ℕ) : Type 0 where
+  pub ways-space : length ws ≡ maxReaches
+  pub back-space : length back ≡ maxReaches
+  pub head-space : length head ≡ maxBasins
+  pub next-space : length next ≡ 2 * maxReaches
+  pub seen-space : length seen ≡ maxBasins
+  pub queue-space : length queue ≡ maxBasins
+
+-- The rows with the working memory that they need.
 pub record Room (n : ℕ) (ks xs ys ws back head next seen queue : List ℕ) : Type 0 where
   pub accepted : Accepted (netOf n ks xs ys)
   pub ends-a : length xs ≡ length ks
@@ -18,3 +44,20 @@ pub record Room (n : ℕ) (ks xs ys ws back head next seen queue : List ℕ) : T
   pub next-room : halves xs ≤ length next
   pub seen-room : n ≤ length seen
   pub queue-room : length seen ≤ length queue
+
+-- What filling it requires, and what it then holds.
+pub record Preparable (n : ℕ) (ks xs ys ws head next : List ℕ) : Type 0 where
+  pub ways-room : length ws ≡ length ks
+  pub indexable : Indexable n xs ys head next
+
+pub record Prepared (n : ℕ) (ks xs ys s ws head next : List ℕ) : Type 0 where
+  pub hung : ws ≡ waysRow ks s
+  pub index : Index n xs ys head next
+
+-- A passable network of which no gate is hung yet.
+pub record Passable (n : ℕ) (ks xs ys ws : List ℕ) : Type 0 where
+  pub accepted : Accepted (netOf n ks xs ys)
+  pub ends-a : length xs ≡ length ks
+  pub ends-b : length ys ≡ length ks
+  pub unhung : ws ≡ waysRow ks []
+  pub passable-net : passable (netOf n ks xs ys) ≡ true

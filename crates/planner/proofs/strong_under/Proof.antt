@@ -1,58 +1,48 @@
+-- `planner::strong_under` meets its contract: two searches.
+-- Assumes nothing.
+use mathlib.Core.Path.{refl, sym, _∙_}
+use Rattle.planner.proofs.Rooms.{room-index, room-ready}
+use Rattle.planner.proofs.Firsts.{under-weakest}
 use borrow.Author.Needs.{needs}
 use Rattle.planner.proofs.strong_under.Statement.{statement}
 use Rattle.planner.proofs.strong_under.Tie as tie
-use Rattle.planner.proofs.strong_under.Reads as reads
-use Rattle.planner.proofs.strong_under.Lts as lts
-use Rattle.gates.proofs.weakest.Reads as weakest-reads
-use Rattle.search.proofs.index.Reads as index-reads
-use Rattle.tables.proofs.hang.Reads as hang-reads
 
--- src/lib.rt:76:5
-hang-requires : tie.Need-hang-requires
-hang-requires c κs = search needs
+prepare-requires : tie.Need-prepare-requires
+prepare-requires c κs = let s = (c .before .before .before .before .before .before .before .before .before .before .before .before .before) in record { ways-room = s .pre .ways-room; indexable = room-index (s .pre) refl refl }
 
--- src/lib.rt:77:5
-index-requires : tie.Need-index-requires
-index-requires c κs = ?
-
--- src/lib.rt:78:5
 weakest-requires : tie.Need-weakest-requires
-weakest-requires c κs = ?
+weakest-requires c κs = let s = (c .before .before .before .before .before .before .before .before .before .before .before .before .before .before .before .before .before .before .before .before .before .before .before .before .before .before) in
+    let p = (c .before .before .before .before .before .before .before .before .before .before .before .before) .prepare in
+    (room-ready (s .pre) (p .kept .1 .1 .1 .1 .1 .0) (p .ensures .index) refl refl, s .pre .back-room ∙ sym (p .kept .1 .1 .1 .1 .1 .0 ∙ s .pre .ways-room))
 
--- src/lib.rt:60:1
 same-length : tie.Need-same-length
 same-length c = search needs
 
--- src/lib.rt:60:1
 same-length-2 : tie.Need-same-length-2
 same-length-2 c = search needs
 
--- src/lib.rt:60:1
 same-length-3 : tie.Need-same-length-3
 same-length-3 c = search needs
 
--- src/lib.rt:60:1
 same-length-4 : tie.Need-same-length-4
 same-length-4 c = search needs
 
--- src/lib.rt:60:1
 same-length-5 : tie.Need-same-length-5
 same-length-5 c = search needs
 
--- src/lib.rt:60:1
 same-length-6 : tie.Need-same-length-6
 same-length-6 c = search needs
 
--- src/lib.rt:60:1
 returns : tie.Need-returns
-returns c = ?
+returns c = let s = (c .before .before .before .before .before .before .before .before .before .before .before .before .before .before .before .before .before .before .before .before .before .before .before .before .before .before .before .before .before .before .before .before .before) in
+    let p = (c .before .before .before .before .before .before .before .before .before .before .before .before .before .before .before .before .before .before .before) .prepare in
+    under-weakest (s .pre) (s .args .setting .now) (p .ensures .hung) ((c .before .before .before .before .before .before) .weakest .ensures)
 
 pub strong-under-spec : {M : Type 1} → statement M
 strong-under-spec =
     tie.close
     (tie.spec
-    hang-requires
-    index-requires
+    prepare-requires
     weakest-requires
     same-length
     same-length-2
