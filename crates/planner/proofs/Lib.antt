@@ -2,3 +2,5 @@
 pub mod Rooms
 pub mod Firsts
 pub mod Rows
+pub mod Reports
+pub mod Calls

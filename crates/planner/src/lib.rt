@@ -230,19 +230,20 @@ fn first_in(
     ensures { λ r. ⌜ Written (firstAnswer (netOf n (now (kinds .entry)) (now (a .entry)) (now (b .entry)))) (now (plan .entry)) (now (marks .entry)) (now (plan .exit)) (now (marks .exit)) (Answer.Given r) ⌝ }
 {
     let m = kinds.len();
+    let hung = &mut ways[..m];
     let found = find_first(
         n,
         kinds,
         a,
         b,
-        &mut ways[..m],
+        hung,
         &mut back[..m],
         head,
         next,
         seen,
         queue,
     );
-    report(found, n, kinds, &ways[..m], seen, plan, marks)
+    report(found, n, kinds, hung, seen, plan, marks)
 }
 
 // The same, with working memory of its own.

@@ -1,55 +1,46 @@
+-- `planner::check_in` meets its contract: the working memory is cut to the table.
+-- Assumes nothing.
+use native.Mathlib.Omega.{arith}
+use mathlib.Core.Path.{sym}
+use lib.Seq.{length-take-le}
+use Rattle.planner.proofs.Reports.{level-few, level-room}
 use borrow.Author.Needs.{needs}
 use Rattle.planner.proofs.check_in.Statement.{statement}
 use Rattle.planner.proofs.check_in.Tie as tie
-use Rattle.planner.proofs.check_in.Reads as reads
-use Rattle.planner.proofs.check_in.Lts as lts
-use Rattle.planner.proofs.strong_under.Reads as strong-under-reads
 
--- src/lib.rt:301:9
 slice-relend-prefix-strong-under : tie.Need-slice-relend-prefix-strong-under
-slice-relend-prefix-strong-under c = ?
+slice-relend-prefix-strong-under c = omega (arith, level-few ((c .before .before .before .before .before .before .before .before .before .before) .pre .0), (c .before .before .before .before .before .before .before .before .before .before) .pre .1 .ways-space)
 
--- src/lib.rt:301:9
 slice-aggregate-strong-under : tie.Need-slice-aggregate-strong-under
-slice-aggregate-strong-under c = ?
+slice-aggregate-strong-under c = let s = (c .before .before .before .before .before .before .before .before .before .before .before) in sym (length-take-le _ (s .args .ways .now) (omega (arith, level-few (s .pre .0), s .pre .1 .ways-space)))
 
--- src/lib.rt:302:9
 slice-relend-prefix-strong-under-2 : tie.Need-slice-relend-prefix-strong-under-2
-slice-relend-prefix-strong-under-2 c = ?
+slice-relend-prefix-strong-under-2 c = omega (arith, level-few ((c .before .before .before .before .before .before .before .before .before .before .before) .pre .0), (c .before .before .before .before .before .before .before .before .before .before .before) .pre .1 .back-space)
 
--- src/lib.rt:302:9
 slice-aggregate-strong-under-2 : tie.Need-slice-aggregate-strong-under-2
-slice-aggregate-strong-under-2 c = ?
+slice-aggregate-strong-under-2 c = let s = (c .before .before .before .before .before .before .before .before .before .before .before .before) in sym (length-take-le _ (s .args .back .now) (omega (arith, level-few (s .pre .0), s .pre .1 .back-space)))
 
--- src/lib.rt:295:5
 strong-under-requires : tie.Need-strong-under-requires
-strong-under-requires c κs = ?
+strong-under-requires c κs = let s = (c .before .before .before .before .before .before .before .before .before .before .before .before .before .before .before .before) in level-room (s .pre .0) (s .pre .1)
 
--- src/lib.rt:277:1
 same-length : tie.Need-same-length
 same-length c = search needs
 
--- src/lib.rt:277:1
 same-length-2 : tie.Need-same-length-2
 same-length-2 c = search needs
 
--- src/lib.rt:277:1
 same-length-3 : tie.Need-same-length-3
 same-length-3 c = search needs
 
--- src/lib.rt:277:1
 same-length-4 : tie.Need-same-length-4
 same-length-4 c = search needs
 
--- src/lib.rt:277:1
 same-length-5 : tie.Need-same-length-5
 same-length-5 c = search needs
 
--- src/lib.rt:277:1
 same-length-6 : tie.Need-same-length-6
 same-length-6 c = search needs
 
--- src/lib.rt:277:1
 returns : tie.Need-returns
 returns c = search needs
 

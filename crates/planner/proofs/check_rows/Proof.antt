@@ -1,31 +1,28 @@
+-- `planner::check_rows` meets its contract: 1, 2 and 3 before all else.
+-- Assumes nothing.
+use mathlib.Core.Path.{sym, _∙_}
+use Rattle.network.specs.Networks.{tableFault}
+use Rattle.tables.specs.Rows.{netOf}
+use Rattle.planner.proofs.Calls.{fault-some, fault-none, check-faulty}
 use borrow.Author.Needs.{needs}
 use Rattle.planner.proofs.check_rows.Statement.{statement}
 use Rattle.planner.proofs.check_rows.Tie as tie
-use Rattle.planner.proofs.check_rows.Reads as reads
-use Rattle.planner.proofs.check_rows.Lts as lts
-use Rattle.planner.proofs.check_table.Reads as check-table-reads
-use Rattle.tables.proofs.table_fault.Reads as table-fault-reads
 
--- src/lib.rt:329:38
 table-fault-requires : tie.Need-table-fault-requires
 table-fault-requires c κs = search needs
 
--- src/lib.rt:329:33
 enum-known-r : tie.Need-enum-known-r
 enum-known-r c = search needs
 
--- src/lib.rt:330:9
 returns : tie.Need-returns
-returns c = ?
+returns c = let s = (c .before .before .before .before .before .before .before .before) in check-faulty (netOf (s .args .basins) (s .args .kinds .now) (s .args .a .now) (s .args .b .now)) (s .args .setting .now) _ (fault-some (tableFault (netOf (s .args .basins) (s .args .kinds .now) (s .args .a .now) (s .args .b .now))) _ (sym ((c .before .before .before) .table-fault .ensures) ∙ (c .before) .r .given .1))
 
 enum-told : tie.Need-enum-told
 enum-told c = search needs
 
--- src/lib.rt:332:5
 check-table-requires : tie.Need-check-table-requires
-check-table-requires c κs = ?
+check-table-requires c κs = let s = (c .before .before .before .before .before .before .before) in fault-none (tableFault (netOf (s .args .basins) (s .args .kinds .now) (s .args .a .now) (s .args .b .now))) (sym ((c .before .before) .table-fault .ensures) ∙ c .enum-told .given .1)
 
--- src/lib.rt:326:1
 returns-2 : tie.Need-returns-2
 returns-2 c = search needs
 

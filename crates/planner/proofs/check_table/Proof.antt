@@ -1,47 +1,45 @@
+-- `planner::check_table` meets its contract: 8 before yes or no.
+-- Assumes nothing.
+use native.Mathlib.Omega.{arith}
+use mathlib.Core.Path.{sym, refl, ap, _∙_}
+use lib.ListN.{length}
+use lib.Seq.{length-take-le}
+use borrow.Author.Tests.{not-true, not-false}
+use Rattle.tables.specs.Rows.{netOf}
+use Rattle.planner.specs.Answers.{yesOr}
+use Rattle.planner.proofs.Calls.{cut-kinds, cut-a, cut-b, cut-net, cut-level, cut-setting, check-misfit, check-given}
 use borrow.Author.Needs.{needs}
 use Rattle.planner.proofs.check_table.Statement.{statement}
 use Rattle.planner.proofs.check_table.Tie as tie
-use Rattle.planner.proofs.check_table.Reads as reads
-use Rattle.planner.proofs.check_table.Lts as lts
-use Rattle.planner.proofs.check_accepted.Reads as check-accepted-reads
-use Rattle.tables.proofs.fits.Reads as fits-reads
-use Rattle.tables.proofs.row_count.Reads as row-count-reads
 
--- src/lib.rt:313:9
 row-count-requires : tie.Need-row-count-requires
 row-count-requires c κs = search needs
 
--- src/lib.rt:314:9
 slice-aggregate-ks : tie.Need-slice-aggregate-ks
-slice-aggregate-ks c = ?
+slice-aggregate-ks c = let s = (c .before .before .before .before .before .before) in sym (length-take-le _ (s .args .kinds .now) (cut-kinds (s .args .n) (s .args .kinds .now) (s .args .a .now) (s .args .b .now) ((c .before) .row-count .result) ((c .before) .row-count .ensures)))
 
--- src/lib.rt:315:9
 fits-requires : tie.Need-fits-requires
 fits-requires c κs = search needs
 
--- src/lib.rt:316:9
 returns : tie.Need-returns
-returns c = ?
+returns c = let s = (c .before .before .before .before .before .before .before .before) in check-misfit (netOf (s .args .n) (s .args .kinds .now) (s .args .a .now) (s .args .b .now)) (s .args .setting .now) (s .pre) (cut-setting (s .args .n) (s .args .kinds .now) (s .args .a .now) (s .args .b .now) ((c .before .before .before) .row-count .result) ((c .before .before .before) .row-count .ensures) (s .args .setting .now) ∙ sym ((c .before) .fits2 .ensures) ∙ not-true _ (c .if1 .taken))
 
--- src/lib.rt:318:30
 slice-aggregate-check-accepted : tie.Need-slice-aggregate-check-accepted
-slice-aggregate-check-accepted c = ?
+slice-aggregate-check-accepted c = let s = (c .before .before .before .before .before .before .before .before .before) in sym (length-take-le _ (s .args .a .now) (cut-a (s .args .n) (s .args .kinds .now) (s .args .a .now) (s .args .b .now) ((c .before .before .before .before) .row-count .result) ((c .before .before .before .before) .row-count .ensures)))
 
--- src/lib.rt:318:39
 slice-aggregate-check-accepted-2 : tie.Need-slice-aggregate-check-accepted-2
-slice-aggregate-check-accepted-2 c = ?
+slice-aggregate-check-accepted-2 c = let s = (c .before .before .before .before .before .before .before .before .before .before) in sym (length-take-le _ (s .args .b .now) (cut-b (s .args .n) (s .args .kinds .now) (s .args .a .now) (s .args .b .now) ((c .before .before .before .before .before) .row-count .result) ((c .before .before .before .before .before) .row-count .ensures)))
 
--- src/lib.rt:318:8
 check-accepted-requires : tie.Need-check-accepted-requires
-check-accepted-requires c κs = ?
+check-accepted-requires c κs = let s = (c .before .before .before .before .before .before .before .before .before .before) in cut-level (s .args .n) (s .args .kinds .now) (s .args .a .now) (s .args .b .now) ((c .before .before .before .before .before) .row-count .result) ((c .before .before .before .before .before) .row-count .ensures) (s .pre)
 
--- src/lib.rt:309:1
 returns-2 : tie.Need-returns-2
-returns-2 c = ?
+returns-2 c = let s = (c .before .before .before .before .before .before .before .before .before .before .before .before) in
+    check-given (netOf (s .args .n) (s .args .kinds .now) (s .args .a .now) (s .args .b .now)) _ (s .args .setting .now) _ _ (cut-net (s .args .n) (s .args .kinds .now) (s .args .a .now) (s .args .b .now) ((c .before .before .before .before .before .before .before) .row-count .result) ((c .before .before .before .before .before .before .before) .row-count .ensures)) (s .pre) (cut-setting (s .args .n) (s .args .kinds .now) (s .args .a .now) (s .args .b .now) ((c .before .before .before .before .before .before .before) .row-count .result) ((c .before .before .before .before .before .before .before) .row-count .ensures) (s .args .setting .now) ∙ sym ((c .before .before .before .before .before) .fits2 .ensures) ∙ not-false _ ((c .before .before .before .before) .if1 .left)) ((c .before) .check-accepted .ensures) (ap yesOr (sym (c .if2 .taken)))
 
--- src/lib.rt:309:1
 returns-3 : tie.Need-returns-3
-returns-3 c = ?
+returns-3 c = let s = (c .before .before .before .before .before .before .before .before .before .before .before .before) in
+    check-given (netOf (s .args .n) (s .args .kinds .now) (s .args .a .now) (s .args .b .now)) _ (s .args .setting .now) _ _ (cut-net (s .args .n) (s .args .kinds .now) (s .args .a .now) (s .args .b .now) ((c .before .before .before .before .before .before .before) .row-count .result) ((c .before .before .before .before .before .before .before) .row-count .ensures)) (s .pre) (cut-setting (s .args .n) (s .args .kinds .now) (s .args .a .now) (s .args .b .now) ((c .before .before .before .before .before .before .before) .row-count .result) ((c .before .before .before .before .before .before .before) .row-count .ensures) (s .args .setting .now) ∙ sym ((c .before .before .before .before .before) .fits2 .ensures) ∙ not-false _ ((c .before .before .before .before) .if1 .left)) ((c .before) .check-accepted .ensures) (ap yesOr (sym (c .if2 .left)))
 
 pub check-table-spec : {M : Type 1} → statement M
 check-table-spec =

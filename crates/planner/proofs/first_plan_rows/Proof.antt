@@ -1,39 +1,34 @@
+-- `planner::first_plan_rows` meets its contract: 1, 2 and 3 before all else.
+-- Assumes nothing.
+use mathlib.Core.Path.{sym, _∙_}
+use Rattle.network.specs.Networks.{tableFault}
+use Rattle.tables.specs.Rows.{netOf}
+use Rattle.planner.proofs.Calls.{fault-some, fault-none, refused-written, first-faulty}
 use borrow.Author.Needs.{needs}
 use Rattle.planner.proofs.first_plan_rows.Statement.{statement}
 use Rattle.planner.proofs.first_plan_rows.Tie as tie
-use Rattle.planner.proofs.first_plan_rows.Reads as reads
-use Rattle.planner.proofs.first_plan_rows.Lts as lts
-use Rattle.planner.proofs.first_table.Reads as first-table-reads
-use Rattle.tables.proofs.table_fault.Reads as table-fault-reads
 
--- src/lib.rt:302:38
 table-fault-requires : tie.Need-table-fault-requires
 table-fault-requires c κs = search needs
 
--- src/lib.rt:302:33
 enum-known-r : tie.Need-enum-known-r
 enum-known-r c = search needs
 
--- src/lib.rt:303:9
 returns : tie.Need-returns
-returns c = ?
+returns c = let s = (c .before .before .before .before .before .before .before .before .before) in refused-written (first-faulty (netOf (s .args .basins) (s .args .kinds .now) (s .args .a .now) (s .args .b .now)) _ _ _ (fault-some (tableFault (netOf (s .args .basins) (s .args .kinds .now) (s .args .a .now) (s .args .b .now))) _ (sym ((c .before .before .before) .table-fault .ensures) ∙ (c .before) .r .given .1)))
 
 enum-told : tie.Need-enum-told
 enum-told c = search needs
 
--- src/lib.rt:305:5
 first-table-requires : tie.Need-first-table-requires
-first-table-requires c κs = ?
+first-table-requires c κs = let s = (c .before .before .before .before .before .before .before .before .before .before) in fault-none (tableFault (netOf (s .args .basins) (s .args .kinds .now) (s .args .a .now) (s .args .b .now))) (sym ((c .before .before .before .before) .table-fault .ensures) ∙ (c .before .before) .enum-told .given .1)
 
--- src/lib.rt:292:1
 same-length : tie.Need-same-length
 same-length c = search needs
 
--- src/lib.rt:292:1
 same-length-2 : tie.Need-same-length-2
 same-length-2 c = search needs
 
--- src/lib.rt:292:1
 returns-2 : tie.Need-returns-2
 returns-2 c = search needs
 

@@ -1,55 +1,56 @@
+-- `planner::first_table` meets its contract: the rows cut to the table's length, 7 before the reply.
+-- Assumes nothing.
+use native.Mathlib.Omega.{arith}
+use mathlib.Core.Path.{sym, refl, ap, _∙_}
+use lib.ListN.{length}
+use lib.Seq.{length-take-le}
+use Rattle.tables.specs.Rows.{netOf}
+use Rattle.planner.proofs.Calls.{cut-kinds, cut-a, cut-b, cut-net, cut-level, short-plan, short-marks, long-enough, refused-written, first-short, first-given}
 use borrow.Author.Needs.{needs}
 use Rattle.planner.proofs.first_table.Statement.{statement}
 use Rattle.planner.proofs.first_table.Tie as tie
-use Rattle.planner.proofs.first_table.Reads as reads
-use Rattle.planner.proofs.first_table.Lts as lts
-use Rattle.planner.proofs.first_accepted.Reads as first-accepted-reads
-use Rattle.tables.proofs.count_gates.Reads as count-gates-reads
-use Rattle.tables.proofs.row_count.Reads as row-count-reads
 
--- src/lib.rt:280:9
 row-count-requires : tie.Need-row-count-requires
 row-count-requires c κs = search needs
 
--- src/lib.rt:281:9
 slice-aggregate-ks : tie.Need-slice-aggregate-ks
-slice-aggregate-ks c = ?
+slice-aggregate-ks c = let s = (c .before .before .before .before .before .before .before) in sym (length-take-le _ (s .args .kinds .now) (cut-kinds (s .args .n) (s .args .kinds .now) (s .args .a .now) (s .args .b .now) ((c .before) .row-count .result) ((c .before) .row-count .ensures)))
 
--- src/lib.rt:282:21
 count-gates-requires : tie.Need-count-gates-requires
 count-gates-requires c κs = search needs
 
--- src/lib.rt:283:9
 returns : tie.Need-returns
-returns c = ?
+returns c = let s = (c .before .before .before .before .before .before .before .before .before) in refused-written (first-short (netOf (s .args .n) (s .args .kinds .now) (s .args .a .now) (s .args .b .now)) _ _ (s .pre) (short-plan (s .args .n) (s .args .kinds .now) (s .args .a .now) (s .args .b .now) ((c .before .before .before) .row-count .result) ((c .before .before .before) .row-count .ensures) (length (s .args .plan .now)) (length (s .args .marks .now)) (omega (arith, (c .before) .count-gates .ensures, c .if1 .taken))))
 
--- src/lib.rt:286:9
 returns-2 : tie.Need-returns-2
-returns-2 c = ?
+returns-2 c = let s = (c .before .before .before .before .before .before .before .before .before .before) in
+    refused-written (first-short (netOf (s .args .n) (s .args .kinds .now) (s .args .a .now) (s .args .b .now)) _ _ (s .pre) (short-marks (s .args .n) (s .args .kinds .now) (s .args .a .now) (s .args .b .now) ((c .before .before .before .before) .row-count .result) ((c .before .before .before .before) .row-count .ensures) (length (s .args .plan .now)) (length (s .args .marks .now)) (omega (arith, (c .before .before) .count-gates .ensures, (c .before) .if1 .left)) (omega (arith, c .if2 .taken))))
 
--- src/lib.rt:288:41
 slice-aggregate-first-accepted : tie.Need-slice-aggregate-first-accepted
-slice-aggregate-first-accepted c = ?
+slice-aggregate-first-accepted c = let s = (c .before .before .before .before .before .before .before .before .before .before .before) in sym (length-take-le _ (s .args .a .now) (cut-a (s .args .n) (s .args .kinds .now) (s .args .a .now) (s .args .b .now) ((c .before .before .before .before .before) .row-count .result) ((c .before .before .before .before .before) .row-count .ensures)))
 
--- src/lib.rt:288:50
 slice-aggregate-first-accepted-2 : tie.Need-slice-aggregate-first-accepted-2
-slice-aggregate-first-accepted-2 c = ?
+slice-aggregate-first-accepted-2 c = let s = (c .before .before .before .before .before .before .before .before .before .before .before .before) in sym (length-take-le _ (s .args .b .now) (cut-b (s .args .n) (s .args .kinds .now) (s .args .a .now) (s .args .b .now) ((c .before .before .before .before .before .before) .row-count .result) ((c .before .before .before .before .before .before) .row-count .ensures)))
 
--- src/lib.rt:288:19
 first-accepted-requires : tie.Need-first-accepted-requires
-first-accepted-requires c κs = ?
+first-accepted-requires c κs = let s = (c .before .before .before .before .before .before .before .before .before .before .before .before .before .before) in
+    record {
+      level = cut-level (s .args .n) (s .args .kinds .now) (s .args .a .now) (s .args .b .now) ((c .before .before .before .before .before .before .before .before) .row-count .result) ((c .before .before .before .before .before .before .before .before) .row-count .ensures) (s .pre);
+      plan-room = omega (arith, (c .before .before .before .before .before .before) .count-gates .ensures, (c .before .before .before .before .before) .if1 .left);
+      marks-room = omega (arith, (c .before .before .before .before) .if2 .left);
+    }
 
--- src/lib.rt:269:1
 same-length : tie.Need-same-length
 same-length c = search needs
 
--- src/lib.rt:269:1
 same-length-2 : tie.Need-same-length-2
 same-length-2 c = search needs
 
--- src/lib.rt:269:1
 returns-3 : tie.Need-returns-3
-returns-3 c = ?
+returns-3 c = let s = (c .before .before .before .before .before .before .before .before .before .before .before .before .before .before .before .before .before .before .before) in
+    first-given _ _ (cut-net (s .args .n) (s .args .kinds .now) (s .args .a .now) (s .args .b .now) ((c .before .before .before .before .before .before .before .before .before .before .before .before .before) .row-count .result) ((c .before .before .before .before .before .before .before .before .before .before .before .before .before) .row-count .ensures)) (s .pre)
+    (long-enough (s .args .n) (s .args .kinds .now) (s .args .a .now) (s .args .b .now) ((c .before .before .before .before .before .before .before .before .before .before .before .before .before) .row-count .result) ((c .before .before .before .before .before .before .before .before .before .before .before .before .before) .row-count .ensures) (length (s .args .plan .now)) (length (s .args .marks .now)) (omega (arith, (c .before .before .before .before .before .before .before .before .before .before .before) .count-gates .ensures, (c .before .before .before .before .before .before .before .before .before .before) .if1 .left)) (omega (arith, (c .before .before .before .before .before .before .before .before .before) .if2 .left)))
+    ((c .before .before .before .before) .first-accepted .ensures)
 
 pub first-table-spec : {M : Type 1} → statement M
 first-table-spec =

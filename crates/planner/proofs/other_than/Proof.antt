@@ -1,16 +1,21 @@
+-- `planner::other_than` meets its contract.
+-- Assumes nothing.
+use Prim.Native.Nat.{ℕ, zero, suc}
+use mathlib.Core.Path.{_≡_, refl}
+use Rattle.planner.specs.Found.{otherThan}
 use borrow.Author.Needs.{needs}
 use Rattle.planner.proofs.other_than.Statement.{statement}
 use Rattle.planner.proofs.other_than.Tie as tie
-use Rattle.planner.proofs.other_than.Reads as reads
-use Rattle.planner.proofs.other_than.Lts as lts
 
--- src/lib.rt:163:1
+other : (x : ℕ) → (x ≡ 0 → ⊥) → 0 ≡ otherThan x
+other zero n = absurd (n refl)
+other (suc x) n = refl
+
 returns : tie.Need-returns
 returns c = search needs
 
--- src/lib.rt:163:1
 returns-2 : tie.Need-returns-2
-returns-2 c = ?
+returns-2 c = other _ (c .if1 .left)
 
 pub other-than-spec : {M : Type 1} → statement M
 other-than-spec = tie.close (tie.spec returns returns-2)

@@ -1,0 +1,132 @@
+-- The public calls: rows cut to one length, refusals by number, and what the reply then is.
+-- Assumes nothing.
+use Prim.Native.Nat.{ℕ, _≤_, _<_, min}
+use native.Mathlib.Omega.{arith}
+use mathlib.Core.Path.{_≡_, refl, sym, ap, subst, subst⁻¹, _∙_}
+use mathlib.Core.Bool.{Bool, true, false, cond, _&&_}
+use mathlib.Core.Option.{Option, none, some}
+use mathlib.Core.List.{List}
+use lib.ListN.{length, take}
+use lib.Seq.{length-take-le}
+use lib.Dec.{leb, eqb}
+use borrow.Author.Tests.{le-leb, lt-leb}
+use Rattle.network.specs.declared.Refusal.{Refusal}
+use Rattle.network.specs.declared.Refusal.the-variants.{ShortBuffer, BadSetting}
+use Rattle.network.specs.Lists.{every}
+use Rattle.network.specs.Networks.{Network, tableFault, Accepted}
+use Rattle.network.specs.Tables.{tableOf}
+use Rattle.network.specs.Settings.{gateCount, isSetting, settingFault}
+use Rattle.network.specs.Plans.{strongUnder, isPlan}
+use Rattle.network.specs.Marks.{markBytes}
+use Rattle.network.specs.Replies.{Outcome, refused, firstAnswer, unless, roomFault, firstReply}
+use Rattle.tables.specs.declared.TableAnswer.the-variants as T
+use Rattle.tables.specs.Rows.{netOf, gatesIn}
+use Rattle.tables.specs.Answers as Table
+use Rattle.tables.proofs.Laws.{shortest, table-short, table-take, row-gates, row-setting}
+use Rattle.planner.specs.declared.Answer.{Answer}
+use Rattle.planner.specs.declared.Answer.the-variants as A
+use Rattle.planner.specs.declared.CheckAnswer.{CheckAnswer}
+use Rattle.planner.specs.declared.CheckAnswer.the-variants as C
+use Rattle.planner.specs.Answers.{answerOf, Written, yesOr, checkOf}
+use Rattle.planner.specs.Rooms.{Level}
+
+-- ---- rows cut to the length of the table
+
+module _ (n : ℕ) (ks xs ys : List ℕ) (m : ℕ) (e : m ≡ length (tableOf ks xs ys)) where
+  is-shortest : m ≡ shortest ks xs ys
+  is-shortest = e ∙ table-short ks xs ys
+
+  pub cut-kinds : m ≤ length ks
+  cut-kinds = omega (arith, is-shortest)
+
+  pub cut-a : m ≤ length xs
+  cut-a = omega (arith, is-shortest)
+
+  pub cut-b : m ≤ length ys
+  cut-b = omega (arith, is-shortest)
+
+  pub cut-net : netOf n (take m ks) (take m xs) (take m ys) ≡ netOf n ks xs ys
+  cut-net = rw is-shortest (ap (λ t. record { basins = n; reaches = t }) (table-take ks xs ys))
+
+  cut-ends-a : length (take m xs) ≡ length (take m ks)
+  cut-ends-a = length-take-le m xs cut-a ∙ sym (length-take-le m ks cut-kinds)
+
+  cut-ends-b : length (take m ys) ≡ length (take m ks)
+  cut-ends-b = length-take-le m ys cut-b ∙ sym (length-take-le m ks cut-kinds)
+
+  pub cut-level : Accepted (netOf n ks xs ys) → Level n (take m ks) (take m xs) (take m ys)
+  cut-level ok = record { accepted = subst⁻¹ (λ (N : Network). Accepted N) cut-net ok; ends-a = cut-ends-a; ends-b = cut-ends-b }
+
+  pub cut-gates : gatesIn (take m ks) ≡ gateCount (netOf n ks xs ys)
+  cut-gates = sym (row-gates (take m ks) (take m xs) (take m ys) cut-ends-a cut-ends-b 0) ∙ ap gateCount cut-net
+
+  pub cut-setting : (s : List ℕ) → isSetting (netOf n ks xs ys) s ≡ eqb (length s) (gatesIn (take m ks)) && every (λ x. leb x 1) s
+  cut-setting s = ap (λ (N : Network). isSetting N s) (sym cut-net) ∙ row-setting (take m ks) (take m xs) (take m ys) cut-ends-a cut-ends-b n s
+
+  -- ---- the lent buffers
+
+  module _ (planLength marksLength : ℕ) where
+    pub short-plan : planLength < gatesIn (take m ks) → roomFault (netOf n ks xs ys) planLength marksLength ≡ some ShortBuffer
+    unfolding roomFault
+    short-plan l = rw (lt-leb (gateCount (netOf n ks xs ys)) planLength (omega (arith, cut-gates)))
+
+    pub short-marks : gatesIn (take m ks) ≤ planLength → marksLength < markBytes → roomFault (netOf n ks xs ys) planLength marksLength ≡ some ShortBuffer
+    unfolding roomFault
+    short-marks k l = rw (le-leb (gateCount (netOf n ks xs ys)) planLength (omega (arith, cut-gates)), lt-leb markBytes marksLength l)
+
+    pub long-enough : gatesIn (take m ks) ≤ planLength → markBytes ≤ marksLength → roomFault (netOf n ks xs ys) planLength marksLength ≡ none
+    unfolding roomFault
+    long-enough k l = rw (le-leb (gateCount (netOf n ks xs ys)) planLength (omega (arith, cut-gates)), le-leb markBytes marksLength l)
+
+-- ---- refusals
+
+-- a table's answer
+pub fault-some : (o : Option Refusal) (r : Refusal) → Table.answerOf o ≡ T.Refused r → o ≡ some r
+fault-some none r e = cc
+fault-some (some x) r e = ap some (inner e)
+  where
+    inner : T.Refused x ≡ T.Refused r → x ≡ r
+    inner e = cc
+
+pub fault-none : (o : Option Refusal) → Table.answerOf o ≡ T.Accepted → o ≡ none
+fault-none none e = refl
+fault-none (some x) e = cc
+
+-- a refusal by number writes nothing
+pub refused-written : {o : Outcome} {r : Refusal} {plan marks : List ℕ} → o ≡ refused r → Written o plan marks plan marks (A.Refused r)
+refused-written {r} {plan} {marks} e = subst⁻¹ (λ (x : Outcome). Written x plan marks plan marks (A.Refused r)) e (record { reply = refl; plan-left = refl; marks-left = refl })
+
+pub first-faulty : (N : Network) (r : Refusal) (p q : ℕ) → tableFault N ≡ some r → firstReply N p q ≡ refused r
+unfolding firstReply
+first-faulty N r p q e = rw e
+
+pub first-short : (N : Network) (p q : ℕ) → Accepted N → roomFault N p q ≡ some ShortBuffer → firstReply N p q ≡ refused ShortBuffer
+unfolding firstReply
+first-short N p q ok e = rw (ok, e)
+
+pub first-roomy : (N : Network) (p q : ℕ) → Accepted N → roomFault N p q ≡ none → firstReply N p q ≡ firstAnswer N
+unfolding firstReply
+first-roomy N p q ok e = rw (ok, e)
+
+-- ---- the check
+
+pub check-faulty : (N : Network) (s : List ℕ) (r : Refusal) → tableFault N ≡ some r → C.Refused r ≡ checkOf N s
+unfolding checkOf
+check-faulty N s r e = rw e
+
+pub check-misfit : (N : Network) (s : List ℕ) → Accepted N → isSetting N s ≡ false → C.Refused BadSetting ≡ checkOf N s
+unfolding checkOf settingFault
+check-misfit N s ok e = rw (ok, e)
+
+pub check-fitting : (N : Network) (s : List ℕ) (b : Bool) → Accepted N → isSetting N s ≡ true → b ≡ strongUnder N s → yesOr b ≡ checkOf N s
+unfolding checkOf settingFault isPlan
+check-fitting N s b ok e f = rw (ok, e, f)
+
+-- the reply of the cut rows is the reply of the network
+pub first-given : {N N′ : Network} {plan marks plan′ marks′ : List ℕ} {r : Answer} (p q : ℕ) → N′ ≡ N → Accepted N → roomFault N p q ≡ none → Written (firstAnswer N′) plan marks plan′ marks′ r → Written (firstReply N p q) plan marks plan′ marks′ r
+first-given {N} {plan} {marks} {plan′} {marks′} {r} p q same ok room w =
+    subst⁻¹ (λ (o : Outcome). Written o plan marks plan′ marks′ r) (first-roomy N p q ok room)
+    (subst (λ (M : Network). Written (firstAnswer M) plan marks plan′ marks′ r) same w)
+
+pub check-given : (N N′ : Network) (s : List ℕ) (b : Bool) (v : CheckAnswer) → N′ ≡ N → Accepted N → isSetting N s ≡ true → b ≡ strongUnder N′ s → v ≡ yesOr b → v ≡ checkOf N s
+check-given N N′ s b v same ok fit e f = f ∙ check-fitting N s b ok fit (e ∙ ap (λ (M : Network). strongUnder M s) same)

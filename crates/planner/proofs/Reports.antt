@@ -1,0 +1,110 @@
+-- What is written down is the reply.
+-- Assumes nothing.
+use Prim.Native.Nat.{ℕ, zero, suc, _+_, _*_, _≤_, _<_}
+use native.Mathlib.Omega.{arith}
+use mathlib.Core.Path.{_≡_, refl, sym, ap, ap₂, subst, subst⁻¹, _∙_}
+use mathlib.Core.Bool.{Bool, true, false}
+use mathlib.Core.List.{List, [], _++_}
+use lib.ListN.{length, getD, take, drop, length-take}
+use lib.Seq.{take-at, length-take-le}
+use Rattle.network.specs.Networks.{Network, maxReaches, Accepted}
+use Rattle.network.specs.Tables.{tableOf}
+use Rattle.network.specs.Marks.{markBytes, marksOf, onesIn}
+use Rattle.network.specs.Replies.{Outcome, shutInSide, loneSide, shutInFinding, loneFinding, firstAnswer}
+use Rattle.network.proofs.Networks.{accepted}
+use Rattle.network.proofs.Marks.{length-marks}
+use Rattle.tables.specs.Rows.{netOf, gatesIn, bytesRow}
+use Rattle.tables.specs.Partial.{bytesOf}
+use Rattle.tables.proofs.Laws.{row-length, row-bytes, row-gates}
+use Rattle.marks.specs.Sets.{markedSet}
+use Rattle.gates.proofs.Least.{bytes-length}
+use Rattle.planner.specs.declared.Finding.{Finding}
+use Rattle.planner.specs.declared.Verdict.the-variants.{Plan, ShutIn, Lone}
+use Rattle.planner.specs.declared.Reply.{Reply}
+use Rattle.planner.specs.declared.Answer.the-variants.{Given}
+use Rattle.planner.specs.declared.Found.{Found}
+use Rattle.planner.specs.declared.Found.the-variants.{Shut, Stuck, Hung}
+use Rattle.planner.specs.Answers.{given, Written}
+use Rattle.planner.specs.Rooms.{Level, Lent, Space, Room}
+use Rattle.planner.specs.Found.{outcomeOf, otherThan, reachFound, Noted, FirstFound, shut, stuck, hung, MarksWritten, Reported, wrote-shut, wrote-lone, wrote-plan}
+use Rattle.planner.proofs.Firsts.{first-outcome}
+
+-- ---- working memory for rows of one length
+
+pub level-few : {n : ℕ} {ks xs ys : List ℕ} → Level n ks xs ys → length ks ≤ maxReaches
+level-few {n} {ks} {xs} {ys} l = omega (arith, (accepted (netOf n ks xs ys) (l .accepted)) .few-reaches, row-length ks xs ys (l .ends-a) (l .ends-b))
+
+pub level-room : {n : ℕ} {ks xs ys ws back head next seen queue : List ℕ} → Level n ks xs ys → Space ws back head next seen queue → Room n ks xs ys (take (length ks) ws) (take (length ks) back) head next seen queue
+level-room {n} {ks} {xs} {ys} {ws} {back} l s =
+    let facts = accepted (netOf n ks xs ys) (l .accepted) in
+    let few = level-few l in
+    record {
+      accepted = l .accepted;
+      ends-a = l .ends-a;
+      ends-b = l .ends-b;
+      ways-room = length-take-le (length ks) ws (omega (arith, s .ways-space));
+      back-room = length-take-le (length ks) back (omega (arith, s .back-space));
+      head-room = omega (arith, facts .few-basins, s .head-space);
+      next-room = omega (arith, s .next-space, l .ends-a);
+      seen-room = omega (arith, facts .few-basins, s .seen-space);
+      queue-room = omega (arith, s .seen-space, s .queue-space);
+    }
+
+-- ---- the marks of a finding
+
+module _ (n : ℕ) (ks xs ys : List ℕ) (ea : length xs ≡ length ks) (eb : length ys ≡ length ks) where
+  -- what was written down, with what was noted, is the reply
+  pub written : {ws seen : List ℕ} {f : Found} {plan marks plan′ marks′ : List ℕ} {r : Reply} → length ws ≡ length ks → Noted (netOf n ks xs ys) seen f → Reported n ks ws seen f plan marks plan′ marks′ r
+      → Written (outcomeOf (netOf n ks xs ys) ws f) plan marks plan′ marks′ (Given r)
+  unfolding shutInFinding loneFinding
+  written {seen} {marks} full noted (wrote-shut m) =
+      record {
+        reply = ap (λ (c : ℕ). given (ShutIn (record { reach = 0; count = c }))) (m .count ∙ ap onesIn noted);
+        plan-left = refl;
+        marks-left = m .bytes ∙ ap₂ (λ (x : List ℕ) (k : ℕ). x ++ drop k marks) noted (sym (length-marks (shutInSide (netOf n ks xs ys))));
+      }
+  written {seen} {marks} full noted (wrote-lone {r = i} m) =
+      record {
+        reply = ap (λ (c : ℕ). given (Lone (record { reach = i; count = c }))) (m .count ∙ ap onesIn noted);
+        plan-left = refl;
+        marks-left = m .bytes ∙ ap₂ (λ (x : List ℕ) (k : ℕ). x ++ drop k marks) noted (sym (length-marks (loneSide (netOf n ks xs ys) i)));
+      }
+  written {ws} {plan} full noted (wrote-plan e) =
+      record {
+        reply = refl;
+        plan-left = e ∙ ap₂ (λ (x : List ℕ) (k : ℕ). x ++ drop k plan) (sym (row-bytes ks xs ys ea eb ws)) (sym (bytes-length 0 (tableOf ks xs ys) ws (full ∙ sym (row-length ks xs ys ea eb)) ∙ row-gates ks xs ys ea eb 0));
+        marks-left = refl;
+      }
+
+-- what the search for the first plan noted
+pub first-noted : {N : Network} {ws seen : List ℕ} {f : Found} → FirstFound N ws seen f → Noted N seen f
+first-noted (shut n k) = k
+first-noted (stuck p e l k) = k
+first-noted (hung p e m) = tt
+
+pub first-fits : (N : Network) → Accepted N → {ws seen : List ℕ} {f : Found} → FirstFound N ws seen f → reachFound f < 65536
+first-fits N ok (shut n k) = omega arith
+first-fits N ok (stuck p e l k) = omega (arith, (accepted N ok) .few-reaches)
+first-fits N ok (hung p e m) = omega arith
+
+pub first-written : {n : ℕ} {ks xs ys : List ℕ} → Level n ks xs ys → {ws seen : List ℕ} {f : Found} {plan marks plan′ marks′ : List ℕ} {r : Reply} → length ws ≡ length ks → FirstFound (netOf n ks xs ys) ws seen f
+    → Reported n ks ws seen f plan marks plan′ marks′ r → Written (firstAnswer (netOf n ks xs ys)) plan marks plan′ marks′ (Given r)
+first-written {n} {ks} {xs} {ys} l {plan} {marks} {plan′} {marks′} {r} full found done =
+    subst⁻¹ (λ (o : Outcome). Written o plan marks plan′ marks′ (Given r)) (first-outcome (netOf n ks xs ys) found) (written n ks xs ys (l .ends-a) (l .ends-b) full (first-noted found) done)
+
+-- the count of what was written
+pub marks-written : (S : List ℕ) {marks marks′ : List ℕ} {r : ℕ} → marks′ ≡ marksOf S ++ drop markBytes marks → r ≡ onesIn (take markBytes marks′) → MarksWritten S marks marks′ r
+marks-written S {marks} e f = record { bytes = e; count = f ∙ ap (λ (v : List ℕ). onesIn (take markBytes v)) e ∙ ap onesIn (take-at (marksOf S) (drop markBytes marks) markBytes (length-marks S)) }
+
+-- what was found, by cases
+module _ {n : ℕ} {ks ws seen plan marks : List ℕ} {f : Found} where
+  pub reported-shut : {marks′ : List ℕ} {c : ℕ} → f ≡ Shut → MarksWritten (markedSet n seen 1) marks marks′ c → Reported n ks ws seen f plan marks plan marks′ (record { verdict = ShutIn (record { reach = 0; count = c }) })
+  reported-shut {marks′} {c} e m = subst⁻¹ (λ (g : Found). Reported n ks ws seen g plan marks plan marks′ (record { verdict = ShutIn (record { reach = 0; count = c }) })) e (wrote-shut m)
+
+  pub reported-lone : {marks′ : List ℕ} {r c x : ℕ} → f ≡ Stuck r → x ≡ otherThan (getD seen 0 0) → MarksWritten (markedSet n seen x) marks marks′ c → Reported n ks ws seen f plan marks plan marks′ (record { verdict = Lone (record { reach = r; count = c }) })
+  reported-lone {marks′} {r} {c} e k m =
+      subst⁻¹ (λ (g : Found). Reported n ks ws seen g plan marks plan marks′ (record { verdict = Lone (record { reach = r; count = c }) })) e
+      (wrote-lone (subst (λ (y : ℕ). MarksWritten (markedSet n seen y) marks marks′ c) k m))
+
+  pub reported-plan : {plan′ : List ℕ} → f ≡ Hung → plan′ ≡ bytesRow ks ws ++ drop (gatesIn ks) plan → Reported n ks ws seen f plan marks plan′ marks (record { verdict = Plan })
+  reported-plan {plan′} e m = subst⁻¹ (λ (g : Found). Reported n ks ws seen g plan marks plan′ marks (record { verdict = Plan })) e (wrote-plan m)
