@@ -4,3 +4,4 @@ pub mod Firsts
 pub mod Rows
 pub mod Reports
 pub mod Calls
+pub mod Demands
