@@ -18,7 +18,7 @@ use Rattle.network.specs.Tables.{tableOf}
 use Rattle.network.specs.Settings.{gateCount, isSetting, settingFault}
 use Rattle.network.specs.Plans.{strongUnder, isPlan}
 use Rattle.network.specs.Marks.{markBytes}
-use Rattle.network.specs.Replies.{Outcome, refused, firstAnswer, unless, roomFault, firstReply}
+use Rattle.network.specs.Replies.{Outcome, refused, firstAnswer, nextAnswer, unless, roomFault, firstReply, nextReply}
 use Rattle.tables.specs.declared.TableAnswer.the-variants as T
 use Rattle.tables.specs.Rows.{netOf, gatesIn}
 use Rattle.tables.specs.Answers as Table
@@ -130,3 +130,27 @@ first-given {N} {plan} {marks} {plan′} {marks′} {r} p q same ok room w =
 
 pub check-given : (N N′ : Network) (s : List ℕ) (b : Bool) (v : CheckAnswer) → N′ ≡ N → Accepted N → isSetting N s ≡ true → b ≡ strongUnder N′ s → v ≡ yesOr b → v ≡ checkOf N s
 check-given N N′ s b v same ok fit e f = f ∙ check-fitting N s b ok fit (e ∙ ap (λ (M : Network). strongUnder M s) same)
+
+-- ---- the next plan
+
+pub next-faulty : (N : Network) (s : List ℕ) (r : Refusal) (p q : ℕ) → tableFault N ≡ some r → nextReply N s p q ≡ refused r
+unfolding nextReply
+next-faulty N s r p q e = rw e
+
+pub next-misfit : (N : Network) (s : List ℕ) (p q : ℕ) → Accepted N → isSetting N s ≡ false → nextReply N s p q ≡ refused BadSetting
+unfolding nextReply settingFault
+next-misfit N s p q ok e = rw (ok, e)
+
+pub next-short : (N : Network) (s : List ℕ) (p q : ℕ) → Accepted N → isSetting N s ≡ true → roomFault N p q ≡ some ShortBuffer → nextReply N s p q ≡ refused ShortBuffer
+unfolding nextReply settingFault
+next-short N s p q ok fit e = rw (ok, fit, e)
+
+next-roomy : (N : Network) (s : List ℕ) (p q : ℕ) → Accepted N → isSetting N s ≡ true → roomFault N p q ≡ none → nextReply N s p q ≡ nextAnswer N s
+unfolding nextReply settingFault
+next-roomy N s p q ok fit e = rw (ok, fit, e)
+
+pub next-given : {N N′ : Network} {plan marks plan′ marks′ : List ℕ} {r : Answer} (s : List ℕ) (p q : ℕ) → N′ ≡ N → Accepted N → isSetting N s ≡ true → roomFault N p q ≡ none
+    → Written (nextAnswer N′ s) plan marks plan′ marks′ r → Written (nextReply N s p q) plan marks plan′ marks′ r
+next-given {N} {plan} {marks} {plan′} {marks′} {r} s p q same ok fit room w =
+    subst⁻¹ (λ (o : Outcome). Written o plan marks plan′ marks′ r) (next-roomy N s p q ok fit room)
+    (subst (λ (M : Network). Written (nextAnswer M s) plan marks plan′ marks′ r) same w)

@@ -53,6 +53,7 @@ next-sized N ok s = go (verdict N ok)
     pick : (o : Option (List ℕ)) → nextPlan N s ≡ o → Sized N (chosen o)
     pick none e = sized-refused
     pick (some p) e = sized-plan (setting-length N p (plan-setting N p (next-is-plan N s e)))
+
     go : Verdict N → Sized N (answer N (nextPlan N s))
     go (plans q e f) = subst⁻¹ (Sized N) (f (nextPlan N s)) (pick (nextPlan N s) refl)
     go (no-way n k f) = subst⁻¹ (Sized N) (f (nextPlan N s)) (sized-shut (length-marks _))
@@ -73,13 +74,13 @@ next-read N s planBuffer marksBuffer {plan′} {marks′} {r} a w =
 
 next-shown : (N : Network) → Accepted N → (s : List ℕ) → NextShown N s (nextAnswer N s)
 next-shown N ok s =
-    record
-    { is-next = next-given N ok s
-    ; is-plan = λ p e. next-is-plan N s ((next-given N ok s p) .0 e)
-    ; is-later = λ p e. next-is-later N s ((next-given N ok s p) .0 e)
-    ; is-earliest = λ p q e. next-is-earliest N s ((next-given N ok s p) .0 e) q
-    ; is-given = given-if-later N ok s
-    ; is-last = last-plan N ok s
+    record {
+      is-next = next-given N ok s;
+      is-plan = λ p e. next-is-plan N s ((next-given N ok s p) .0 e);
+      is-later = λ p e. next-is-later N s ((next-given N ok s p) .0 e);
+      is-earliest = λ p q e. next-is-earliest N s ((next-given N ok s p) .0 e) q;
+      is-given = given-if-later N ok s;
+      is-last = last-plan N ok s;
     }
 
 pub demand-three : (N : Network) (s t : List ℕ) → Accepted N → isSetting N s ≡ true → isSetting N t ≡ true → {o o′ : Outcome} → o ≡ nextAnswer N s → o′ ≡ nextAnswer N t → DemandThree N s t o o′

@@ -2,6 +2,7 @@
 pub mod Rooms
 pub mod Firsts
 pub mod Rows
+pub mod Seeks
 pub mod Reports
 pub mod Calls
 pub mod Demands

@@ -10,7 +10,7 @@ use lib.Seq.{take-at, length-take-le}
 use Rattle.network.specs.Networks.{Network, maxReaches, Accepted}
 use Rattle.network.specs.Tables.{tableOf}
 use Rattle.network.specs.Marks.{markBytes, marksOf, onesIn}
-use Rattle.network.specs.Replies.{Outcome, shutInSide, loneSide, shutInFinding, loneFinding, firstAnswer}
+use Rattle.network.specs.Replies.{Outcome, refused, shutInSide, loneSide, shutInFinding, loneFinding, firstAnswer, nextAnswer}
 use Rattle.network.proofs.Networks.{accepted}
 use Rattle.network.proofs.Marks.{length-marks}
 use Rattle.tables.specs.Rows.{netOf, gatesIn, bytesRow}
@@ -24,9 +24,12 @@ use Rattle.planner.specs.declared.Reply.{Reply}
 use Rattle.planner.specs.declared.Answer.the-variants.{Given}
 use Rattle.planner.specs.declared.Found.{Found}
 use Rattle.planner.specs.declared.Found.the-variants.{Shut, Stuck, Hung}
+use Rattle.planner.specs.declared.Sought.{Sought}
+use Rattle.planner.specs.declared.Sought.the-variants.{Last, At}
+use Rattle.network.specs.declared.Refusal.the-variants.{LastPlan}
 use Rattle.planner.specs.Answers.{given, Written}
 use Rattle.planner.specs.Rooms.{Level, Lent, Space, Room}
-use Rattle.planner.specs.Found.{outcomeOf, otherThan, reachFound, Noted, FirstFound, shut, stuck, hung, MarksWritten, Reported, wrote-shut, wrote-lone, wrote-plan}
+use Rattle.planner.specs.Found.{outcomeOf, otherThan, reachFound, Noted, FirstFound, shut, stuck, hung, NextFound, no-later, next-is, MarksWritten, Reported, wrote-shut, wrote-lone, wrote-plan}
 use Rattle.planner.proofs.Firsts.{first-outcome}
 
 -- ---- working memory for rows of one length
@@ -108,3 +111,28 @@ module _ {n : ℕ} {ks ws seen plan marks : List ℕ} {f : Found} where
 
   pub reported-plan : {plan′ : List ℕ} → f ≡ Hung → plan′ ≡ bytesRow ks ws ++ drop (gatesIn ks) plan → Reported n ks ws seen f plan marks plan′ marks (record { verdict = Plan })
   reported-plan {plan′} e m = subst⁻¹ (λ (g : Found). Reported n ks ws seen g plan marks plan′ marks (record { verdict = Plan })) e (wrote-plan m)
+
+-- ---- the next plan
+
+-- what the search for it found, if that is to be written down
+pub record NextAt (N : Network) (s ws seen : List ℕ) (f : Found) : Type 0 where
+  pub replies : nextAnswer N s ≡ outcomeOf N ws f
+  pub noted : Noted N seen f
+  pub fits : reachFound f < 65536
+
+at-found : {N : Network} {s ws seen : List ℕ} {f : Found} → NextFound N s ws seen (At f) → NextAt N s ws seen f
+at-found (next-is e k b) = record { replies = e; noted = k; fits = b }
+
+pub next-at : {N : Network} {s ws seen : List ℕ} {q : Sought} {f : Found} → q ≡ At f → NextFound N s ws seen q → NextAt N s ws seen f
+next-at {N} {s} {ws} {seen} e n = at-found (subst (NextFound N s ws seen) e n)
+
+last-found : {N : Network} {s ws seen : List ℕ} → NextFound N s ws seen Last → nextAnswer N s ≡ refused LastPlan
+last-found (no-later e) = e
+
+pub next-last : {N : Network} {s ws seen : List ℕ} {q : Sought} → q ≡ Last → NextFound N s ws seen q → nextAnswer N s ≡ refused LastPlan
+next-last {N} {s} {ws} {seen} e n = last-found (subst (NextFound N s ws seen) e n)
+
+pub next-written : {n : ℕ} {ks xs ys : List ℕ} → Level n ks xs ys → {s ws seen : List ℕ} {f : Found} {plan marks plan′ marks′ : List ℕ} {r : Reply} → length ws ≡ length ks → NextAt (netOf n ks xs ys) s ws seen f
+    → Reported n ks ws seen f plan marks plan′ marks′ r → Written (nextAnswer (netOf n ks xs ys) s) plan marks plan′ marks′ (Given r)
+next-written {n} {ks} {xs} {ys} l {plan} {marks} {plan′} {marks′} {r} full at done =
+    subst⁻¹ (λ (o : Outcome). Written o plan marks plan′ marks′ (Given r)) (at .replies) (written n ks xs ys (l .ends-a) (l .ends-b) full (at .noted) done)

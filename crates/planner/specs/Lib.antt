@@ -2,4 +2,5 @@
 pub mod Answers
 pub mod Rooms
 pub mod Found
+pub mod Seeks
 pub mod Demands

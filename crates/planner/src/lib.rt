@@ -1,19 +1,22 @@
-// The planner over a reach table lent as rows of numbers: the check of a setting, the first plan and the findings.
+// The planner over a reach table lent as rows of numbers: the check of a setting, the first plan, the next plan and the findings.
 // Each call refuses bad input by number and has no `requires`; what it replies and every byte of lent memory afterwards is in its `ensures`.
 ghost use mathlib.Core.Path.{_≡_};
 ghost use mathlib.Core.Bool.{true, false};
 ghost use Prim.Native.Nat.{_≤_, _<_};
 ghost use lib.ListN.{length};
-ghost use Rattle.network.specs.Networks.{Accepted};
+ghost use Rattle.network.specs.Networks.{maxReaches, Accepted};
+ghost use Rattle.network.specs.Settings.{isSetting};
 ghost use Rattle.network.specs.Plans.{strongUnder};
 ghost use Rattle.network.specs.Marks.{markBytes};
-ghost use Rattle.network.specs.Replies.{firstAnswer, firstReply};
+ghost use Rattle.network.specs.Replies.{firstAnswer, nextAnswer, firstReply, nextReply};
 ghost use Rattle.marks.specs.Sets.{markedSet};
 ghost use Rattle.tables.specs.Rows.{netOf};
 ghost use Rattle.gates.specs.Ready.{Ready};
 ghost use Rattle.planner.specs.Rooms.{Level, Lent, Space, Room, Preparable, Prepared, Passable};
 ghost use Rattle.planner.specs.Answers.{checkOf, Written};
-ghost use Rattle.planner.specs.Found.{otherThan, FirstFound, MarksWritten, Reportable, Reported};
+ghost use Rattle.planner.specs.Found.{otherThan, FirstFound, NextFound, MarksWritten, Reportable, Reported};
+ghost use Rattle.planner.specs.Seeks.{Partable, Followable, OtherThanPlan, AtPlan, Seekable, NextAfter, NextFrom};
+ghost use Rattle.planner.specs.Demands.{DemandOver};
 use marks::MARK_BYTES;
 use network::MAX_BASINS;
 use network::MAX_REACHES;
@@ -150,6 +153,156 @@ fn find_first(
         return Found::Shut;
     }
     hang_all(n, kinds, a, b, ways, head, next, seen, queue)
+}
+
+// From ways that `under` has up to reach `to`, parts from them upwards at the last gate before it at which a plan can, and decides the gates
+// after it. There is a plan; if none is alike up to `to` and later, this is the next one.
+fn part_from(
+    n: usize,
+    kinds: &[u8],
+    a: &[u16],
+    b: &[u16],
+    under: &[u8],
+    ways: &mut [u8],
+    head: &[u16],
+    next: &[u16],
+    to: usize,
+    seen: &mut [u8],
+    queue: &mut [u16],
+) -> Sought
+    requires { ⌜ Ready n (now a) (now b) (now ways) (now head) (now next) (now seen) (now queue) ⌝ }
+    requires { ⌜ Partable n (now kinds) (now a) (now b) (now under) (now ways) to ⌝ }
+    ensures { λ r. ⌜ NextFrom (netOf n (now (kinds .entry)) (now (a .entry)) (now (b .entry))) (now (under .entry)) to (now (ways .exit)) (now (seen .exit)) r ⌝ }
+{
+    let r = gates::turn_back(n, kinds, a, b, under, ways, head, next, to, seen, queue);
+    if r < a.len() {
+        gates::greedy(n, kinds, a, b, ways, head, next, r + 1, seen, queue);
+        Sought::At(Found::Hung)
+    } else {
+        Sought::Last
+    }
+}
+
+// The next plan of a plan, whose ways `under` has: no other is alike to the end.
+fn next_of_plan(
+    n: usize,
+    kinds: &[u8],
+    a: &[u16],
+    b: &[u16],
+    setting: &[u8],
+    under: &[u8],
+    ways: &mut [u8],
+    head: &[u16],
+    next: &[u16],
+    seen: &mut [u8],
+    queue: &mut [u16],
+) -> Sought
+    requires { ⌜ Ready n (now a) (now b) (now ways) (now head) (now next) (now seen) (now queue) ⌝ }
+    requires { ⌜ AtPlan n (now kinds) (now a) (now b) (now setting) (now under) ⌝ }
+    ensures { λ r. ⌜ NextFound (netOf n (now (kinds .entry)) (now (a .entry)) (now (b .entry))) (now (setting .entry)) (now (ways .exit)) (now (seen .exit)) r ⌝ }
+{
+    tables::hang(kinds, setting, ways);
+    part_from(
+        n,
+        kinds,
+        a,
+        b,
+        under,
+        ways,
+        head,
+        next,
+        a.len(),
+        seen,
+        queue,
+    )
+}
+
+// The next plan of a setting that is none, where there is a plan and no gate is hung yet: the setting is followed up to the first gate that
+// loses something, and none is alike up to that gate and with it.
+fn follow_and_part(
+    n: usize,
+    kinds: &[u8],
+    a: &[u16],
+    b: &[u16],
+    under: &[u8],
+    ways: &mut [u8],
+    head: &[u16],
+    next: &[u16],
+    seen: &mut [u8],
+    queue: &mut [u16],
+) -> Sought
+    requires { ⌜ Ready n (now a) (now b) (now ways) (now head) (now next) (now seen) (now queue) ⌝ }
+    requires { ⌜ Followable n (now kinds) (now a) (now b) (now under) (now ways) ⌝ }
+    ensures { λ r. ⌜ NextAfter (netOf n (now (kinds .entry)) (now (a .entry)) (now (b .entry))) (now (under .entry)) (now (ways .exit)) (now (seen .exit)) r ⌝ }
+{
+    let r = gates::follow(n, kinds, a, b, under, ways, head, next, seen, queue);
+    ways[r] = under[r];
+    part_from(n, kinds, a, b, under, ways, head, next, r + 1, seen, queue)
+}
+
+// The next plan of a setting that is none, whose ways `under` has, or the network's finding.
+fn next_of_other(
+    n: usize,
+    kinds: &[u8],
+    a: &[u16],
+    b: &[u16],
+    under: &[u8],
+    ways: &mut [u8],
+    back: &mut [u8],
+    head: &mut [u16],
+    next: &mut [u16],
+    seen: &mut [u8],
+    queue: &mut [u16],
+) -> Sought
+    requires { ⌜ OtherThanPlan n (now kinds) (now a) (now b) (now under) (now ways) (now back) (now head) (now next) (now seen) (now queue) ⌝ }
+    ensures { λ r. ⌜ NextAfter (netOf n (now (kinds .entry)) (now (a .entry)) (now (b .entry))) (now (under .entry)) (now (ways .exit)) (now (seen .exit)) r ⌝ }
+{
+    match find_first(n, kinds, a, b, ways, back, head, next, seen, queue) {
+        Found::Shut => Sought::At(Found::Shut),
+        Found::Stuck(r) => Sought::At(Found::Stuck(r)),
+        Found::Hung => {
+            prepare(n, kinds, a, b, &[], ways, head, next);
+            follow_and_part(n, kinds, a, b, under, ways, head, next, seen, queue)
+        }
+    }
+}
+
+// Searches for the next plan of a setting, in lent working memory: the ways that it leaves are the plan's, and what it notes is the side of a finding.
+fn find_next(
+    n: usize,
+    kinds: &[u8],
+    a: &[u16],
+    b: &[u16],
+    setting: &[u8],
+    under: &mut [u8],
+    ways: &mut [u8],
+    back: &mut [u8],
+    head: &mut [u16],
+    next: &mut [u16],
+    seen: &mut [u8],
+    queue: &mut [u16],
+) -> Sought
+    requires { ⌜ Seekable n (now kinds) (now a) (now b) (now setting) (now under) (now ways) (now back) (now head) (now next) (now seen) (now queue) ⌝ }
+    ensures { λ r. ⌜ NextFound (netOf n (now (kinds .entry)) (now (a .entry)) (now (b .entry))) (now (setting .entry)) (now (ways .exit)) (now (seen .exit)) r ⌝ }
+{
+    prepare(n, kinds, a, b, setting, under, head, next);
+    if gates::weakest(n, a, b, under, back, head, next, seen, queue) == n {
+        next_of_plan(
+            n,
+            kinds,
+            a,
+            b,
+            setting,
+            under,
+            ways,
+            head,
+            next,
+            seen,
+            queue,
+        )
+    } else {
+        next_of_other(n, kinds, a, b, under, ways, back, head, next, seen, queue)
+    }
 }
 
 // The half-edges of the largest table.
@@ -405,4 +558,163 @@ pub fn check_rows(basins: u16, kinds: &[u8], a: &[u16], b: &[u16], setting: &[u8
         return CheckAnswer::Refused(r);
     }
     check_table(basins as usize, kinds, a, b, setting)
+}
+
+// The next plan of a setting of an accepted table whose rows are of one length, or its finding, or that no plan is later, in lent working memory.
+// The setting fits and the buffers are long enough.
+fn next_in(
+    n: usize,
+    kinds: &[u8],
+    a: &[u16],
+    b: &[u16],
+    setting: &[u8],
+    plan: &mut [u8],
+    marks: &mut [u8],
+    under: &mut [u8],
+    ways: &mut [u8],
+    back: &mut [u8],
+    head: &mut [u16],
+    next: &mut [u16],
+    seen: &mut [u8],
+    queue: &mut [u16],
+) -> Answer
+    requires { ⌜ Lent n (now kinds) (now a) (now b) (now plan) (now marks) ⌝ }
+    requires { ⌜ isSetting (netOf n (now kinds) (now a) (now b)) (now setting) ≡ true ⌝ }
+    requires { ⌜ Space (now ways) (now back) (now head) (now next) (now seen) (now queue) ⌝ }
+    requires { ⌜ length (now under) ≡ maxReaches ⌝ }
+    ensures { λ r. ⌜ Written (nextAnswer (netOf n (now (kinds .entry)) (now (a .entry)) (now (b .entry))) (now (setting .entry))) (now (plan .entry)) (now (marks .entry)) (now (plan .exit)) (now (marks .exit)) r ⌝ }
+{
+    let m = kinds.len();
+    let hung = &mut ways[..m];
+    let sought = find_next(
+        n,
+        kinds,
+        a,
+        b,
+        setting,
+        &mut under[..m],
+        hung,
+        &mut back[..m],
+        head,
+        next,
+        seen,
+        queue,
+    );
+    match sought {
+        Sought::Last => Answer::Refused(Refusal::LastPlan),
+        Sought::At(found) => Answer::Given(report(found, n, kinds, hung, seen, plan, marks)),
+    }
+}
+
+// The same, with working memory of its own.
+fn next_accepted(
+    n: usize,
+    kinds: &[u8],
+    a: &[u16],
+    b: &[u16],
+    setting: &[u8],
+    plan: &mut [u8],
+    marks: &mut [u8],
+) -> Answer
+    requires { ⌜ Lent n (now kinds) (now a) (now b) (now plan) (now marks) ⌝ }
+    requires { ⌜ isSetting (netOf n (now kinds) (now a) (now b)) (now setting) ≡ true ⌝ }
+    ensures { λ r. ⌜ Written (nextAnswer (netOf n (now (kinds .entry)) (now (a .entry)) (now (b .entry))) (now (setting .entry))) (now (plan .entry)) (now (marks .entry)) (now (plan .exit)) (now (marks .exit)) r ⌝ }
+{
+    let mut under = [0u8; MAX_REACHES];
+    let mut ways = [0u8; MAX_REACHES];
+    let mut back = [0u8; MAX_REACHES];
+    let mut head = [0u16; MAX_BASINS];
+    let mut next = [0u16; HALF_EDGES];
+    let mut seen = [0u8; MAX_BASINS];
+    let mut queue = [0u16; MAX_BASINS];
+    next_in(
+        n,
+        kinds,
+        a,
+        b,
+        setting,
+        plan,
+        marks,
+        &mut under,
+        &mut ways,
+        &mut back,
+        &mut head,
+        &mut next,
+        &mut seen,
+        &mut queue,
+    )
+}
+
+// Next plan of an accepted table, after 8 and 7.
+fn next_table(
+    n: usize,
+    kinds: &[u8],
+    a: &[u16],
+    b: &[u16],
+    setting: &[u8],
+    plan: &mut [u8],
+    marks: &mut [u8],
+) -> Answer
+    requires { ⌜ Accepted (netOf n (now kinds) (now a) (now b)) ⌝ }
+    ensures { λ r. ⌜ Written (nextReply (netOf n (now (kinds .entry)) (now (a .entry)) (now (b .entry))) (now (setting .entry)) (length (now (plan .entry))) (length (now (marks .entry)))) (now (plan .entry)) (now (marks .entry)) (now (plan .exit)) (now (marks .exit)) r ⌝ }
+{
+    let m = tables::row_count(kinds, a, b);
+    let ks = &kinds[..m];
+    if !tables::fits(ks, setting) {
+        return Answer::Refused(Refusal::BadSetting);
+    }
+    if plan.len() < tables::count_gates(ks) {
+        return Answer::Refused(Refusal::ShortBuffer);
+    }
+    if marks.len() < MARK_BYTES {
+        return Answer::Refused(Refusal::ShortBuffer);
+    }
+    next_accepted(n, ks, &a[..m], &b[..m], setting, plan, marks)
+}
+
+// The next plan of a setting of the network, itself a plan or not; or the finding that shows why there is none, or that no plan is later.
+// Refuses 1, 2, 3, 8, 7 and 11.
+pub fn next_plan_rows(
+    basins: u16,
+    kinds: &[u8],
+    a: &[u16],
+    b: &[u16],
+    setting: &[u8],
+    plan: &mut [u8],
+    marks: &mut [u8],
+) -> Answer
+    ensures { λ r. ⌜ Written (nextReply (netOf basins (now (kinds .entry)) (now (a .entry)) (now (b .entry))) (now (setting .entry)) (length (now (plan .entry))) (length (now (marks .entry)))) (now (plan .entry)) (now (marks .entry)) (now (plan .exit)) (now (marks .exit)) r ⌝ }
+{
+    if let TableAnswer::Refused(r) = tables::table_fault(basins, kinds, a, b) {
+        return Answer::Refused(r);
+    }
+    next_table(basins as usize, kinds, a, b, setting, plan, marks)
+}
+
+// Two answers of next.
+pub struct Both {
+    pub first: Answer,
+    pub second: Answer,
+}
+
+// Demand 3 over the running call: asks next of two settings, each with lent buffers of its own.
+pub fn next_of_two(
+    basins: u16,
+    kinds: &[u8],
+    a: &[u16],
+    b: &[u16],
+    s: &[u8],
+    t: &[u8],
+    plan1: &mut [u8],
+    marks1: &mut [u8],
+    plan2: &mut [u8],
+    marks2: &mut [u8],
+) -> Both
+    ensures { λ r. ⌜ DemandOver (netOf basins (now (kinds .entry)) (now (a .entry)) (now (b .entry))) (now (s .entry)) (now (t .entry))
+        (now (plan1 .entry)) (now (marks1 .entry)) (now (plan2 .entry)) (now (marks2 .entry)) (now (plan1 .exit)) (now (marks1 .exit)) (now (plan2 .exit)) (now (marks2 .exit))
+        (r .first) (r .second) ⌝ }
+{
+    let first = next_plan_rows(basins, kinds, a, b, s, plan1, marks1);
+    let second = next_plan_rows(basins, kinds, a, b, t, plan2, marks2);
+    Both { first, second }
 }
