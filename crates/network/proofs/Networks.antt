@@ -23,7 +23,7 @@ use Rattle.network.proofs.Finds.{range-has, range-in}
 use Rattle.network.proofs.Ways.{Source, arcs-in}
 
 -- an end is below the basin count
-abbrev endsBelow : ℕ → Reach → Bool
+abbrev pub endsBelow : ℕ → Reach → Bool
 endsBelow n r = ltb (r .a) n && ltb (r .b) n
 
 pub record Facts (N : Network) : Type 0 where

@@ -23,7 +23,7 @@ pub struct Reach {
     pub b: u16,
 }
 
-// The refusals that return a number only. specs/Reply.antt gives each its number in document 01.
+// The refusals that return a number only. specs/Replies.antt gives each its number in document 01.
 pub enum Refusal {
     BasinCount,
     TooManyReaches,

@@ -19,9 +19,7 @@ use Rattle.network.specs.Settings.{gateCount, isSetting, settingFault}
 use Rattle.network.specs.Plans.{strongUnder, isPlan}
 use Rattle.network.specs.Marks.{markBytes}
 use Rattle.network.specs.Replies.{Outcome, refused, firstAnswer, nextAnswer, unless, roomFault, firstReply, nextReply}
-use Rattle.tables.specs.declared.TableAnswer.the-variants as T
 use Rattle.tables.specs.Rows.{netOf, gatesIn}
-use Rattle.tables.specs.Answers as Table
 use Rattle.tables.proofs.Laws.{shortest, table-short, table-take, row-gates, row-setting}
 use Rattle.planner.specs.declared.Answer.{Answer}
 use Rattle.planner.specs.declared.Answer.the-variants as A
@@ -79,18 +77,6 @@ module _ (n : ℕ) (ks xs ys : List ℕ) (m : ℕ) (e : m ≡ length (tableOf ks
     long-enough k l = rw (le-leb (gateCount (netOf n ks xs ys)) planLength (omega (arith, cut-gates)), le-leb markBytes marksLength l)
 
 -- ---- refusals
-
--- a table's answer
-pub fault-some : (o : Option Refusal) (r : Refusal) → Table.answerOf o ≡ T.Refused r → o ≡ some r
-fault-some none r e = cc
-fault-some (some x) r e = ap some (inner e)
-  where
-    inner : T.Refused x ≡ T.Refused r → x ≡ r
-    inner e = cc
-
-pub fault-none : (o : Option Refusal) → Table.answerOf o ≡ T.Accepted → o ≡ none
-fault-none none e = refl
-fault-none (some x) e = cc
 
 -- a refusal by number writes nothing
 pub refused-written : {o : Outcome} {r : Refusal} {plan marks : List ℕ} → o ≡ refused r → Written o plan marks plan marks (A.Refused r)

@@ -1,19 +1,23 @@
 -- Which fault a network lent as rows has, by the tests of its table in their order.
 -- Assumes nothing.
 use Prim.Native.Nat.{ℕ, _≤_, _<_}
-use mathlib.Core.Path.{_≡_}
+use mathlib.Core.Path.{_≡_, refl}
 use mathlib.Core.Bool.{Bool, true, false, _&&_}
 use mathlib.Core.List.{List}
-use mathlib.Core.Option.{none, some}
+use mathlib.Core.Option.{Option, none, some}
 use lib.ListN.{length, getD}
 use lib.Dec.{leb, ltb}
 use borrow.Author.Tests.{leb-true, ltb-true, le-leb, lt-ltb}
 use Rattle.network.specs.declared.Reach.{Reach}
+use Rattle.network.specs.declared.Refusal.{Refusal}
 use Rattle.network.specs.declared.Refusal.the-variants.{BasinCount, TooManyReaches, EndOutOfRange}
 use Rattle.network.specs.Networks.{Network, maxBasins, goodCount, goodLength, goodEnds, tableFault}
 use Rattle.network.specs.Tables.{tableOf}
 use Rattle.network.specs.Lone.{noReach}
+use Rattle.network.proofs.Networks.{endsBelow}
 use Rattle.network.proofs.Bools.{and-left, and-right, and-make, fails}
+use Rattle.tables.specs.declared.TableAnswer.the-variants as T
+use Rattle.tables.specs.Answers.{answerOf}
 use Rattle.tables.proofs.Laws.{table-at}
 
 module _ (N : Network) where
@@ -43,10 +47,6 @@ module _ (N : Network) where
   unfolding tableFault
   fault-none e f g = rw (e, f, g)
 
--- both ends of a reach are below the basin count
-abbrev pub endsBelow : ℕ → Reach → Bool
-endsBelow n r = ltb (r .a) n && ltb (r .b) n
-
 module _ (n i : ℕ) (ks xs ys : List ℕ) (l : i < length (tableOf ks xs ys)) where
   -- by the two numbers in the rows
   pub ends-good : getD xs i 0 < n → getD ys i 0 < n → endsBelow n (getD (tableOf ks xs ys) i noReach) ≡ true
@@ -56,3 +56,12 @@ module _ (n i : ℕ) (ks xs ys : List ℕ) (l : i < length (tableOf ks xs ys)) w
   ends-bad f =
       let below = ltb (getD xs i 0) n in
       rw (table-at i ks xs ys l) (fails (below && ltb (getD ys i 0) n) (λ e. f (ltb-true (getD xs i 0) n (and-left below _ e)) (ltb-true (getD ys i 0) n (and-right below _ e))))
+
+-- what the answer says of the fault
+pub answer-refused : (o : Option Refusal) (r : Refusal) → answerOf o ≡ T.Refused r → o ≡ some r
+answer-refused none r e = cc
+answer-refused (some x) r e = cc
+
+pub answer-accepted : (o : Option Refusal) → answerOf o ≡ T.Accepted → o ≡ none
+answer-accepted none e = refl
+answer-accepted (some x) e = cc

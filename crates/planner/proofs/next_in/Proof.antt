@@ -34,7 +34,7 @@ find-next-requires c κs = let s = (c .before .before .before .before .before .b
     record {
       room = level-room (s .pre .0 .level) (s .pre .1 .1 .0);
       under-room = length-take-le _ (s .args .under .now) (omega (arith, level-few (s .pre .0 .level), s .pre .1 .1 .1));
-      fits = s .pre .1 .0
+      fits = s .pre .1 .0;
     }
 
 enum-told : tie.Need-enum-told
@@ -54,7 +54,7 @@ report-requires c κs = let s = (c .before .before .before .before .before .befo
       seen-room = omega (arith, facts .few-basins, s .pre .1 .1 .0 .seen-space, f .kept .1 .1 .1 .1 .1 .1 .1 .1 .1 .1 .0);
       plan-room = s .pre .0 .plan-room;
       marks-room = s .pre .0 .marks-room;
-      reach-fits = (next-at ((c .before .before .before .before .before) .sought .given .1) (f .ensures)) .fits
+      reach-fits = (next-at ((c .before .before .before .before .before) .sought .given .1) (f .ensures)) .fits;
     }
 
 same-length : tie.Need-same-length

@@ -42,12 +42,14 @@ slice-aggregate-next-accepted-2 : tie.Need-slice-aggregate-next-accepted-2
 slice-aggregate-next-accepted-2 c = let s = (c .before .before .before .before .before .before .before .before .before .before .before .before .before .before .before) in sym (length-take-le _ (s .args .b .now) (cut-b (s .args .n) (s .args .kinds .now) (s .args .a .now) (s .args .b .now) ((c .before .before .before .before .before .before .before .before) .row-count .result) ((c .before .before .before .before .before .before .before .before) .row-count .ensures)))
 
 next-accepted-requires : tie.Need-next-accepted-requires
-next-accepted-requires c κs = let s = (c .before .before .before .before .before .before .before .before .before .before .before .before .before .before .before .before .before) in
-    (record {
-      level = cut-level (s .args .n) (s .args .kinds .now) (s .args .a .now) (s .args .b .now) ((c .before .before .before .before .before .before .before .before .before .before) .row-count .result) ((c .before .before .before .before .before .before .before .before .before .before) .row-count .ensures) (s .pre);
-      plan-room = omega (arith, (c .before .before .before .before .before .before) .count-gates .ensures, (c .before .before .before .before .before) .if2 .left);
-      marks-room = omega (arith, (c .before .before .before .before) .if3 .left)
-    }, ap (λ (M : Network). isSetting M (s .args .setting .now)) (cut-net (s .args .n) (s .args .kinds .now) (s .args .a .now) (s .args .b .now) ((c .before .before .before .before .before .before .before .before .before .before) .row-count .result) ((c .before .before .before .before .before .before .before .before .before .before) .row-count .ensures)) ∙ (cut-setting (s .args .n) (s .args .kinds .now) (s .args .a .now) (s .args .b .now) ((c .before .before .before .before .before .before .before .before .before .before) .row-count .result) ((c .before .before .before .before .before .before .before .before .before .before) .row-count .ensures) (s .args .setting .now) ∙ sym ((c .before .before .before .before .before .before .before .before) .fits2 .ensures) ∙ not-false _ ((c .before .before .before .before .before .before .before) .if1 .left)))
+next-accepted-requires c κs = let s = (c .before .before .before .before .before .before .before .before .before .before .before .before .before .before .before .before .before) in (
+  record {
+    level = cut-level (s .args .n) (s .args .kinds .now) (s .args .a .now) (s .args .b .now) ((c .before .before .before .before .before .before .before .before .before .before) .row-count .result) ((c .before .before .before .before .before .before .before .before .before .before) .row-count .ensures) (s .pre);
+    plan-room = omega (arith, (c .before .before .before .before .before .before) .count-gates .ensures, (c .before .before .before .before .before) .if2 .left);
+    marks-room = omega (arith, (c .before .before .before .before) .if3 .left);
+  },
+  ap (λ (M : Network). isSetting M (s .args .setting .now)) (cut-net (s .args .n) (s .args .kinds .now) (s .args .a .now) (s .args .b .now) ((c .before .before .before .before .before .before .before .before .before .before) .row-count .result) ((c .before .before .before .before .before .before .before .before .before .before) .row-count .ensures)) ∙ (cut-setting (s .args .n) (s .args .kinds .now) (s .args .a .now) (s .args .b .now) ((c .before .before .before .before .before .before .before .before .before .before) .row-count .result) ((c .before .before .before .before .before .before .before .before .before .before) .row-count .ensures) (s .args .setting .now) ∙ sym ((c .before .before .before .before .before .before .before .before) .fits2 .ensures) ∙ not-false _ ((c .before .before .before .before .before .before .before) .if1 .left)),
+)
 
 same-length : tie.Need-same-length
 same-length c = search needs

@@ -7,7 +7,8 @@ use lib.ListN.{length, getD}
 use borrow.Author.Tests.{leb-true, leb-false}
 use Rattle.network.specs.Tables.{tableOf}
 use Rattle.network.specs.Lone.{noReach}
-use Rattle.tables.proofs.Faults.{endsBelow, ends-good, ends-bad}
+use Rattle.network.proofs.Networks.{endsBelow}
+use Rattle.tables.proofs.Faults.{ends-good, ends-bad}
 use Rattle.tables.proofs.Laws.{table-short}
 use Rattle.tables.proofs.Turns.{Passed, passed-none, passed-more, passed-not, passed-all}
 use Rattle.tables.proofs.good_ends.Statement.{statement}

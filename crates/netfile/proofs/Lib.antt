@@ -1,0 +1,13 @@
+-- The laws of the network file.
+pub mod Records
+pub mod Marking
+pub mod Taking
+pub mod Steps
+pub mod Scan
+pub mod Accepting
+pub mod Files
+pub mod Filling
+pub mod Calls
+pub mod Writing
+pub mod RoundTrips
+pub mod Examples
