@@ -1,0 +1,44 @@
+-- `calls::check_packed` meets its contract: a table of too many reaches is refused for that, and the rows of any other, cut to its length, are those of the table.
+-- Assumes nothing.
+use Rattle.planner.proofs.Calls.{check-faulty}
+use borrow.Author.Needs.{needs}
+use Rattle.calls.proofs.Packings.{Cut, cut, of-rows, of-over-full}
+use Rattle.calls.proofs.check_packed.Statement.{statement}
+use Rattle.calls.proofs.check_packed.Tie as tie
+
+-- after the test the rows are long enough
+long : (c : tie.Else1) → Cut (c .before .before .args .p)
+long c = cut _ _ (c .before .before .good .1 .0) (c .if1 .left)
+
+over-full-requires : tie.Need-over-full-requires
+over-full-requires c κs = search needs
+
+returns : tie.Need-returns
+returns c = of-over-full (c .before .if1 .taken) (c .over-full .ensures) (λ N e. check-faulty N _ _ e)
+
+array-share-prefix-kinds : tie.Need-array-share-prefix-kinds
+array-share-prefix-kinds c = long (c .before .before .before) .kinds .within
+
+slice-aggregate-check-rows : tie.Need-slice-aggregate-check-rows
+slice-aggregate-check-rows c = long (c .before .before .before .before) .kinds .counted
+
+array-share-prefix-a : tie.Need-array-share-prefix-a
+array-share-prefix-a c = long (c .before .before .before .before) .a .within
+
+slice-aggregate-check-rows-2 : tie.Need-slice-aggregate-check-rows-2
+slice-aggregate-check-rows-2 c = long (c .before .before .before .before .before) .a .counted
+
+array-share-prefix-b : tie.Need-array-share-prefix-b
+array-share-prefix-b c = long (c .before .before .before .before .before) .b .within
+
+slice-aggregate-check-rows-3 : tie.Need-slice-aggregate-check-rows-3
+slice-aggregate-check-rows-3 c = long (c .before .before .before .before .before .before) .b .counted
+
+check-rows-requires : tie.Need-check-rows-requires
+check-rows-requires c κs = search needs
+
+returns-2 : tie.Need-returns-2
+returns-2 c = of-rows (long (c .before .before .before .before .before .before .before)) (c .check-rows .ensures)
+
+pub check-packed-spec : {M : Type 1} → statement M
+check-packed-spec = tie.close (tie.spec over-full-requires returns array-share-prefix-kinds slice-aggregate-check-rows array-share-prefix-a slice-aggregate-check-rows-2 array-share-prefix-b slice-aggregate-check-rows-3 check-rows-requires returns-2)

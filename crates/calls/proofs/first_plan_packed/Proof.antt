@@ -1,0 +1,50 @@
+-- `calls::first_plan_packed` meets its contract: a table of too many reaches is refused for that, and the rows of any other, cut to its length, are those of the table.
+-- Assumes nothing.
+use Rattle.planner.proofs.Calls.{refused-written, first-faulty}
+use borrow.Author.Needs.{needs}
+use Rattle.calls.proofs.Packings.{Cut, cut, of-rows, of-over-full}
+use Rattle.calls.proofs.first_plan_packed.Statement.{statement}
+use Rattle.calls.proofs.first_plan_packed.Tie as tie
+
+-- after the test the rows are long enough
+long : (c : tie.Else1) → Cut (c .before .before .before .args .p)
+long c = cut _ _ (c .before .before .before .good .1 .0) (c .if1 .left)
+
+over-full-requires : tie.Need-over-full-requires
+over-full-requires c κs = search needs
+
+returns : tie.Need-returns
+returns c = of-over-full (c .before .if1 .taken) (c .over-full .ensures) (λ N e. refused-written (first-faulty N _ _ _ e))
+
+array-share-prefix-kinds : tie.Need-array-share-prefix-kinds
+array-share-prefix-kinds c = long (c .before .before .before) .kinds .within
+
+slice-aggregate-first-plan-rows : tie.Need-slice-aggregate-first-plan-rows
+slice-aggregate-first-plan-rows c = long (c .before .before .before .before) .kinds .counted
+
+array-share-prefix-a : tie.Need-array-share-prefix-a
+array-share-prefix-a c = long (c .before .before .before .before) .a .within
+
+slice-aggregate-first-plan-rows-2 : tie.Need-slice-aggregate-first-plan-rows-2
+slice-aggregate-first-plan-rows-2 c = long (c .before .before .before .before .before) .a .counted
+
+array-share-prefix-b : tie.Need-array-share-prefix-b
+array-share-prefix-b c = long (c .before .before .before .before .before) .b .within
+
+slice-aggregate-first-plan-rows-3 : tie.Need-slice-aggregate-first-plan-rows-3
+slice-aggregate-first-plan-rows-3 c = long (c .before .before .before .before .before .before) .b .counted
+
+first-plan-rows-requires : tie.Need-first-plan-rows-requires
+first-plan-rows-requires c κs = search needs
+
+same-length : tie.Need-same-length
+same-length c = search needs
+
+same-length-2 : tie.Need-same-length-2
+same-length-2 c = search needs
+
+returns-2 : tie.Need-returns-2
+returns-2 c = of-rows (long (c .before .before .before .before .before .before .before .before .before .before .before .before .before)) (c .before .before .before .before .first-plan-rows .ensures)
+
+pub first-plan-packed-spec : {M : Type 1} → statement M
+first-plan-packed-spec = tie.close (tie.spec over-full-requires returns array-share-prefix-kinds slice-aggregate-first-plan-rows array-share-prefix-a slice-aggregate-first-plan-rows-2 array-share-prefix-b slice-aggregate-first-plan-rows-3 first-plan-rows-requires same-length same-length-2 returns-2)

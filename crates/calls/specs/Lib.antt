@@ -1,0 +1,2 @@
+-- What the calls over a lent reach table promise.
+pub mod Tables

@@ -1,0 +1,124 @@
+// The planner's public calls over a reach table lent as a slice of records: the check of a table and of a setting, the first plan and the next.
+// Each promises of the lent table what the call over rows promises of its numbers.
+// The borrow checker does not cover a slice of structs. So each public call is one line, proved by a walk of its code, by hand: it has the table
+// packed into rows and hands these to a covered call, whose promise holds of every table that the rows are the packing of.
+use lent::Packed;
+use lent::pack;
+use network::MAX_BASINS;
+use network::MAX_REACHES;
+use network::Reach;
+use network::Refusal;
+use planner::Answer;
+use planner::CheckAnswer;
+use tables::TableAnswer;
+ghost use mathlib.Core.Path.{_≡_};
+ghost use lib.ListN.{length};
+ghost use Rattle.network.specs.Networks.{tableFault};
+ghost use Rattle.network.specs.Replies.{firstReply, nextReply};
+ghost use Rattle.tables.specs.Answers.{answerOf};
+ghost use Rattle.planner.specs.Answers.{checkOf, Written};
+ghost use Rattle.calls.specs.Tables.{lentNet, overFull, OfTable};
+
+// What a table of too many reaches is refused for: the basin count comes before the number of reaches.
+fn over_full(basins: u16) -> Refusal
+    ensures { λ r. ⌜ r ≡ overFull basins ⌝ }
+{
+    if basins == 0 || basins as usize > MAX_BASINS {
+        return Refusal::BasinCount;
+    }
+    Refusal::TooManyReaches
+}
+
+// The call over rows, for each public call. A table of too many reaches has rows of zeros, so it is refused by its number of reaches alone.
+fn table_check_packed(basins: u16, p: Packed) -> TableAnswer
+    ensures { λ r. ⌜ OfTable basins p (λ N. r ≡ answerOf (tableFault N)) ⌝ }
+{
+    let n = p.n;
+    if n > MAX_REACHES {
+        return TableAnswer::Refused(over_full(basins));
+    }
+    let kinds = p.kinds;
+    let a = p.a;
+    let b = p.b;
+    tables::table_fault(basins, &kinds[..n], &a[..n], &b[..n])
+}
+
+fn check_packed(basins: u16, p: Packed, setting: &[u8]) -> CheckAnswer
+    ensures { λ r. ⌜ OfTable basins p (λ N. r ≡ checkOf N (now (setting .entry))) ⌝ }
+{
+    let n = p.n;
+    if n > MAX_REACHES {
+        return CheckAnswer::Refused(over_full(basins));
+    }
+    let kinds = p.kinds;
+    let a = p.a;
+    let b = p.b;
+    planner::check_rows(basins, &kinds[..n], &a[..n], &b[..n], setting)
+}
+
+fn first_plan_packed(basins: u16, p: Packed, plan: &mut [u8], marks: &mut [u8]) -> Answer
+    ensures { λ r. ⌜ OfTable basins p (λ N. Written (firstReply N (length (now (plan .entry))) (length (now (marks .entry)))) (now (plan .entry)) (now (marks .entry)) (now (plan .exit)) (now (marks .exit)) r) ⌝ }
+{
+    let n = p.n;
+    if n > MAX_REACHES {
+        return Answer::Refused(over_full(basins));
+    }
+    let kinds = p.kinds;
+    let a = p.a;
+    let b = p.b;
+    planner::first_plan_rows(basins, &kinds[..n], &a[..n], &b[..n], plan, marks)
+}
+
+fn next_plan_packed(
+    basins: u16,
+    p: Packed,
+    setting: &[u8],
+    plan: &mut [u8],
+    marks: &mut [u8],
+) -> Answer
+    ensures { λ r. ⌜ OfTable basins p (λ N. Written (nextReply N (now (setting .entry)) (length (now (plan .entry))) (length (now (marks .entry)))) (now (plan .entry)) (now (marks .entry)) (now (plan .exit)) (now (marks .exit)) r) ⌝ }
+{
+    let n = p.n;
+    if n > MAX_REACHES {
+        return Answer::Refused(over_full(basins));
+    }
+    let kinds = p.kinds;
+    let a = p.a;
+    let b = p.b;
+    planner::next_plan_rows(basins, &kinds[..n], &a[..n], &b[..n], setting, plan, marks)
+}
+
+// What the table gets: it is accepted, or refused by number only. Refuses 1, 2 and 3.
+pub fn table_check(basins: u16, table: &[Reach]) -> TableAnswer
+    ensures { λ r. ⌜ r ≡ answerOf (tableFault (lentNet basins (now (table .entry)))) ⌝ }
+{
+    table_check_packed(basins, pack(table))
+}
+
+// Whether a setting is a plan of the network. Refuses 1, 2, 3 and 8, and writes nothing.
+pub fn check(basins: u16, table: &[Reach], setting: &[u8]) -> CheckAnswer
+    ensures { λ r. ⌜ r ≡ checkOf (lentNet basins (now (table .entry))) (now (setting .entry)) ⌝ }
+{
+    check_packed(basins, pack(table), setting)
+}
+
+// The first plan of the network, or the finding that shows why there is none. Refuses 1, 2, 3 and 7.
+pub fn first_plan(basins: u16, table: &[Reach], plan: &mut [u8], marks: &mut [u8]) -> Answer
+    ensures { λ r. ⌜ Written (firstReply (lentNet basins (now (table .entry))) (length (now (plan .entry))) (length (now (marks .entry)))) (now (plan .entry)) (now (marks .entry)) (now (plan .exit)) (now (marks .exit)) r ⌝ }
+{
+    first_plan_packed(basins, pack(table), plan, marks)
+}
+
+// The next plan of a setting of the network, itself a plan or not; or the finding that shows why there is none, or that no plan is later.
+// Refuses 1, 2, 3, 8, 7 and 11.
+pub fn next_plan(
+    basins: u16,
+    table: &[Reach],
+    setting: &[u8],
+    plan: &mut [u8],
+    marks: &mut [u8],
+) -> Answer
+    ensures { λ r. ⌜ Written (nextReply (lentNet basins (now (table .entry))) (now (setting .entry)) (length (now (plan .entry))) (length (now (marks .entry)))) (now (plan .entry)) (now (marks .entry)) (now (plan .exit)) (now (marks .exit)) r ⌝ }
+{
+    next_plan_packed(basins, pack(table), setting, plan, marks)
+}

@@ -1,0 +1,124 @@
+// The lent reach table, a slice of records, taken apart into rows of numbers.
+// The borrow checker does not cover a slice of structs. So two functions have the slice in hand and are proved by a walk of their code, by
+// hand: `pack` and `unpack`. They copy one record after the other, and leave the work on it to `put` and `reach_of`, which are covered.
+use network::Kind;
+use network::MAX_REACHES;
+use network::Reach;
+ghost use mathlib.Core.Path.{_≡_};
+ghost use Prim.Native.Nat.{_<_};
+ghost use Rattle.network.specs.Tables.{kindOf, kindNumber};
+ghost use Rattle.network.specs.Networks.{maxReaches};
+ghost use Rattle.lent.specs.Rows.{heldOf, emptyOf, putAt, packedOf, storedOf, reachIn, unpackedInto};
+
+// A reach table as rows of numbers: the kinds, ends A and ends B of its n reaches, and zeros after them.
+// All rows are zeros where the table has more reaches than a network may have.
+pub struct Packed {
+    pub n: usize,
+    pub kinds: [u8; MAX_REACHES],
+    pub a: [u16; MAX_REACHES],
+    pub b: [u16; MAX_REACHES],
+}
+
+// The number of a kind in a row.
+fn number(k: Kind) -> u8
+    ensures { λ r. ⌜ r ≡ kindNumber k ⌝ }
+{
+    match k {
+        Kind::Gated => 0,
+        Kind::Flap => 1,
+        Kind::TwoWay => 2,
+    }
+}
+
+// How many reaches the rows hold: all of a table that fits, none of one that does not.
+fn held(n: usize) -> usize
+    ensures { λ r. ⌜ r ≡ heldOf n ⌝ }
+{
+    if n <= MAX_REACHES { n } else { 0 }
+}
+
+// Rows of zeros for a table of n reaches.
+fn empty(n: usize) -> Packed
+    ensures { λ r. ⌜ r ≡ emptyOf n ⌝ }
+{
+    Packed {
+        n: n,
+        kinds: [0; MAX_REACHES],
+        a: [0; MAX_REACHES],
+        b: [0; MAX_REACHES],
+    }
+}
+
+// One reach goes into the rows.
+fn put(p: Packed, i: usize, r: Reach) -> Packed
+    requires { ⌜ i < maxReaches ⌝ }
+    ensures { λ q. ⌜ q ≡ putAt p i r ⌝ }
+{
+    let k = r.kind;
+    let mut q = p;
+    q.kinds[i] = number(k);
+    q.a[i] = r.a;
+    q.b[i] = r.b;
+    q
+}
+
+// The lent table as rows.
+pub fn pack(t: &[Reach]) -> Packed
+    ensures { λ r. ⌜ r ≡ packedOf (now (t .entry)) ⌝ }
+{
+    let n = t.len();
+    let end = held(n);
+    let mut p = empty(n);
+    let mut i = 0;
+    while i < end {
+        p = put(p, i, t[i]);
+        i = i + 1;
+    }
+    p
+}
+
+// The kind that a number of a row stands for.
+fn kind_of(k: u8) -> Kind
+    ensures { λ r. ⌜ r ≡ kindOf k ⌝ }
+{
+    if k == 0 {
+        Kind::Gated
+    } else if k == 1 {
+        Kind::Flap
+    } else {
+        Kind::TwoWay
+    }
+}
+
+// The reach that stands in the rows at i.
+fn reach_of(p: Packed, i: usize) -> Reach
+    requires { ⌜ i < maxReaches ⌝ }
+    ensures { λ r. ⌜ r ≡ reachIn p i ⌝ }
+{
+    let k = kind_of(p.kinds[i]);
+    Reach {
+        kind: k,
+        a: p.a[i],
+        b: p.b[i],
+    }
+}
+
+// How many of n reaches go into a table with this room: all of them, or none.
+fn stored(n: usize, room: usize) -> usize
+    ensures { λ r. ⌜ r ≡ storedOf n room ⌝ }
+{
+    if n <= room { held(n) } else { 0 }
+}
+
+// The rows go into the first records of the lent table, which keeps all others. A table that is too short keeps them all.
+pub fn unpack(t: &mut [Reach], p: Packed)
+    ensures { λ _. ⌜ now (t .exit) ≡ unpackedInto p (now (t .entry)) ⌝ }
+{
+    let n = p.n;
+    let end = stored(n, t.len());
+    let mut i = 0;
+    while i < end {
+        t[i] = reach_of(p, i);
+        i = i + 1;
+    }
+}
