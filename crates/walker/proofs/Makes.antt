@@ -1,0 +1,103 @@
+-- The making of a walker, and how many bytes of it a table uses.
+-- Assumes nothing.
+use Prim.Native.Nat.{ℕ, suc, _≤_}
+use native.Mathlib.Omega.{arith}
+use mathlib.Core.Path.{_≡_, refl, ap, _∙_}
+use mathlib.Core.Bool.{Bool, true, false, cond}
+use mathlib.Core.Option.{Option, none, some, Option·some-ne-none}
+use mathlib.Core.List.{List, [], _∷_}
+use lib.ListN.{length, take}
+use lib.Seq.{take-length}
+use Rattle.network.specs.declared.Reach.{Reach}
+use Rattle.network.specs.declared.Refusal.{Refusal}
+use Rattle.network.specs.declared.Refusal.the-variants.{BadSetting}
+use Rattle.network.specs.Networks.{Network, maxReaches, tableFault, Accepted}
+use Rattle.network.specs.Settings.{isGated, gatesFrom, gateCount, isSetting, settingFault}
+use Rattle.network.specs.Plans.{isPlan}
+use Rattle.network.proofs.Networks.{accepted}
+use Rattle.network.proofs.Order.{setting-length}
+use Rattle.planner.specs.Answers.{yesOr, unlessRefused, checkOf}
+use Rattle.walker.specs.declared.MakeAnswer.{MakeAnswer}
+use Rattle.walker.specs.declared.MakeAnswer.the-variants as M
+use Rattle.walker.specs.declared.Walker.{Walker}
+use Rattle.walker.specs.Walkers.{walkerOf, faultOr, makeFault, makeOf, walkerMade, keptOf, Making}
+
+-- ---- the gates of an accepted table
+
+gate-few : (b : Bool) (o : ℕ) (l : List ℕ) (n : ℕ) → length l ≤ n → length (cond b (o ∷ l) l) ≤ suc n
+gate-few true o l n e = omega arith
+gate-few false o l n e = omega arith
+
+gates-few : (o : ℕ) (t : List Reach) → length (gatesFrom o t) ≤ length t
+gates-few o [] = omega arith
+gates-few o (r ∷ t) = gate-few (isGated (r .kind)) o (gatesFrom (suc o) t) (length t) (gates-few (suc o) t)
+
+-- a walker holds a byte for each
+pub gates-held : (N : Network) → Accepted N → gateCount N ≤ maxReaches
+gates-held N ok = omega (arith, gates-few 0 (N .reaches), accepted N ok .few-reaches)
+
+-- ---- what the making answers
+
+module _ (N : Network) (s : List ℕ) where
+  -- 1, 2 and 3, by the table
+  pub make-faulty : {r : Refusal} → tableFault N ≡ some r → M.Refused r ≡ makeOf (makeFault N s)
+  unfolding makeFault
+  make-faulty e = rw e
+
+  -- 8, by the setting
+  pub make-misfit : Accepted N → isSetting N s ≡ false → M.Refused BadSetting ≡ makeOf (makeFault N s)
+  unfolding makeFault settingFault
+  make-misfit ok e = rw (ok, e)
+
+  pub make-fitting : Accepted N → isSetting N s ≡ true → M.Made ≡ makeOf (makeFault N s)
+  unfolding makeFault settingFault
+  make-fitting ok e = rw (ok, e)
+
+  -- "where the check of that setting would refuse, so does the making"
+  pub make-as-check : checkOf N s ≡ unlessRefused (makeFault N s) (yesOr (isPlan N s))
+  unfolding checkOf makeFault
+  make-as-check = go (tableFault N)
+    where
+      go : (f : Option Refusal) → unlessRefused f (unlessRefused (settingFault N s) (yesOr (isPlan N s))) ≡ unlessRefused (faultOr f (settingFault N s)) (yesOr (isPlan N s))
+      go none = refl
+      go (some r) = refl
+
+  -- what is not refused is a setting of an accepted table
+  made-held : makeFault N s ≡ none → length s ≤ maxReaches
+  unfolding makeFault settingFault
+  made-held e = go (tableFault N) refl (isSetting N s) refl e
+    where
+      go : (f : Option Refusal) → tableFault N ≡ f → (b : Bool) → isSetting N s ≡ b → faultOr f (cond b none (some BadSetting)) ≡ none → length s ≤ maxReaches
+      go none ok true fit e = omega (arith, gates-held N ok, setting-length N s fit)
+      go none ok false fit e = absurd (Option·some-ne-none BadSetting e)
+      go (some r) bad true fit e = absurd (Option·some-ne-none r e)
+      go (some r) bad false fit e = absurd (Option·some-ne-none r e)
+
+-- ---- the bytes kept
+
+kept-within : (f : Option Refusal) (n : ℕ) → keptOf (makeOf f) n ≤ n
+kept-within none n = omega arith
+kept-within (some r) n = omega arith
+
+kept-walker : (f : Option Refusal) (s : List ℕ) → walkerOf (take (keptOf (makeOf f) (length s)) s) ≡ walkerMade f s
+kept-walker none s = ap walkerOf (take-length s)
+kept-walker (some r) s = refl
+
+module _ (N : Network) (s : List ℕ) {r : MakeAnswer} {n : ℕ} (e : r ≡ makeOf (makeFault N s)) (k : n ≡ keptOf r (length s)) where
+  kept-is : n ≡ keptOf (makeOf (makeFault N s)) (length s)
+  kept-is = k ∙ ap (λ (x : MakeAnswer). keptOf x (length s)) e
+
+  -- they are bytes of the setting, and no more than a walker holds
+  pub kept-few : n ≤ length s
+  kept-few = omega (arith, kept-is, kept-within (makeFault N s) (length s))
+
+  pub kept-held : n ≤ maxReaches
+  kept-held = go (makeFault N s) refl
+    where
+      go : (f : Option Refusal) → makeFault N s ≡ f → n ≤ maxReaches
+      go none f = omega (arith, kept-few, made-held N s f)
+      go (some x) f = omega (arith, kept-is ∙ ap (λ (o : Option Refusal). keptOf (makeOf o) (length s)) f)
+
+  -- the walker that they make is what the making hands back
+  pub make-made : {w : Walker} → w .setting ≡ walkerOf (take n s) → Making N s (record { answer = r; walker = w })
+  make-made z = record { answered = e; held = z ∙ ap (λ (x : ℕ). walkerOf (take x s)) kept-is ∙ kept-walker (makeFault N s) s }

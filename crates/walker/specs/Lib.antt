@@ -1,0 +1,2 @@
+-- The walker.
+pub mod Walkers

@@ -1,0 +1,155 @@
+// A walker over the plans of a network: it carries its setting with it, and each step hands back the walker after it.
+// The table is lent as rows of numbers. Each call refuses bad input by number and has no `requires`.
+ghost use mathlib.Core.Path.{_≡_};
+ghost use mathlib.Core.List.{_++_};
+ghost use Prim.Native.Nat.{_≤_};
+ghost use lib.ListN.{length, take, drop};
+ghost use Rattle.network.specs.Networks.{maxReaches};
+ghost use Rattle.network.specs.Tables.{tableOf};
+ghost use Rattle.tables.specs.Rows.{netOf};
+ghost use Rattle.walker.specs.Walkers.{walkerOf, makeFault, makeOf, keptOf, Making, gatesHeld, advancedBy, Stepping};
+use network::MAX_REACHES;
+use network::Refusal;
+use planner::Answer;
+use planner::Verdict;
+use tables::TableAnswer;
+
+// A setting with a byte for each gated reach, in the first of its bytes. The others neither count nor change.
+pub struct Walker {
+    pub setting: [u8; MAX_REACHES],
+}
+
+// Whether a walker was made.
+pub enum MakeAnswer {
+    Refused(Refusal),
+    Made,
+}
+
+// A walker that was made, or one of zeros and the refusal.
+pub struct Made {
+    pub answer: MakeAnswer,
+    pub walker: Walker,
+}
+
+// What a step replies, and the walker after it.
+pub struct Stepped {
+    pub answer: Answer,
+    pub walker: Walker,
+}
+
+// A setting with zeros after it.
+fn padded(setting: &[u8]) -> Walker
+    requires { ⌜ length (now setting) ≤ maxReaches ⌝ }
+    ensures { λ r. ⌜ r .setting ≡ walkerOf (now (setting .entry)) ⌝ }
+{
+    let mut bytes = [0u8; MAX_REACHES];
+    let mut i = 0;
+    while i < setting.len() {
+        bytes[i] = setting[i];
+        i += 1;
+    }
+    Walker { setting: bytes }
+}
+
+// The walker with the first g bytes of the plan for its own.
+fn moved(walker: Walker, plan: &[u8], g: usize) -> Walker
+    requires { ⌜ g ≤ maxReaches ⌝ }
+    requires { ⌜ g ≤ length (now plan) ⌝ }
+    ensures { λ r. ⌜ r .setting ≡ take g (now (plan .entry)) ++ drop g (walker .setting) ⌝ }
+{
+    let mut bytes = walker.setting;
+    let mut i = 0;
+    while i < g {
+        bytes[i] = plan[i];
+        i += 1;
+    }
+    Walker { setting: bytes }
+}
+
+// The walker after an answer: moved by the first g bytes of the plan where a plan is given, else the same.
+fn advanced(answer: Answer, walker: Walker, plan: &[u8], g: usize) -> Walker
+    requires { ⌜ g ≤ maxReaches ⌝ }
+    ensures { λ r. ⌜ r .setting ≡ advancedBy answer g (now (plan .entry)) (walker .setting) ⌝ }
+{
+    match answer {
+        Answer::Refused(_) => walker,
+        Answer::Given(reply) => {
+            let verdict = reply.verdict;
+            match verdict {
+                Verdict::Plan => if g <= plan.len() {
+                    moved(walker, plan, g)
+                } else {
+                    walker
+                },
+                Verdict::ShutIn(_) => walker,
+                Verdict::Lone(_) => walker,
+            }
+        }
+    }
+}
+
+// The number of gated reaches of a table, or the reach limit if there are more.
+fn gates_held(kinds: &[u8], a: &[u16], b: &[u16]) -> usize
+    ensures { λ r. ⌜ r ≡ gatesHeld (tableOf (now (kinds .entry)) (now (a .entry)) (now (b .entry))) ⌝ }
+{
+    let m = tables::row_count(kinds, a, b);
+    let g = tables::count_gates(&kinds[..m]);
+    if g < MAX_REACHES { g } else { MAX_REACHES }
+}
+
+// What the making of a walker answers: 1, 2 and 3 by the table, then 8 by the setting.
+fn make_answer(basins: u16, kinds: &[u8], a: &[u16], b: &[u16], setting: &[u8]) -> MakeAnswer
+    ensures { λ r. ⌜ r ≡ makeOf (makeFault (netOf basins (now (kinds .entry)) (now (a .entry)) (now (b .entry))) (now (setting .entry))) ⌝ }
+{
+    if let TableAnswer::Refused(r) = tables::table_fault(basins, kinds, a, b) {
+        return MakeAnswer::Refused(r);
+    }
+    let m = tables::row_count(kinds, a, b);
+    if tables::fits(&kinds[..m], setting) {
+        MakeAnswer::Made
+    } else {
+        MakeAnswer::Refused(Refusal::BadSetting)
+    }
+}
+
+// How many of a setting's n bytes a walker gets: none where its making is refused.
+fn kept(answer: MakeAnswer, n: usize) -> usize
+    ensures { λ r. ⌜ r ≡ keptOf answer n ⌝ }
+{
+    match answer {
+        MakeAnswer::Refused(_) => 0,
+        MakeAnswer::Made => n,
+    }
+}
+
+impl Walker {
+    // A walker from a table and a setting, plan or not. Refuses 1, 2, 3 and 8, as the check of the setting does, with a walker of zeros.
+    pub fn make_rows(basins: u16, kinds: &[u8], a: &[u16], b: &[u16], setting: &[u8]) -> Made
+        ensures { λ r. ⌜ Making (netOf basins (now (kinds .entry)) (now (a .entry)) (now (b .entry))) (now (setting .entry)) r ⌝ }
+    {
+        let answer = make_answer(basins, kinds, a, b, setting);
+        let n = kept(answer, setting.len());
+        let walker = padded(&setting[..n]);
+        Made { answer, walker }
+    }
+
+    // The next plan from the walker's setting, with the walker after it: that plan's, or the same where no plan is given.
+    // Refuses 1, 2, 3, 8 (only for a byte over 1), 7 and 11.
+    pub fn step_rows(
+        self,
+        basins: u16,
+        kinds: &[u8],
+        a: &[u16],
+        b: &[u16],
+        plan: &mut [u8],
+        marks: &mut [u8],
+    ) -> Stepped
+        ensures { λ r. ⌜ Stepping (netOf basins (now (kinds .entry)) (now (a .entry)) (now (b .entry))) (self .setting) (now (plan .entry)) (now (marks .entry)) (now (plan .exit)) (now (marks .exit)) r ⌝ }
+    {
+        let setting = self.setting;
+        let g = gates_held(kinds, a, b);
+        let answer = planner::next_plan_rows(basins, kinds, a, b, &setting[..g], plan, marks);
+        let walker = advanced(answer, self, plan, g);
+        Stepped { answer, walker }
+    }
+}
