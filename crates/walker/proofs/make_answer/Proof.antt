@@ -6,7 +6,8 @@ use borrow.Author.Needs.{needs}
 use Rattle.network.specs.Networks.{Network, tableFault, Accepted}
 use Rattle.network.specs.Settings.{isSetting}
 use Rattle.tables.specs.Rows.{netOf}
-use Rattle.planner.proofs.Calls.{cut-kinds, cut-setting, fault-some, fault-none}
+use Rattle.tables.proofs.Faults.{answer-refused, answer-accepted}
+use Rattle.planner.proofs.Calls.{cut-kinds, cut-setting}
 use Rattle.walker.proofs.Makes.{make-faulty, make-misfit, make-fitting}
 use Rattle.walker.proofs.make_answer.Statement.{statement}
 use Rattle.walker.proofs.make_answer.Tie as tie
@@ -17,7 +18,7 @@ net c = let s = c .args in netOf (s .basins) (s .kinds .now) (s .a .now) (s .b .
 
 -- after the first test the table is accepted
 sound : (c : tie.After-enum-told) → Accepted (net (c .before .before .before .before .before .before .before))
-sound c = fault-none (tableFault (net (c .before .before .before .before .before .before .before))) (sym (c .before .before .table-fault .ensures) ∙ c .enum-told .given .1)
+sound c = answer-accepted (tableFault (net (c .before .before .before .before .before .before .before))) (sym (c .before .before .table-fault .ensures) ∙ c .enum-told .given .1)
 
 -- the second test is whether the setting fits
 tested : (c : tie.After-fits2) → let s = c .before .before .before .before .before .before .before .before .before .before in isSetting (net s) (s .args .setting .now) ≡ c .fits2 .result
@@ -35,7 +36,7 @@ enum-known-r c = search needs
 returns : tie.Need-returns
 returns c =
     let s = c .before .before .before .before .before .before .before .before in
-    make-faulty (net s) (s .args .setting .now) (fault-some (tableFault (net s)) _ (sym (c .before .before .before .table-fault .ensures) ∙ c .before .r .given .1))
+    make-faulty (net s) (s .args .setting .now) (answer-refused (tableFault (net s)) _ (sym (c .before .before .before .table-fault .ensures) ∙ c .before .r .given .1))
 
 enum-told : tie.Need-enum-told
 enum-told c = search needs
