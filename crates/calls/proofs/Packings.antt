@@ -3,7 +3,7 @@
 -- Assumes nothing.
 use Prim.Native.Nat.{ℕ, _≤_, _<_}
 use native.Mathlib.Omega.{arith}
-use mathlib.Core.Path.{_≡_, refl, sym, ap, subst, subst⁻¹, _∙_}
+use mathlib.Core.Path.{_≡_, refl, sym, ap, subst, _∙_}
 use mathlib.Core.Bool.{Bool, true, false}
 use mathlib.Core.Option.{some}
 use mathlib.Core.List.{List}
@@ -67,4 +67,4 @@ module _ {n : ℕ} {p : Packed} {P : Network → Type 0} where
   of-rows c x = record { said = λ t e. subst P (same-net n p t e (c .few)) x }
 
   pub of-over-full : {r : Refusal} → maxReaches < p .n → r ≡ overFull n → ((N : Network) → tableFault N ≡ some r → P N) → OfTable n p P
-  of-over-full {r} h e f = record { said = λ t same. f (lentNet n t) (over-full-fault n t (omega (arith, same-count p t same)) ∙ ap some (sym e)) }
+  of-over-full h e f = record { said = λ t same. f (lentNet n t) (over-full-fault n t (omega (arith, same-count p t same)) ∙ ap some (sym e)) }

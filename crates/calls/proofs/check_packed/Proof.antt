@@ -41,4 +41,16 @@ returns-2 : tie.Need-returns-2
 returns-2 c = of-rows (long (c .before .before .before .before .before .before .before)) (c .check-rows .ensures)
 
 pub check-packed-spec : {M : Type 1} → statement M
-check-packed-spec = tie.close (tie.spec over-full-requires returns array-share-prefix-kinds slice-aggregate-check-rows array-share-prefix-a slice-aggregate-check-rows-2 array-share-prefix-b slice-aggregate-check-rows-3 check-rows-requires returns-2)
+check-packed-spec =
+    tie.close
+    (tie.spec
+    over-full-requires
+    returns
+    array-share-prefix-kinds
+    slice-aggregate-check-rows
+    array-share-prefix-a
+    slice-aggregate-check-rows-2
+    array-share-prefix-b
+    slice-aggregate-check-rows-3
+    check-rows-requires
+    returns-2)

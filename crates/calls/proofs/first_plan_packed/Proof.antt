@@ -47,4 +47,18 @@ returns-2 : tie.Need-returns-2
 returns-2 c = of-rows (long (c .before .before .before .before .before .before .before .before .before .before .before .before .before)) (c .before .before .before .before .first-plan-rows .ensures)
 
 pub first-plan-packed-spec : {M : Type 1} → statement M
-first-plan-packed-spec = tie.close (tie.spec over-full-requires returns array-share-prefix-kinds slice-aggregate-first-plan-rows array-share-prefix-a slice-aggregate-first-plan-rows-2 array-share-prefix-b slice-aggregate-first-plan-rows-3 first-plan-rows-requires same-length same-length-2 returns-2)
+first-plan-packed-spec =
+    tie.close
+    (tie.spec
+    over-full-requires
+    returns
+    array-share-prefix-kinds
+    slice-aggregate-first-plan-rows
+    array-share-prefix-a
+    slice-aggregate-first-plan-rows-2
+    array-share-prefix-b
+    slice-aggregate-first-plan-rows-3
+    first-plan-rows-requires
+    same-length
+    same-length-2
+    returns-2)

@@ -47,4 +47,18 @@ returns-2 : tie.Need-returns-2
 returns-2 c = of-rows (long (c .before .before .before .before .before .before .before .before .before .before .before .before .before)) (c .before .before .before .before .next-plan-rows .ensures)
 
 pub next-plan-packed-spec : {M : Type 1} → statement M
-next-plan-packed-spec = tie.close (tie.spec over-full-requires returns array-share-prefix-kinds slice-aggregate-next-plan-rows array-share-prefix-a slice-aggregate-next-plan-rows-2 array-share-prefix-b slice-aggregate-next-plan-rows-3 next-plan-rows-requires same-length same-length-2 returns-2)
+next-plan-packed-spec =
+    tie.close
+    (tie.spec
+    over-full-requires
+    returns
+    array-share-prefix-kinds
+    slice-aggregate-next-plan-rows
+    array-share-prefix-a
+    slice-aggregate-next-plan-rows-2
+    array-share-prefix-b
+    slice-aggregate-next-plan-rows-3
+    next-plan-rows-requires
+    same-length
+    same-length-2
+    returns-2)

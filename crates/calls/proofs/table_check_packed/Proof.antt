@@ -42,4 +42,16 @@ returns-2 : tie.Need-returns-2
 returns-2 c = of-rows (long (c .before .before .before .before .before .before .before)) (c .table-fault .ensures)
 
 pub table-check-packed-spec : {M : Type 1} → statement M
-table-check-packed-spec = tie.close (tie.spec over-full-requires returns array-share-prefix-kinds slice-aggregate-table-fault array-share-prefix-a slice-aggregate-table-fault-2 array-share-prefix-b slice-aggregate-table-fault-3 table-fault-requires returns-2)
+table-check-packed-spec =
+    tie.close
+    (tie.spec
+    over-full-requires
+    returns
+    array-share-prefix-kinds
+    slice-aggregate-table-fault
+    array-share-prefix-a
+    slice-aggregate-table-fault-2
+    array-share-prefix-b
+    slice-aggregate-table-fault-3
+    table-fault-requires
+    returns-2)
