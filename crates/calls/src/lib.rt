@@ -20,7 +20,7 @@ ghost use Rattle.planner.specs.Answers.{checkOf, Written};
 ghost use Rattle.calls.specs.Tables.{lentNet, overFull, OfTable};
 
 // What a table of too many reaches is refused for: the basin count comes before the number of reaches.
-fn over_full(basins: u16) -> Refusal
+pub fn over_full(basins: u16) -> Refusal
     ensures { λ r. ⌜ r ≡ overFull basins ⌝ }
 {
     if basins == 0 || basins as usize > MAX_BASINS {

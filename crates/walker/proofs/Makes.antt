@@ -2,7 +2,7 @@
 -- Assumes nothing.
 use Prim.Native.Nat.{ℕ, suc, _≤_}
 use native.Mathlib.Omega.{arith}
-use mathlib.Core.Path.{_≡_, refl, ap, _∙_}
+use mathlib.Core.Path.{_≡_, refl, sym, ap, _∙_}
 use mathlib.Core.Bool.{Bool, true, false, cond}
 use mathlib.Core.Option.{Option, none, some, Option·some-ne-none}
 use mathlib.Core.List.{List, [], _∷_}
@@ -72,6 +72,13 @@ module _ (N : Network) (s : List ℕ) where
       go none ok false fit e = absurd (Option·some-ne-none BadSetting e)
       go (some r) bad true fit e = absurd (Option·some-ne-none r e)
       go (some r) bad false fit e = absurd (Option·some-ne-none r e)
+
+-- a refused table makes a walker of zeros
+pub none-made : (N : Network) (s : List ℕ) {x : Refusal} {w : Walker} → tableFault N ≡ some x → w .setting ≡ walkerOf [] → Making N s (record { answer = M.Refused x; walker = w })
+unfolding makeFault
+none-made N s {x} e z =
+    let same : makeFault N s ≡ some x = rw e in
+    record { answered = make-faulty N s e; held = z ∙ sym (ap (λ (o : Option Refusal). walkerMade o s) same) }
 
 -- ---- the bytes kept
 

@@ -21,6 +21,7 @@ use Rattle.planner.specs.declared.Reply.{Reply}
 use Rattle.planner.specs.declared.Answer.{Answer}
 use Rattle.planner.specs.declared.Answer.the-variants as A
 use Rattle.planner.specs.Answers.{Written}
+use Rattle.planner.proofs.Calls.{refused-written, next-faulty}
 use Rattle.walker.specs.declared.Walker.{Walker}
 use Rattle.walker.specs.Walkers.{settingIn, stepReply, gatesHeld, advancedBy, Stepping}
 use Rattle.walker.proofs.Makes.{gates-held}
@@ -93,6 +94,13 @@ module _ (N : Network) where
             (λ (o : Outcome). Written o buffer marks buffer′ marks′ r)
             (ap (λ (k : ℕ). nextReply N (take k w) (length buffer) (length marks)) held ∙ step-same w (length buffer) (length marks))
             next
+
+  -- a refused table leaves the same walker
+  pub step-faulty : (w : Walker) {buffer marks : List ℕ} {x : Refusal} → tableFault N ≡ some x → Stepping N (w .setting) buffer marks buffer marks (record { answer = A.Refused x; walker = w })
+  unfolding stepReply
+  step-faulty w {buffer} {marks} {x} e =
+      let same : stepReply N (w .setting) (length buffer) (length marks) ≡ refused x = next-faulty N (settingIn N (w .setting)) x (length buffer) (length marks) e in
+      record { replied = refused-written same; walked = sym (ap (λ (o : Outcome). planAfter o (w .setting)) same) }
 
   -- ---- what document 01 says of a step
 

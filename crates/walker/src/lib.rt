@@ -1,5 +1,7 @@
 // A walker over the plans of a network: it carries its setting with it, and each step hands back the walker after it.
-// The table is lent as rows of numbers. Each call refuses bad input by number and has no `requires`.
+// The table is lent as rows of numbers, or as a slice of records. Each call refuses bad input by number and has no `requires`.
+// The borrow checker does not cover a slice of structs. So a call that is lent one is one line, proved by a walk of its code, by hand: it has the
+// table packed into rows and hands these to a covered call, whose promise holds of every table that the rows are the packing of.
 ghost use mathlib.Core.Path.{_≡_};
 ghost use mathlib.Core.List.{_++_};
 ghost use Prim.Native.Nat.{_≤_};
@@ -7,8 +9,12 @@ ghost use lib.ListN.{length, take, drop};
 ghost use Rattle.network.specs.Networks.{maxReaches};
 ghost use Rattle.network.specs.Tables.{tableOf};
 ghost use Rattle.tables.specs.Rows.{netOf};
+ghost use Rattle.calls.specs.Tables.{lentNet, OfTable};
 ghost use Rattle.walker.specs.Walkers.{walkerOf, makeFault, makeOf, keptOf, Making, gatesHeld, advancedBy, Stepping};
+use lent::Packed;
+use lent::pack;
 use network::MAX_REACHES;
+use network::Reach;
 use network::Refusal;
 use planner::Answer;
 use planner::Verdict;
@@ -122,6 +128,36 @@ fn kept(answer: MakeAnswer, n: usize) -> usize
     }
 }
 
+// The calls over rows, for the calls over a table. A table of too many reaches has rows of zeros, so it is refused by its number of reaches alone.
+fn make_packed(basins: u16, p: Packed, setting: &[u8]) -> Made
+    ensures { λ r. ⌜ OfTable basins p (λ N. Making N (now (setting .entry)) r) ⌝ }
+{
+    let n = p.n;
+    if n > MAX_REACHES {
+        let answer = MakeAnswer::Refused(calls::over_full(basins));
+        let walker = padded(&setting[..0]);
+        return Made { answer, walker };
+    }
+    let kinds = p.kinds;
+    let a = p.a;
+    let b = p.b;
+    Walker::make_rows(basins, &kinds[..n], &a[..n], &b[..n], setting)
+}
+
+fn step_packed(walker: Walker, basins: u16, p: Packed, plan: &mut [u8], marks: &mut [u8]) -> Stepped
+    ensures { λ r. ⌜ OfTable basins p (λ N. Stepping N (walker .setting) (now (plan .entry)) (now (marks .entry)) (now (plan .exit)) (now (marks .exit)) r) ⌝ }
+{
+    let n = p.n;
+    if n > MAX_REACHES {
+        let answer = Answer::Refused(calls::over_full(basins));
+        return Stepped { answer, walker };
+    }
+    let kinds = p.kinds;
+    let a = p.a;
+    let b = p.b;
+    walker.step_rows(basins, &kinds[..n], &a[..n], &b[..n], plan, marks)
+}
+
 impl Walker {
     // A walker from a table and a setting, plan or not. Refuses 1, 2, 3 and 8, as the check of the setting does, with a walker of zeros.
     pub fn make_rows(basins: u16, kinds: &[u8], a: &[u16], b: &[u16], setting: &[u8]) -> Made
@@ -151,5 +187,19 @@ impl Walker {
         let answer = planner::next_plan_rows(basins, kinds, a, b, &setting[..g], plan, marks);
         let walker = advanced(answer, self, plan, g);
         Stepped { answer, walker }
+    }
+
+    // `make_rows` over a lent table.
+    pub fn make(basins: u16, table: &[Reach], setting: &[u8]) -> Made
+        ensures { λ r. ⌜ Making (lentNet basins (now (table .entry))) (now (setting .entry)) r ⌝ }
+    {
+        make_packed(basins, pack(table), setting)
+    }
+
+    // `step_rows` over a lent table.
+    pub fn step(self, basins: u16, table: &[Reach], plan: &mut [u8], marks: &mut [u8]) -> Stepped
+        ensures { λ r. ⌜ Stepping (lentNet basins (now (table .entry))) (self .setting) (now (plan .entry)) (now (marks .entry)) (now (plan .exit)) (now (marks .exit)) r ⌝ }
+    {
+        step_packed(self, basins, pack(table), plan, marks)
     }
 }
