@@ -4,10 +4,8 @@
 // packed into rows and hands these to a covered call, whose promise holds of every table that the rows are the packing of.
 use lent::Packed;
 use lent::pack;
-use network::MAX_BASINS;
 use network::MAX_REACHES;
 use network::Reach;
-use network::Refusal;
 use planner::Answer;
 use planner::CheckAnswer;
 use tables::TableAnswer;
@@ -17,17 +15,7 @@ ghost use Rattle.network.specs.Networks.{tableFault};
 ghost use Rattle.network.specs.Replies.{firstReply, nextReply};
 ghost use Rattle.tables.specs.Answers.{answerOf};
 ghost use Rattle.planner.specs.Answers.{checkOf, Written};
-ghost use Rattle.calls.specs.Tables.{lentNet, overFull, OfTable};
-
-// What a table of too many reaches is refused for: the basin count comes before the number of reaches.
-pub fn over_full(basins: u16) -> Refusal
-    ensures { λ r. ⌜ r ≡ overFull basins ⌝ }
-{
-    if basins == 0 || basins as usize > MAX_BASINS {
-        return Refusal::BasinCount;
-    }
-    Refusal::TooManyReaches
-}
+ghost use Rattle.lent.specs.Tables.{lentNet, OfTable};
 
 // The call over rows, for each public call. A table of too many reaches has rows of zeros, so it is refused by its number of reaches alone.
 fn table_check_packed(basins: u16, p: Packed) -> TableAnswer
@@ -35,7 +23,7 @@ fn table_check_packed(basins: u16, p: Packed) -> TableAnswer
 {
     let n = p.n;
     if n > MAX_REACHES {
-        return TableAnswer::Refused(over_full(basins));
+        return TableAnswer::Refused(lent::over_full(basins));
     }
     let kinds = p.kinds;
     let a = p.a;
@@ -48,7 +36,7 @@ fn check_packed(basins: u16, p: Packed, setting: &[u8]) -> CheckAnswer
 {
     let n = p.n;
     if n > MAX_REACHES {
-        return CheckAnswer::Refused(over_full(basins));
+        return CheckAnswer::Refused(lent::over_full(basins));
     }
     let kinds = p.kinds;
     let a = p.a;
@@ -61,7 +49,7 @@ fn first_plan_packed(basins: u16, p: Packed, plan: &mut [u8], marks: &mut [u8]) 
 {
     let n = p.n;
     if n > MAX_REACHES {
-        return Answer::Refused(over_full(basins));
+        return Answer::Refused(lent::over_full(basins));
     }
     let kinds = p.kinds;
     let a = p.a;
@@ -80,7 +68,7 @@ fn next_plan_packed(
 {
     let n = p.n;
     if n > MAX_REACHES {
-        return Answer::Refused(over_full(basins));
+        return Answer::Refused(lent::over_full(basins));
     }
     let kinds = p.kinds;
     let a = p.a;

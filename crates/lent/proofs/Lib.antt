@@ -4,3 +4,5 @@ pub mod Records
 pub mod Locals
 pub mod Calls
 pub mod Relays
+pub mod Packings
+pub mod Arrays

@@ -20,7 +20,7 @@ use Rattle.network.specs.Lists.{range}
 use Rattle.network.specs.Networks.{maxReaches}
 use Rattle.network.specs.Tables.{kindOf, kindNumber, tableOf}
 use Rattle.lent.specs.declared.Packed.{Packed}
-use Rattle.lent.specs.Rows.{heldOf, rowOf, kindIn, packedOf, zeros, emptyOf, putAt, reachIn, storedOf, into, unpackedInto}
+use Rattle.lent.specs.Rows.{heldOf, rowOf, kindIn, packedOf, zeros, emptyOf, numbersOf, putAt, reachIn, storedOf, into, unpackedInto}
 
 -- What stands for a reach where a table has none.
 abbrev pub noReach : Reach
@@ -57,7 +57,7 @@ row-put f t i h l =
     let d : maxReaches - i ≡ suc (maxReaches - suc i) = omega arith in
     rw (e, e′, d) (row-more f t i (maxReaches - suc i) h)
 
-pub filled-more : (t : List Reach) (i : ℕ) → i < length t → i < maxReaches → putAt (filled t i) i (getD t i noReach) ≡ filled t (suc i)
+pub filled-more : (t : List Reach) (i : ℕ) → i < length t → i < maxReaches → putAt (filled t i) i (numbersOf (getD t i noReach)) ≡ filled t (suc i)
 filled-more t i h l = rw (row-put kindIn t i h l, row-put (λ r. r .a) t i h l, row-put (λ r. r .b) t i h l)
 
 -- What the rows hold stands in the table, and has room.

@@ -10,6 +10,7 @@ use Rattle.network.specs.Lists.{range}
 use Rattle.network.specs.Networks.{maxReaches}
 use Rattle.network.specs.Tables.{kindOf, kindNumber}
 use Rattle.lent.specs.declared.Packed.{Packed}
+use Rattle.lent.specs.declared.Numbers.{Numbers}
 
 -- The reaches that the rows hold: all of a table that is not over-full, and none of one that is; and how many they are.
 abbrev pub fitting : List Reach → List Reach
@@ -41,12 +42,16 @@ zeros = replicate maxReaches 0
 abbrev pub emptyOf : ℕ → Packed
 emptyOf n = record { n = n; kinds = zeros; a = zeros; b = zeros }
 
-abbrev pub putAt : Packed → ℕ → Reach → Packed
-putAt p i r = record {
+-- What stands of a reach in the three rows.
+abbrev pub numbersOf : Reach → Numbers
+numbersOf r = record { kind = kindIn r; a = r .a; b = r .b }
+
+abbrev pub putAt : Packed → ℕ → Numbers → Packed
+putAt p i x = record {
   n = p .n;
-  kinds = set (p .kinds) i (kindIn r);
-  a = set (p .a) i (r .a);
-  b = set (p .b) i (r .b);
+  kinds = set (p .kinds) i (x .kind);
+  a = set (p .a) i (x .a);
+  b = set (p .b) i (x .b);
 }
 
 -- The other way: the reach that stands in rows at i, and how many of n reaches go into a table of a length, all of them or none.

@@ -2,13 +2,14 @@
 // The borrow checker does not cover a slice of structs. So two functions have the slice in hand and are proved by a walk of their code, by
 // hand: `pack` and `unpack`. They copy one record after the other, and leave the work on it to `put` and `reach_of`, which are covered.
 use network::Kind;
+use network::MAX_BASINS;
 use network::MAX_REACHES;
 use network::Reach;
+use network::Refusal;
 ghost use mathlib.Core.Path.{_≡_};
-ghost use Prim.Native.Nat.{_<_};
 ghost use Rattle.network.specs.Tables.{kindOf, kindNumber};
-ghost use Rattle.network.specs.Networks.{maxReaches};
-ghost use Rattle.lent.specs.Rows.{heldOf, emptyOf, putAt, packedOf, storedOf, reachIn, unpackedInto};
+ghost use Rattle.lent.specs.Tables.{overFull};
+ghost use Rattle.lent.specs.Rows.{heldOf, emptyOf, numbersOf, packedOf, storedOf, unpackedInto};
 
 // A reach table as rows of numbers: the kinds, ends A and ends B of its n reaches, and zeros after them.
 // All rows are zeros where the table has more reaches than a network may have.
@@ -49,17 +50,23 @@ fn empty(n: usize) -> Packed
     }
 }
 
-// One reach goes into the rows.
-fn put(p: Packed, i: usize, r: Reach) -> Packed
-    requires { ⌜ i < maxReaches ⌝ }
-    ensures { λ q. ⌜ q ≡ putAt p i r ⌝ }
+// What stands of a reach in the three rows.
+struct Numbers {
+    kind: u8,
+    a: u16,
+    b: u16,
+}
+
+// A record taken apart.
+fn numbers_of(r: Reach) -> Numbers
+    ensures { λ x. ⌜ x ≡ numbersOf r ⌝ }
 {
     let k = r.kind;
-    let mut q = p;
-    q.kinds[i] = number(k);
-    q.a[i] = r.a;
-    q.b[i] = r.b;
-    q
+    Numbers {
+        kind: number(k),
+        a: r.a,
+        b: r.b,
+    }
 }
 
 // The lent table as rows.
@@ -71,10 +78,23 @@ pub fn pack(t: &[Reach]) -> Packed
     let mut p = empty(n);
     let mut i = 0;
     while i < end {
-        p = put(p, i, t[i]);
+        let x = numbers_of(t[i]);
+        p.kinds[i] = x.kind;
+        p.a[i] = x.a;
+        p.b[i] = x.b;
         i = i + 1;
     }
     p
+}
+
+// What a table of too many reaches is refused for: the basin count comes before the number of reaches.
+pub fn over_full(basins: u16) -> Refusal
+    ensures { λ r. ⌜ r ≡ overFull basins ⌝ }
+{
+    if basins == 0 || basins as usize > MAX_BASINS {
+        return Refusal::BasinCount;
+    }
+    Refusal::TooManyReaches
 }
 
 // The kind that a number of a row stands for.
@@ -90,17 +110,12 @@ fn kind_of(k: u8) -> Kind
     }
 }
 
-// The reach that stands in the rows at i.
-fn reach_of(p: Packed, i: usize) -> Reach
-    requires { ⌜ i < maxReaches ⌝ }
-    ensures { λ r. ⌜ r ≡ reachIn p i ⌝ }
+// A record put together.
+fn reach_of(kind: u8, a: u16, b: u16) -> Reach
+    ensures { λ r. ⌜ r ≡ record { kind = kindOf kind; a = a; b = b } ⌝ }
 {
-    let k = kind_of(p.kinds[i]);
-    Reach {
-        kind: k,
-        a: p.a[i],
-        b: p.b[i],
-    }
+    let k = kind_of(kind);
+    Reach { kind: k, a, b }
 }
 
 // How many of n reaches go into a table with this room: all of them, or none.
@@ -118,7 +133,7 @@ pub fn unpack(t: &mut [Reach], p: Packed)
     let end = stored(n, t.len());
     let mut i = 0;
     while i < end {
-        t[i] = reach_of(p, i);
+        t[i] = reach_of(p.kinds[i], p.a[i], p.b[i]);
         i = i + 1;
     }
 }

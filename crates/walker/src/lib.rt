@@ -9,7 +9,7 @@ ghost use lib.ListN.{length, take, drop};
 ghost use Rattle.network.specs.Networks.{maxReaches};
 ghost use Rattle.network.specs.Tables.{tableOf};
 ghost use Rattle.tables.specs.Rows.{netOf};
-ghost use Rattle.calls.specs.Tables.{lentNet, OfTable};
+ghost use Rattle.lent.specs.Tables.{lentNet, OfTable};
 ghost use Rattle.walker.specs.Walkers.{walkerOf, makeFault, makeOf, keptOf, Making, gatesHeld, advancedBy, Stepping};
 use lent::Packed;
 use lent::pack;
@@ -134,7 +134,7 @@ fn make_packed(basins: u16, p: Packed, setting: &[u8]) -> Made
 {
     let n = p.n;
     if n > MAX_REACHES {
-        let answer = MakeAnswer::Refused(calls::over_full(basins));
+        let answer = MakeAnswer::Refused(lent::over_full(basins));
         let walker = padded(&setting[..0]);
         return Made { answer, walker };
     }
@@ -149,7 +149,7 @@ fn step_packed(walker: Walker, basins: u16, p: Packed, plan: &mut [u8], marks: &
 {
     let n = p.n;
     if n > MAX_REACHES {
-        let answer = Answer::Refused(calls::over_full(basins));
+        let answer = Answer::Refused(lent::over_full(basins));
         return Stepped { answer, walker };
     }
     let kinds = p.kinds;

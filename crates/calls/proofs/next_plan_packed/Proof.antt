@@ -2,7 +2,7 @@
 -- Assumes nothing.
 use Rattle.planner.proofs.Calls.{refused-written, next-faulty}
 use borrow.Author.Needs.{needs}
-use Rattle.calls.proofs.Packings.{Cut, cut, of-rows, of-over-full}
+use Rattle.lent.proofs.Packings.{Cut, cut, of-rows, of-over-full}
 use Rattle.calls.proofs.next_plan_packed.Statement.{statement}
 use Rattle.calls.proofs.next_plan_packed.Tie as tie
 

@@ -3,7 +3,7 @@
 use mathlib.Core.Path.{sym, ap}
 use Rattle.tables.specs.Answers.{answerOf}
 use borrow.Author.Needs.{needs}
-use Rattle.calls.proofs.Packings.{Cut, cut, of-rows, of-over-full}
+use Rattle.lent.proofs.Packings.{Cut, cut, of-rows, of-over-full}
 use Rattle.calls.proofs.table_check_packed.Statement.{statement}
 use Rattle.calls.proofs.table_check_packed.Tie as tie
 

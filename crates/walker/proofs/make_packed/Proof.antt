@@ -3,7 +3,7 @@
 use native.Mathlib.Omega.{arith}
 use mathlib.Core.Path.{refl}
 use borrow.Author.Needs.{needs}
-use Rattle.calls.proofs.Packings.{Cut, cut, of-rows, of-over-full}
+use Rattle.lent.proofs.Packings.{Cut, cut, of-rows, of-over-full}
 use Rattle.walker.proofs.Makes.{none-made}
 use Rattle.walker.proofs.make_packed.Statement.{statement}
 use Rattle.walker.proofs.make_packed.Tie as tie

@@ -1,7 +1,7 @@
 -- `walker::step_packed` meets its contract: a table of too many reaches is refused for that, and the rows of any other, cut to its length, are those of the table.
 -- Assumes nothing.
 use borrow.Author.Needs.{needs}
-use Rattle.calls.proofs.Packings.{Cut, cut, of-rows, of-over-full}
+use Rattle.lent.proofs.Packings.{Cut, cut, of-rows, of-over-full}
 use Rattle.walker.proofs.Steps.{step-faulty}
 use Rattle.walker.proofs.step_packed.Statement.{statement}
 use Rattle.walker.proofs.step_packed.Tie as tie

@@ -17,12 +17,12 @@ use Rattle.network.specs.declared.Refusal.{Refusal}
 use Rattle.network.specs.Networks.{Network, maxReaches, goodCount, tableFault}
 use Rattle.tables.specs.Rows.{netOf}
 use Rattle.tables.proofs.Faults.{fault-count, fault-length}
 use Rattle.lent.specs.declared.Packed.{Packed}
 use Rattle.lent.specs.Rows.{packedOf}
 use Rattle.lent.proofs.Packed as P
-use Rattle.lent.proofs.Records.{rows-long}
+use Rattle.lent.proofs.Records.{sized}
 use Rattle.lent.proofs.Rows.{unpacked, packed-count}
-use Rattle.calls.specs.Tables.{lentNet, overFull, OfTable}
+use Rattle.lent.specs.Tables.{lentNet, overFull, OfTable}
 
 -- A row can be cut to a count.
 pub record Cuttable (n : ℕ) (xs : List ℕ) : Type 0 where
@@ -41,8 +41,8 @@ pub record Cut (p : Packed) : Type 0 where
 
 pub cut : (p : Packed) (vs : List Val) → Is P.the-row p vs → p .n ≤ maxReaches → Cut p
 cut p vs is h =
-    let long = rows-long p vs is in
-    record { few = h; kinds = cuttable (p .n) (p .kinds) h (long .0); a = cuttable (p .n) (p .a) h (long .1); b = cuttable (p .n) (p .b) h (long .2) }
+    let z = sized p vs is in
+    record { few = h; kinds = cuttable (p .n) (p .kinds) h (z .kinds-long); a = cuttable (p .n) (p .a) h (z .a-long); b = cuttable (p .n) (p .b) h (z .b-long) }
 
 -- The table is as long as the packing says.
 same-count : (p : Packed) (t : List Reach) → p ≡ packedOf t → p .n ≡ length t

@@ -1,4 +1,4 @@
--- `calls::over_full` meets its contract: the basin count decides.
+-- `lent::over_full` meets its contract: the basin count decides.
 -- Assumes nothing.
 use mathlib.Core.List.{[]}
 use mathlib.Core.Logic.{⊎-elim}
@@ -6,9 +6,9 @@ use native.Mathlib.Omega.{arith}
 use borrow.Author.Tests.{ltb-true, ltb-false}
 use Rattle.network.specs.Networks.{maxBasins}
 use Rattle.tables.proofs.Faults.{count-good, count-bad}
-use Rattle.calls.specs.Tables.{lentNet}
-use Rattle.calls.proofs.over_full.Statement.{statement}
-use Rattle.calls.proofs.over_full.Tie as tie
+use Rattle.lent.specs.Tables.{lentNet}
+use Rattle.lent.proofs.over_full.Statement.{statement}
+use Rattle.lent.proofs.over_full.Tie as tie
 
 returns : tie.Need-returns
 returns c =

@@ -1,2 +1,0 @@
--- What is proved of the calls over a lent table.
-pub mod Packings

@@ -1,2 +1,0 @@
--- What the calls over a lent reach table promise.
-pub mod Tables
