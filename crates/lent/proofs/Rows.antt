@@ -9,8 +9,8 @@ use native.Mathlib.Nat.{not-suc-le-zero, le-of-suc-le-suc, add-zero, zero-add}
 use native.Mathlib.Omega.{arith}
 use mathlib.Core.Bool.{Bool, true, false, cond}
 use mathlib.Core.List.{List, [], _∷_, map, _++_}
-use lib.ListN.{length, getD, set, take, drop, replicate}
-use lib.Seq.{length-take-le, take-length}
+use lib.ListN.{length, length-map, getD, set, take, drop, replicate}
+use lib.Seq.{length-take-le, take-length, take-at}
 use lib.Dec.{leb}
 use borrow.Author.Tests.{leb-true, le-leb, lt-leb}
 use Rattle.network.specs.declared.Kind.{Kind}
@@ -19,6 +19,7 @@ use Rattle.network.specs.declared.Reach.{Reach}
 use Rattle.network.specs.Lists.{range}
 use Rattle.network.specs.Networks.{maxReaches}
 use Rattle.network.specs.Tables.{kindOf, kindNumber, tableOf}
+use Rattle.tables.proofs.Laws.{table-of-rows}
 use Rattle.lent.specs.declared.Packed.{Packed}
 use Rattle.lent.specs.Rows.{heldOf, rowOf, kindIn, packedOf, zeros, emptyOf, numbersOf, putAt, reachIn, storedOf, into, unpackedInto}
 
@@ -77,22 +78,9 @@ unfolding packedOf
 filled-all t = rw (take-held t (leb (length t) maxReaches))
 
 -- The table is read off the rows.
-take-front : (f : Reach → ℕ) (t : List Reach) (zs : List ℕ) → take (length t) (map f t ++ zs) ≡ map f t
-take-front f [] zs = refl
-take-front f (r ∷ t) zs = ap (λ xs. f r ∷ xs) (take-front f t zs)
-
 row-front : (f : Reach → ℕ) (t : List Reach) → take (length t) (rowOf f t) ≡ map f t
 unfolding rowOf
-row-front f t = take-front f t _
-
-kind-of-number : (k : Kind) → kindOf (kindNumber k) ≡ k
-kind-of-number Gated = refl
-kind-of-number Flap = refl
-kind-of-number TwoWay = refl
-
-table-of-rows : (t : List Reach) → tableOf (map kindIn t) (map (λ r. r .a) t) (map (λ r. r .b) t) ≡ t
-table-of-rows [] = refl
-table-of-rows (r ∷ t) = rw (kind-of-number (r .kind), table-of-rows t)
+row-front f t = take-at (map f t) _ (length t) (length-map t f)
 
 pub unpacked : (t : List Reach) → length t ≤ maxReaches
     → tableOf (take (length t) (packedOf t .kinds)) (take (length t) (packedOf t .a)) (take (length t) (packedOf t .b)) ≡ t

@@ -39,7 +39,7 @@ fn held(n: usize) -> usize
 }
 
 // Rows of zeros for a table of n reaches.
-fn empty(n: usize) -> Packed
+pub fn empty(n: usize) -> Packed
     ensures { λ r. ⌜ r ≡ emptyOf n ⌝ }
 {
     Packed {

@@ -9,8 +9,6 @@ use mathlib.Core.Option.{Option, none, some}
 use lib.ListN.{length, take, drop, length-append, length-map}
 use lib.Seq.{take-at}
 use lib.Dec.{leb}
-use Rattle.network.specs.declared.Kind.{Kind}
-use Rattle.network.specs.declared.Kind.the-variants.{Gated, Flap, TwoWay}
 use Rattle.network.specs.declared.Reach.{Reach}
 use Rattle.network.specs.declared.Refusal.{Refusal}
 use Rattle.network.specs.declared.Refusal.the-variants.{ShortBuffer}
@@ -21,6 +19,7 @@ use Rattle.netfile.specs.declared.ReadAnswer.the-variants.{Refused, Read
 use Rattle.netfile.specs.declared.WriteAnswer.{WriteAnswer}
 use Rattle.netfile.specs.declared.WriteAnswer.the-variants.{Refused as Unwritten, Written}
 use Rattle.tables.specs.Rows.{netOf}
+use Rattle.tables.proofs.Laws.{table-of-rows}
 use Rattle.netfile.specs.Records.{areBytes}
 use Rattle.netfile.specs.Files.{fileOf, Reading, refused, read, readFile}
 use Rattle.netfile.specs.Answers.{roomOf, readAnswer, withRoom, reachesRead, Rows, ReadCall, firstOf, writeFault, writeAnswer, bytesWritten, WriteCall}
@@ -79,16 +78,6 @@ module _ (N : Network) (out kinds a b out′ : List ℕ) where
         record { answer = c .answer ∙ ap readAnswer back; rows = subst (λ x. Rows (reachesRead x) kinds a b kinds′ a′ b′) back (c .rows); bytes = w .bytes }
 
 -- ---- read, then written
-
-kind-of-number : (d : Kind) → kindOf (kindNumber d) ≡ d
-kind-of-number Gated = refl
-kind-of-number Flap = refl
-kind-of-number TwoWay = refl
-
--- the table of a table's own numbers
-table-of-rows : (t : List Reach) → tableOf (map (λ r. kindNumber (r .kind)) t) (map (λ r. r .a) t) (map (λ r. r .b) t) ≡ t
-table-of-rows [] = refl
-table-of-rows (r ∷ t) = rw (kind-of-number (r .kind)) (ap (λ l. r ∷ l) (table-of-rows t))
 
 room-kept : (room : ℕ) (x : Reading) (N : Network) → withRoom room x ≡ read N → x ≡ read N
 room-kept room (refused r) N h = h

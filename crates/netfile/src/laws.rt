@@ -17,9 +17,9 @@ pub fn write_then_read(
 ) -> ReadAnswer
     ensures { λ r. ⌜ WriteRead (netOf basins (now (kinds .entry)) (now (a .entry)) (now (b .entry))) (now (out .entry)) (now (kinds2 .entry)) (now (a2 .entry)) (now (b2 .entry)) r (now (out .exit)) (now (kinds2 .exit)) (now (a2 .exit)) (now (b2 .exit)) ⌝ }
 {
-    match crate::write_network(basins, kinds, a, b, out) {
+    match crate::write_network_rows(basins, kinds, a, b, out) {
         WriteAnswer::Refused(r) => ReadAnswer::Refused(r),
-        WriteAnswer::Written(n) => crate::read_network(&out[..n], kinds2, a2, b2),
+        WriteAnswer::Written(n) => crate::read_network_rows(&out[..n], kinds2, a2, b2),
     }
 }
 
@@ -33,10 +33,10 @@ pub fn read_then_write(
 ) -> WriteAnswer
     ensures { λ r. ⌜ ReadWrite (now (file .entry)) (now (kinds .entry)) (now (a .entry)) (now (b .entry)) (now (out .entry)) r (now (kinds .exit)) (now (a .exit)) (now (b .exit)) (now (out .exit)) ⌝ }
 {
-    match crate::read_network(file, kinds, a, b) {
+    match crate::read_network_rows(file, kinds, a, b) {
         ReadAnswer::Refused(r) => WriteAnswer::Refused(r),
         ReadAnswer::Read { basins, reaches } => {
-            crate::write_network(basins, &kinds[..reaches], &a[..reaches], &b[..reaches], out)
+            crate::write_network_rows(basins, &kinds[..reaches], &a[..reaches], &b[..reaches], out)
         }
     }
 }

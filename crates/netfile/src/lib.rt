@@ -226,7 +226,7 @@ fn fill(file: &[u8], n: usize, kinds: &mut [u8], a: &mut [u16], b: &mut [u16])
 }
 
 // The network of a file, its reaches into the rows. Refuses 1 to 7. The whole file is judged before anything is written.
-pub fn read_network(file: &[u8], kinds: &mut [u8], a: &mut [u16], b: &mut [u16]) -> ReadAnswer
+pub fn read_network_rows(file: &[u8], kinds: &mut [u8], a: &mut [u16], b: &mut [u16]) -> ReadAnswer
     ensures { λ r. ⌜ ReadCall (now (file .entry)) (now (kinds .entry)) (now (a .entry)) (now (b .entry)) r (now (kinds .exit)) (now (a .exit)) (now (b .exit)) ⌝ }
 {
     match check_network(file) {
@@ -295,7 +295,13 @@ fn put_reaches(kinds: &[u8], a: &[u16], b: &[u16], out: &mut [u8])
 }
 
 // The file of a network goes to the first bytes of the buffer. Refuses 1, 2, 3 and 7.
-pub fn write_network(basins: u16, kinds: &[u8], a: &[u16], b: &[u16], out: &mut [u8]) -> WriteAnswer
+pub fn write_network_rows(
+    basins: u16,
+    kinds: &[u8],
+    a: &[u16],
+    b: &[u16],
+    out: &mut [u8],
+) -> WriteAnswer
     ensures { λ r. ⌜ WriteCall (netOf basins (now (kinds .entry)) (now (a .entry)) (now (b .entry))) (now (out .entry)) r (now (out .exit)) ⌝ }
 {
     if let TableAnswer::Refused(r) = tables::table_fault(basins, kinds, a, b) {

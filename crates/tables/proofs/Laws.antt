@@ -12,7 +12,7 @@ use Rattle.network.specs.declared.Kind.{Kind}
 use Rattle.network.specs.declared.Kind.the-variants.{Gated, Flap, TwoWay}
 use Rattle.network.specs.declared.Reach.{Reach}
 use Rattle.network.specs.Lists.{every}
-use Rattle.network.specs.Tables.{kindOf, tableOf}
+use Rattle.network.specs.Tables.{kindOf, kindNumber, tableOf}
 use Rattle.network.specs.Settings.{isGated, gatesFrom, isSetting}
 use Rattle.network.specs.Hangings.{way, after, ways}
 use Rattle.network.specs.Lone.{noReach}
@@ -128,3 +128,13 @@ after-unhung TwoWay t rest g = ap (λ ws. 2 ∷ ws) (rest g)
 pub ways-unhung : (t : List Reach) (g : ℕ) → ways t (replicate g 2) ≡ ways t []
 ways-unhung [] g = refl
 ways-unhung (r ∷ t) g = after-unhung (r .kind) t (ways-unhung t) g
+
+-- ---- the table of a table's own numbers
+kind-of-number : (k : Kind) → kindOf (kindNumber k) ≡ k
+kind-of-number Gated = refl
+kind-of-number Flap = refl
+kind-of-number TwoWay = refl
+
+pub table-of-rows : (t : List Reach) → tableOf (map (λ r. kindNumber (r .kind)) t) (map (λ r. r .a) t) (map (λ r. r .b) t) ≡ t
+table-of-rows [] = refl
+table-of-rows (r ∷ t) = rw (kind-of-number (r .kind)) (ap (λ l. r ∷ l) (table-of-rows t))

@@ -1,4 +1,4 @@
--- `netfile::write_network` meets its contract: the check of the table, the room, and then the bytes, stored one after the other.
+-- `netfile::write_network_rows` meets its contract: the check of the table, the room, and then the bytes, stored one after the other.
 -- Assumes nothing.
 use Prim.Native.Nat.{_≤_}
 use native.Mathlib.Omega.{arith}
@@ -13,8 +13,8 @@ use Rattle.netfile.specs.Files.{reachRecords}
 use Rattle.tables.proofs.Faults.{answer-refused, answer-accepted}
 use Rattle.netfile.proofs.Writing.{sets-long, set-sets-long}
 use Rattle.netfile.proofs.Calls.{write-refused, write-short, write-done}
-use Rattle.netfile.proofs.write_network.Statement.{statement}
-use Rattle.netfile.proofs.write_network.Tie as tie
+use Rattle.netfile.proofs.write_network_rows.Statement.{statement}
+use Rattle.netfile.proofs.write_network_rows.Tie as tie
 
 -- the network that is lent
 abbrev net : tie.Start → Network
@@ -91,8 +91,8 @@ returns-3 c =
     write-done (net s) (s .args .out .now) (sound (c .before .before .before .before .before .before .before .before .before .before)) (count .result) (count .ensures) (word .last .0) (rows .last .1 .1 .1 .0)
     (c .before .before .before .before .before .before .before .before .if1 .left) (word .ensures) (rows .ensures)
 
-pub write-network-spec : {M : Type 1} → statement M
-write-network-spec =
+pub write-network-rows-spec : {M : Type 1} → statement M
+write-network-rows-spec =
     tie.close
     (tie.spec
     table-fault-requires

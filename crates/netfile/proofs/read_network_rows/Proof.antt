@@ -1,4 +1,4 @@
--- `netfile::read_network` meets its contract: the check of the whole file, the room, and then the second pass.
+-- `netfile::read_network_rows` meets its contract: the check of the whole file, the room, and then the second pass.
 -- Assumes nothing.
 use Prim.Native.Nat.{_≤_}
 use native.Mathlib.Omega.{arith}
@@ -12,8 +12,8 @@ use Rattle.netfile.specs.Files.{readFile}
 use Rattle.netfile.specs.Answers.{readAnswer, roomOf}
 use Rattle.netfile.proofs.Records.{bytes-make}
 use Rattle.netfile.proofs.Calls.{call-refused, call-short, call-fills, call-read}
-use Rattle.netfile.proofs.read_network.Statement.{statement}
-use Rattle.netfile.proofs.read_network.Tie as tie
+use Rattle.netfile.proofs.read_network_rows.Statement.{statement}
+use Rattle.netfile.proofs.read_network_rows.Tie as tie
 
 -- where the file is read: the call's arguments, the two counts, and that the file is bytes
 abbrev start : tie.After-known-told2 → tie.Start
@@ -89,8 +89,8 @@ returns-3 c =
     call-read (s .args .file .now) (s .args .kinds .now) (s .args .a .now) (s .args .b .now) _ _ (counted k) (bytes k) (room (c .before .before .before .before .before .before .before .before .before .before))
     (filled .last .1 .1 .0) (filled .last .1 .1 .1 .0) (filled .last .1 .1 .1 .1 .0) (filled .ensures)
 
-pub read-network-spec : {M : Type 1} → statement M
-read-network-spec =
+pub read-network-rows-spec : {M : Type 1} → statement M
+read-network-rows-spec =
     tie.close
     (tie.spec
     check-network-requires

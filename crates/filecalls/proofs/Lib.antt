@@ -1,0 +1,2 @@
+-- What is proved of the reader over a lent table.
+pub mod Reading

@@ -1,0 +1,2 @@
+-- What the reader over a lent reach table promises.
+pub mod Reads

@@ -1,0 +1,96 @@
+// The network file's reader and writer over a reach table lent as a slice of records. Each promises of the lent table what the call over rows
+// promises of its numbers.
+// The borrow checker does not cover a slice of structs. So each public call is a few lines, proved by a walk of its code, by hand, and leaves the
+// work to covered calls over rows.
+use lent::Packed;
+use lent::pack;
+use lent::unpack;
+use netfile::ReadAnswer;
+use netfile::WriteAnswer;
+use network::MAX_REACHES;
+use network::Reach;
+ghost use mathlib.Core.Path.{_≡_};
+ghost use Prim.Native.Nat.{min};
+ghost use Rattle.network.specs.Networks.{maxReaches};
+ghost use Rattle.lent.specs.Tables.{lentNet, OfTable};
+ghost use Rattle.netfile.specs.Answers.{WriteCall};
+ghost use Rattle.filecalls.specs.Reads.{countOf, ReadPacked, ReadTable};
+
+// The writer over rows. A table of too many reaches has rows of zeros, so it is refused by its number of reaches alone.
+fn write_packed(basins: u16, p: Packed, out: &mut [u8]) -> WriteAnswer
+    ensures { λ r. ⌜ OfTable basins p (λ N. WriteCall N (now (out .entry)) r (now (out .exit))) ⌝ }
+{
+    let n = p.n;
+    if n > MAX_REACHES {
+        return WriteAnswer::Refused(lent::over_full(basins));
+    }
+    let kinds = p.kinds;
+    let a = p.a;
+    let b = p.b;
+    netfile::write_network_rows(basins, &kinds[..n], &a[..n], &b[..n], out)
+}
+
+// The file of a network goes to the first bytes of the buffer. Refuses 1, 2, 3 and 7.
+pub fn write_network(basins: u16, table: &[Reach], out: &mut [u8]) -> WriteAnswer
+    ensures { λ r. ⌜ WriteCall (lentNet basins (now (table .entry))) (now (out .entry)) r (now (out .exit)) ⌝ }
+{
+    write_packed(basins, pack(table), out)
+}
+
+// What a file is read as, with its reaches as rows.
+struct Found {
+    answer: ReadAnswer,
+    rows: Packed,
+}
+
+// How many reaches were read.
+fn count(answer: ReadAnswer) -> usize
+    ensures { λ r. ⌜ r ≡ countOf answer ⌝ }
+{
+    match answer {
+        ReadAnswer::Refused(_) => 0,
+        ReadAnswer::Read { basins: _, reaches } => reaches,
+    }
+}
+
+// As much of a table's room as a network can use.
+fn usable(room: usize) -> usize
+    ensures { λ r. ⌜ r ≡ min room maxReaches ⌝ }
+{
+    if room < MAX_REACHES {
+        room
+    } else {
+        MAX_REACHES
+    }
+}
+
+// The reader over rows, for a table with this room. What stood in the rows does not matter.
+fn read_rows(file: &[u8], room: usize, rows: Packed) -> Found
+    ensures { λ r. ⌜ ReadPacked (now (file .entry)) room r ⌝ }
+{
+    let mut kinds = rows.kinds;
+    let mut a = rows.a;
+    let mut b = rows.b;
+    let m = usable(room);
+    let answer = netfile::read_network_rows(file, &mut kinds[..m], &mut a[..m], &mut b[..m]);
+    let n = count(answer);
+    Found {
+        answer,
+        rows: Packed { n, kinds, a, b },
+    }
+}
+
+fn read_packed(file: &[u8], room: usize) -> Found
+    ensures { λ r. ⌜ ReadPacked (now (file .entry)) room r ⌝ }
+{
+    read_rows(file, room, lent::empty(0))
+}
+
+// The network of a file, its reaches into the first records of the table, which keeps all others. Refuses 1 to 7, and then writes nothing.
+pub fn read_network(file: &[u8], table: &mut [Reach]) -> ReadAnswer
+    ensures { λ r. ⌜ ReadTable (now (file .entry)) (now (table .entry)) r (now (table .exit)) ⌝ }
+{
+    let found = read_packed(file, table.len());
+    unpack(table, found.rows);
+    found.answer
+}
