@@ -1,0 +1,116 @@
+#!/usr/bin/env python3
+"""Writes the example networks beside this file, as network files of document 01.
+
+    python3 examples/make.py
+
+Each run writes the same bytes. examples/README.md says what each network is and what the lister prints for it.
+"""
+
+import os
+
+# Name: basins, reaches. G gated, F flap, T two-way; "G 0-1" has A = 0 and B = 1.
+NETWORKS = {
+    # The marked cases of document 01, and its case 13.
+    "case-01": (1, ""),
+    "case-02": (2, "G 0-1"),
+    "case-03": (2, "G 0-1, G 0-1"),
+    "case-04": (2, "T 0-1"),
+    "case-05": (2, "F 0-1"),
+    "case-06": (2, ""),
+    "case-07": (3, "G 0-1, G 1-2, G 2-0"),
+    "case-08": (2, "F 1-0, G 0-1"),
+    "case-09": (1, "G 0-0"),
+    "case-10": (3, "G 0-1, T 1-2"),
+    "case-11": (3, "F 0-1, G 1-2"),
+    "case-13": (4, "G 0-1, G 0-2, G 0-3, G 1-2, G 1-3, G 2-3"),
+
+    # A pasture between the inlet, basin 0, and the sump, basin 6. The ring main is drawn with the fall of the ground, down
+    # both sides; the cross ditches run from the left side to the right, straight and aslant.
+    "pasture": (11,
+        "G 0-1, G 1-2, G 2-3, G 3-4, G 4-5, G 5-6, "
+        "G 0-10, G 10-9, G 9-8, G 8-7, G 7-6, "
+        "G 1-10, G 2-9, G 3-8, G 4-7, "
+        "G 2-10, G 3-9, G 4-8, G 5-7"),
+
+    # A polder of five basins with a tidal outfall: flaps lead out to the harbour basin, 5, and nothing leads back.
+    "tidal-outfall": (6, "G 0-1, G 1-2, T 2-3, G 3-4, G 4-0, F 1-5, F 4-5, G 1-3"),
+
+    # An upper and a lower pasture, each sound in itself, joined by one gated culvert, reach 5.
+    "single-culvert": (7, "G 0-1, G 1-2, F 2-3, T 3-0, G 1-3, G 3-4, G 4-5, T 5-6, G 6-4, F 4-6"),
+
+    # On both edges of the lister's 1,000 plans. Parts that meet in basin 0 alone multiply: 5 * 5 * 5 * 2 * 2 * 2 plans,
+    # and 7 * 11 * 13.
+    "plans-1000": (10,
+        "G 1-0, G 0-2, F 2-1, G 1-2, F 1-0, "
+        "G 3-0, G 0-4, F 4-3, G 3-4, F 3-0, "
+        "G 5-0, G 0-6, F 6-5, G 5-6, F 5-0, "
+        "G 0-7, G 7-0, G 0-8, G 0-8, G 9-0, G 9-0"),
+    "plans-1001": (6,
+        "F 0-1, G 0-1, G 0-1, G 0-1, "
+        "G 2-3, F 0-2, F 3-0, G 3-0, G 3-0, G 0-2, "
+        "G 0-4, F 5-4, G 5-4, G 5-0, G 5-0, F 4-0"),
+}
+
+
+def reaches(text):
+    """The reaches written in the notation above."""
+    result = []
+    for word in text.split(", ") if text else []:
+        kind, ends = word.split(" ")
+        a, b = ends.split("-")
+        result.append((kind, int(a), int(b)))
+    return result
+
+
+def grid(side):
+    """A square grid, all gated: for each basin the reach to the right, then the one below."""
+    result = []
+    for v in range(side * side):
+        if v % side < side - 1:
+            result.append(("G", v, v + 1))
+        if v // side < side - 1:
+            result.append(("G", v, v + side))
+    return side * side, result
+
+
+def limits():
+    """256 basins and 1,024 gates, ends from a fixed sequence; every fourth is one of a ring, so that no reach is lone."""
+    x = 1
+
+    def drawn(below):
+        nonlocal x
+        x = (x * 1103515245 + 12345) % 2**31
+        return x // 65536 % below
+
+    result = []
+    for v in range(256):
+        ring = (v, (v + 1) % 256)
+        result.append(("G", *ring) if drawn(2) == 0 else ("G", *reversed(ring)))
+        for _ in range(3):
+            result.append(("G", drawn(256), drawn(256)))
+    return 256, result
+
+
+def network_file(basins, table):
+    """The network file: a head, the reaches, an end."""
+    out = bytearray([1]) + basins.to_bytes(2, "little")
+    for kind, a, b in table:
+        out.append({"G": 2, "F": 3, "T": 4}[kind])
+        out += a.to_bytes(2, "little") + b.to_bytes(2, "little")
+    out.append(9)
+    return bytes(out)
+
+
+def examples():
+    """Name and file of every example."""
+    result = {name: network_file(basins, reaches(text)) for name, (basins, text) in NETWORKS.items()}
+    result["grid-16"] = network_file(*grid(16))
+    result["limits"] = network_file(*limits())
+    return result
+
+
+if __name__ == "__main__":
+    here = os.path.dirname(os.path.abspath(__file__))
+    for name, data in examples().items():
+        with open(os.path.join(here, name + ".net"), "wb") as out:
+            out.write(data)
