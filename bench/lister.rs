@@ -106,10 +106,13 @@ struct HalfEdge {
 /// The network as adjacency lists, and which half-edges may be taken at present.
 struct Graph {
     basins: usize,
-    starts: Vec<u32>,         // the list of basin v is half_edges[starts[v]..starts[v + 1]]
+    /// The list of basin v is half_edges[starts[v]..starts[v + 1]].
+    starts: Vec<u32>,
     half_edges: Vec<HalfEdge>,
-    open: Vec<bool>,          // by number of half-edge
-    seen: Vec<u32>,           // the last search that came to the basin
+    /// By number of half-edge.
+    open: Vec<bool>,
+    /// By basin: the last search that came to it.
+    seen: Vec<u32>,
     searches: u32,
     queue: Vec<u16>,
 }
@@ -188,7 +191,8 @@ impl Graph {
 struct Gate {
     a: u16,
     b: u16,
-    at_a: usize, // the number of its half-edge at A
+    /// The number of its half-edge at A.
+    at_a: usize,
 }
 
 /// A plan as its line of output, and the graph hung so.
