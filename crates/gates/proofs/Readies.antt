@@ -21,7 +21,7 @@ use Rattle.search.specs.Ends.{arcsOf}
 use Rattle.search.specs.Searches.{Searchable, Searched}
 use Rattle.search.proofs.Laws.{reached-turned}
 use Rattle.gates.specs.Ready.{Ready, flipWay, FirstUnseen, Missed, Weakest}
-use Rattle.gates.specs.Hung.{Leads, leftOut, Tried, hung, lost, HungGate, drawn, turned, stuck}
+use Rattle.gates.specs.Hung.{Leads, leftOut, Tried, hung, lost, HungGate, drawn, turned, stuck, Settled, as-it-was, as-drawn, as-turned}
 
 pub searchable : {n : ℕ} {xs ys ws head next seen queue : List ℕ} (start : ℕ) → Ready n xs ys ws head next seen queue → start < n → Searchable n xs ys ws head next start seen queue
 searchable start r l =
@@ -70,6 +70,15 @@ module _ {n : ℕ} (ks : List ℕ) {xs ys : List ℕ} (ws : List ℕ) (i : ℕ) 
   pub gate-drawn : Tried (leftOut xs ys ws i) n (getD ys i 0) (getD xs i 0) 0 ws i ws₁ seen₁ r₁ → r₁ ≡ true → HungGate n ks xs ys ws i ws₁ seen₁ true
   gate-drawn (hung p e q) y = drawn g p e refl
   gate-drawn (lost p e q f) y = clash y q
+
+  -- and where the gate is settled
+  pub settled-drawn : Tried (leftOut xs ys ws i) n (getD ys i 0) (getD xs i 0) 0 ws i ws₁ seen₁ r₁ → r₁ ≡ true → Settled ks xs ys ws i ws₁
+  settled-drawn (hung p e q) y = as-drawn g p e
+  settled-drawn (lost p e q f) y = clash y q
+
+  pub settled-turned : Tried (leftOut xs ys ws i) n (getD ys i 0) (getD xs i 0) 0 ws i ws₁ seen₁ r₁ → r₁ ≡ false → Settled ks xs ys ws i (set ws₁ i 1)
+  settled-turned (hung p e q) y = clash q y
+  settled-turned (lost p e q f) y = as-turned g p (ap (λ (v : List ℕ). set v i 1) e ∙ set-set ws i 2 1)
 
   -- it did not, and the second decides
   pub gate-turned : {ws₂ seen₂ : List ℕ} {r₂ : Bool} → Tried (leftOut xs ys ws i) n (getD ys i 0) (getD xs i 0) 0 ws i ws₁ seen₁ r₁ → r₁ ≡ false

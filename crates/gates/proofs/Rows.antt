@@ -4,7 +4,8 @@ use Prim.Native.Nat.{ℕ, zero, suc, _+_, _≤_, _<_}
 use native.Mathlib.Omega.{arith}
 use mathlib.Core.Path.{_≡_, refl, sym, ap, ap₂, subst, subst⁻¹, _∙_}
 use mathlib.Core.Bool.{Bool, true, false}
-use mathlib.Core.List.{List}
+use mathlib.Core.Logic.{⊎-elim}
+use mathlib.Core.List.{List, []}
 use lib.ListN.{length, getD, set}
 use Rattle.network.specs.Networks.{Network, Accepted}
 use Rattle.network.specs.Tables.{kindOf, tableOf}
@@ -12,13 +13,14 @@ use Rattle.network.specs.Settings.{isGated}
 use Rattle.network.specs.Hangings.{Arc, arcs, reached}
 use Rattle.network.specs.Lone.{reachAt, isLone}
 use Rattle.network.specs.Marks.{bit}
-use Rattle.network.proofs.Bools.{clash}
+use Rattle.network.proofs.Bools.{decide, clash}
 use Rattle.search.specs.Ends.{arcsOf}
 use Rattle.search.proofs.Laws.{arcs-ends}
 use Rattle.tables.specs.Rows.{netOf}
 use Rattle.tables.proofs.Laws.{row-length, row-kind, row-a, row-b, row-ends-a, row-ends-b}
-use Rattle.gates.specs.Hung.{leftOut, HungGate, no-gate, drawn, turned, stuck}
-use Rattle.gates.specs.Greedy.{Begun, Greedy, all-hung, stuck-at}
+use Rattle.gates.specs.Hung.{leftOut, HungGate, no-gate, drawn, turned, stuck, Settled, as-it-was, as-drawn, as-turned}
+use Rattle.gates.specs.Greedy.{Begun, Greedy, all-hung, stuck-at, Completed}
+use Rattle.gates.proofs.Least.{bytes-ways}
 use Rattle.gates.proofs.Goings.{Going, going-plain, going-drawn, going-turned, going-end, stuck-cut, stuck-is-lone}
 
 bit-small : (b : Bool) → bit b ≤ 1
@@ -54,6 +56,15 @@ module _ (n : ℕ) (ks xs ys : List ℕ) (ea : length xs ≡ length ks) (eb : le
         (going-turned (netOf n ks xs ys) ok ws₀ from ws i (row-below i l) w (row-gated i true l g) (row-reached ws i l ∙ p) (row-reached-on ws i l ∙ p′))
     going-on (stuck g p p′ q f) y = clash y q
 
+    -- the same of a gate that is settled, since it is not lone
+    pub going-settled : {ws′ : List ℕ} → isLone (netOf n ks xs ys) i ≡ false → Settled ks xs ys ws i ws′ → Going (netOf n ks xs ys) ws₀ from ws′ (suc i)
+    going-settled c (as-it-was g e) = going-on {seen = []} (no-gate g e refl) refl
+    going-settled c (as-drawn g p e) = going-on {seen = []} (drawn g p e refl) refl
+    going-settled c (as-turned g p e) = ⊎-elim (λ y. going-on {seen = []} (turned g p y e refl) refl) (λ y. clash (lone y) c) (decide (reached (leftOut xs ys ws i) (getD xs i 0) (getD ys i 0)))
+      where
+        lone : reached (leftOut xs ys ws i) (getD xs i 0) (getD ys i 0) ≡ false → isLone (netOf n ks xs ys) i ≡ true
+        lone y = stuck-is-lone (netOf n ks xs ys) ok ws i (row-below i l) (w .begun) (row-gated i true l g) (row-reached ws i l ∙ p) (row-reached-on ws i l ∙ y)
+
     -- or the gate that can be hung neither way
     pub going-stuck : {ws′ seen : List ℕ} {r : Bool} (ws″ : List ℕ) → HungGate n ks xs ys ws i ws′ seen r → r ≡ false → Greedy (netOf n ks xs ys) ws₀ from ws″ seen i
     going-stuck ws″ (no-gate g e q) y = clash q y
@@ -72,3 +83,9 @@ module _ (n : ℕ) (ks xs ys : List ℕ) (ea : length xs ≡ length ks) (eb : le
   going-done ws₀ from ws seen i e w =
       let same : i ≡ length (tableOf ks xs ys) = e ∙ sym (row-length ks xs ys ea eb) in
       all-hung same (going-end (netOf n ks xs ys) ws₀ from ws (subst (λ (j : ℕ). Going (netOf n ks xs ys) ws₀ from ws j) same w))
+
+  pub going-complete : (ws₀ : List ℕ) (from : ℕ) (ws : List ℕ) (i : ℕ) → i ≡ length ks → Going (netOf n ks xs ys) ws₀ from ws i → Completed (netOf n ks xs ys) ws₀ ws
+  going-complete ws₀ from ws i e w =
+      let N = netOf n ks xs ys in
+      let end : Going N ws₀ from ws (length (N .reaches)) = subst (λ (j : ℕ). Going N ws₀ from ws j) (e ∙ sym (row-length ks xs ys ea eb)) w in
+      record { least = going-end N ws₀ from ws end; hung = sym (bytes-ways (N .reaches) ws (end .begun .full) (end .begun .shaped)) }

@@ -36,3 +36,11 @@ pub data HungGate (n : ℕ) (ks xs ys ws : List ℕ) (i : ℕ) : List ℕ → Li
   stuck : {ws′ seen : List ℕ} {r : Bool} → isGated (kindOf (getD ks i 0)) ≡ true → reached (leftOut xs ys ws i) (getD ys i 0) (getD xs i 0) ≡ false
       → reached (leftOut xs ys ws i) (getD xs i 0) (getD ys i 0) ≡ false → r ≡ false
       → ((v : ℕ) → v < n → getD seen v 0 ≡ bit (reached (leftOut xs ys ws i) (getD xs i 0) v)) → HungGate n ks xs ys ws i ws′ seen r
+
+-- Reach i, if it is a gate, hung as drawn if its end B leads to A without it, else turned.
+pub data Settled (ks xs ys ws : List ℕ) (i : ℕ) : List ℕ → Type 0 where
+  as-it-was : {ws′ : List ℕ} → isGated (kindOf (getD ks i 0)) ≡ false → ws′ ≡ ws → Settled ks xs ys ws i ws′
+  as-drawn : {ws′ : List ℕ} → isGated (kindOf (getD ks i 0)) ≡ true → reached (leftOut xs ys ws i) (getD ys i 0) (getD xs i 0) ≡ true → ws′ ≡ set ws i 0
+      → Settled ks xs ys ws i ws′
+  as-turned : {ws′ : List ℕ} → isGated (kindOf (getD ks i 0)) ≡ true → reached (leftOut xs ys ws i) (getD ys i 0) (getD xs i 0) ≡ false → ws′ ≡ set ws i 1
+      → Settled ks xs ys ws i ws′

@@ -9,8 +9,8 @@ ghost use Rattle.network.specs.Networks.{Accepted};
 ghost use Rattle.tables.specs.Rows.{netOf};
 ghost use Rattle.search.specs.Ends.{arcsOf};
 ghost use Rattle.gates.specs.Ready.{Ready, flipWay, FirstUnseen, Missed, Weakest};
-ghost use Rattle.gates.specs.Hung.{Leads, leftOut, Tried, HungGate};
-ghost use Rattle.gates.specs.Greedy.{Begun, Greedy};
+ghost use Rattle.gates.specs.Hung.{Leads, leftOut, Tried, HungGate, Settled};
+ghost use Rattle.gates.specs.Greedy.{Begun, NoneLone, Greedy, Completed};
 ghost use Rattle.gates.specs.Follows.{Under, upTo, Whole, WholeBelow, Followed, TurnedBack, HungAs, PartedAt};
 use search::NONE;
 
@@ -242,6 +242,60 @@ pub fn greedy(
         i += 1;
     }
     i
+}
+
+// Hangs reach i, if it is a gate, as drawn where that loses nothing, else turned: for a gate that is not lone, one of the two loses nothing.
+fn settle(
+    n: usize,
+    kinds: &[u8],
+    a: &[u16],
+    b: &[u16],
+    ways: &mut [u8],
+    head: &[u16],
+    next: &[u16],
+    i: usize,
+    seen: &mut [u8],
+    queue: &mut [u16],
+)
+    requires { ⌜ Ready n (now a) (now b) (now ways) (now head) (now next) (now seen) (now queue) ⌝ }
+    requires { ⌜ length (now kinds) ≡ length (now a) ⌝ }
+    requires { ⌜ i < length (now a) ⌝ }
+    ensures { λ _. ⌜ Settled (now (kinds .entry)) (now (a .entry)) (now (b .entry)) (now (ways .entry)) i (now (ways .exit)) ⌝ }
+{
+    if kinds[i] != 0 {
+        return;
+    }
+    if !try_drawn(n, a, b, ways, head, next, i, seen, queue) {
+        ways[i] = 1;
+    }
+}
+
+// The same as `greedy` where no gate from `from` on is lone: one search for each gate.
+pub fn complete(
+    n: usize,
+    kinds: &[u8],
+    a: &[u16],
+    b: &[u16],
+    ways: &mut [u8],
+    head: &[u16],
+    next: &[u16],
+    from: usize,
+    seen: &mut [u8],
+    queue: &mut [u16],
+)
+    requires { ⌜ Ready n (now a) (now b) (now ways) (now head) (now next) (now seen) (now queue) ⌝ }
+    requires { ⌜ length (now kinds) ≡ length (now a) ⌝ }
+    requires { ⌜ Accepted (netOf n (now kinds) (now a) (now b)) ⌝ }
+    requires { ⌜ from ≤ length (now a) ⌝ }
+    requires { ⌜ Begun (netOf n (now kinds) (now a) (now b)) (now ways) from ⌝ }
+    requires { ⌜ NoneLone (netOf n (now kinds) (now a) (now b)) ⌝ }
+    ensures { λ _. ⌜ Completed (netOf n (now (kinds .entry)) (now (a .entry)) (now (b .entry))) (now (ways .entry)) (now (ways .exit)) ⌝ }
+{
+    let mut i = from;
+    while i < a.len() {
+        settle(n, kinds, a, b, ways, head, next, i, seen, queue);
+        i += 1;
+    }
 }
 
 // Hangs reach i, if it is a gate, as `under` has it where that loses nothing; otherwise it is usable either way. Says whether it could.

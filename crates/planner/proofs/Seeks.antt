@@ -15,8 +15,9 @@ use Rattle.network.specs.Networks.{Network, Accepted}
 use Rattle.network.specs.Settings.{isSetting}
 use Rattle.network.specs.Hangings.{ways}
 use Rattle.network.specs.Plans.{strongUnder, isPlan, nextPlan}
+use Rattle.network.specs.Lone.{isLone}
 use Rattle.network.specs.Replies.{answer, nextAnswer}
-use Rattle.network.proofs.Bools.{and-make, clash}
+use Rattle.network.proofs.Bools.{and-make, clash, fails}
 use Rattle.network.proofs.Networks.{accepted}
 use Rattle.network.proofs.Order.{plan-setting}
 use Rattle.network.proofs.Lone.{lone-blocks}
@@ -28,7 +29,7 @@ use Rattle.tables.specs.Partial.{bytesOf}
 use Rattle.tables.proofs.Laws.{row-length, row-ways}
 use Rattle.gates.specs.Ready.{Weakest}
 use Rattle.gates.specs.Least.{LeastPlan, NoneFrom}
-use Rattle.gates.specs.Greedy.{Begun, Greedy, all-hung, stuck-at}
+use Rattle.gates.specs.Greedy.{Begun, NoneLone, Completed}
 use Rattle.gates.specs.Follows.{Under, upTo, Whole, Broken, Followed, through, stopped, TurnedBack, turned-at, nowhere}
 use Rattle.gates.proofs.Nexts.{hung-none, none-from-end, none-stopped, least-next, none-next}
 use Rattle.gates.proofs.Follows.{under-length}
@@ -86,6 +87,10 @@ module _ (N : Network) where
 
   -- ---- leaving the setting
 
+  -- no reach is lone, since there is a plan
+  pub none-lone : SomePlan N → NoneLone N
+  none-lone p j = fails (isLone N j) (λ y. lone-blocks N j y (p .plan) (p .is-plan))
+
   module _ (ok : Accepted N) where
     -- it is left nowhere: no plan is later
     part-last : SomePlan N → {us ws : List ℕ} {to r : ℕ} (ws′ seen : List ℕ) → to ≤ length (N .reaches) → (r < length (N .reaches) → ⊥) → TurnedBack N us to ws r → NextFrom N us to ws′ seen Last
@@ -105,10 +110,9 @@ module _ (N : Network) where
     part-begun u b k (nowhere e f) = absurd (omega arith)
 
     -- and deciding them makes the next plan
-    part-next : SomePlan N → {us ws ws′ seen : List ℕ} {to r r′ : ℕ} → to ≤ length (N .reaches) → r < length (N .reaches) → TurnedBack N us to ws r → Greedy N ws (suc r) ws′ seen r′ → NextFrom N us to ws′ seen (At Hung)
-    part-next p b k (nowhere e f) d = absurd (omega arith)
-    part-next p b k (turned-at l g z e str f) (stuck-at q lone clear cross small) = absurd (lone-blocks N _ lone (p .plan) (p .is-plan))
-    part-next p {us} {ws} {ws′} {seen} {to} {r} b k (turned-at l g z e str f) (all-hung q m) = record { found = found }
+    part-next : {us ws ws′ seen : List ℕ} {to r : ℕ} → to ≤ length (N .reaches) → r < length (N .reaches) → TurnedBack N us to ws r → LeastPlan N ws (bytesOf (N .reaches) ws′) → NextFrom N us to ws′ seen (At Hung)
+    part-next b k (nowhere e f) m = absurd (omega arith)
+    part-next {us} {ws} {ws′} {seen} {to} {r} b k (turned-at l g z e str f) m = record { found = found }
       where
         found : (s : List ℕ) → isSetting N s ≡ true → us ≡ ways (N .reaches) s → NoneFrom N s to → NextFound N s ws′ seen (At Hung)
         found s fit is more =
@@ -150,8 +154,8 @@ module _ (n : ℕ) (ks xs ys : List ℕ) where
     pub row-begun : r < length xs → Begun N ws₁ (r + 1)
     row-begun l = rw add-one (part-begun N (p .seeking .level .accepted) (p .seeking .under) bound (omega (arith, level-length (p .seeking .level))) d)
 
-    pub row-next : {ws′ seen : List ℕ} {r′ : ℕ} → r < length xs → Greedy N ws₁ (r + 1) ws′ seen r′ → NextFrom N us to ws′ seen (At Hung)
-    row-next l g = part-next N (p .seeking .level .accepted) (p .some-plan) bound (omega (arith, level-length (p .seeking .level))) d (rw add-one at g)
+    pub row-next : {ws′ seen : List ℕ} → r < length xs → Completed N ws₁ ws′ → NextFrom N us to ws′ seen (At Hung)
+    row-next l g = part-next N (p .seeking .level .accepted) bound (omega (arith, level-length (p .seeking .level))) d (g .least)
 
   -- at a plan: it is all hung, and no plan is later and alike to the end
   module _ {s us ws : List ℕ} (p : AtPlan n ks xs ys s us) (e : ws ≡ waysRow ks s) where

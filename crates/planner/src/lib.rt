@@ -176,7 +176,7 @@ fn part_from(
 {
     let r = gates::turn_back(n, kinds, a, b, under, ways, head, next, to, seen, queue);
     if r < a.len() {
-        gates::greedy(n, kinds, a, b, ways, head, next, r + 1, seen, queue);
+        gates::complete(n, kinds, a, b, ways, head, next, r + 1, seen, queue);
         Sought::At(Found::Hung)
     } else {
         Sought::Last

@@ -3,7 +3,7 @@
 use native.Mathlib.Omega.{arith}
 use mathlib.Core.Path.{sym}
 use Rattle.gates.proofs.Readies.{ready-ways, ready-notes}
-use Rattle.planner.proofs.Seeks.{row-begun, row-last, row-next}
+use Rattle.planner.proofs.Seeks.{none-lone, row-begun, row-last, row-next}
 use borrow.Author.Needs.{needs}
 use Rattle.planner.proofs.part_from.Statement.{statement}
 use Rattle.planner.proofs.part_from.Tie as tie
@@ -13,16 +13,16 @@ turn-back-requires c κs = let s = (c .before .before .before .before .before .b
     let p = s .pre .1 in
     (s .pre .0, (sym (p .seeking .level .ends-a), (p .seeking .level .accepted, (p .seeking .under, (p .bound, (p .begun, p .whole-below))))))
 
-add-greedy : tie.Need-add-greedy
-add-greedy c = search needs
+add-complete : tie.Need-add-complete
+add-complete c = search needs
 
-greedy-requires : tie.Need-greedy-requires
-greedy-requires c κs = let s = (c .before .before .before .before .before .before .before .before .before .before .before .before .before .before .before .before .before .before .before .before .before .before .before) in
+complete-requires : tie.Need-complete-requires
+complete-requires c κs = let s = (c .before .before .before .before .before .before .before .before .before .before .before .before .before .before .before .before .before .before .before .before .before .before .before) in
     let p = s .pre .1 in
     let t = (c .before .before .before .before .before .before .before .before .before .before) .turn-back in
     let l = (c .before .before .before) .if1 .taken in (
       ready-ways _ (ready-notes _ _ (s .pre .0) (t .kept .1 .1 .1 .1 .1 .1 .1 .1 .1 .0) (t .kept .1 .1 .1 .1 .1 .1 .1 .1 .1 .1 .0)) (t .kept .1 .1 .1 .1 .1 .0),
-      (sym (p .seeking .level .ends-a), (p .seeking .level .accepted, (omega (arith, l), row-begun (s .args .n) (s .args .kinds .now) (s .args .a .now) (s .args .b .now) p (t .ensures) l))),
+      (sym (p .seeking .level .ends-a), (p .seeking .level .accepted, (omega (arith, l), (row-begun (s .args .n) (s .args .kinds .now) (s .args .a .now) (s .args .b .now) p (t .ensures) l, none-lone _ (p .some-plan))))),
     )
 
 same-length : tie.Need-same-length
@@ -36,7 +36,7 @@ same-length-3 c = search needs
 
 returns : tie.Need-returns
 returns c = let s = (c .before .before .before .before .before .before .before .before .before .before .before .before .before .before .before .before .before .before .before .before .before .before .before .before .before .before .before .before .before .before) in
-    row-next (s .args .n) (s .args .kinds .now) (s .args .a .now) (s .args .b .now) (s .pre .1) ((c .before .before .before .before .before .before .before .before .before .before .before .before .before .before .before .before .before) .turn-back .ensures) ((c .before .before .before .before .before .before .before .before .before .before) .if1 .taken) ((c .before .before .before .before .before .before) .greedy .ensures)
+    row-next (s .args .n) (s .args .kinds .now) (s .args .a .now) (s .args .b .now) (s .pre .1) ((c .before .before .before .before .before .before .before .before .before .before .before .before .before .before .before .before .before) .turn-back .ensures) ((c .before .before .before .before .before .before .before .before .before .before) .if1 .taken) ((c .before .before .before .before .before .before) .complete .ensures)
 
 same-length-4 : tie.Need-same-length-4
 same-length-4 c = search needs
@@ -56,8 +56,8 @@ part-from-spec =
     tie.close
     (tie.spec
     turn-back-requires
-    add-greedy
-    greedy-requires
+    add-complete
+    complete-requires
     same-length
     same-length-2
     same-length-3
