@@ -16,7 +16,8 @@ use Rattle.network.specs.Settings.{isSetting}
 use Rattle.network.specs.Hangings.{ways}
 use Rattle.network.specs.Plans.{strongUnder, isPlan, nextPlan}
 use Rattle.network.specs.Lone.{isLone}
-use Rattle.network.specs.Replies.{answer, nextAnswer}
+use Rattle.network.specs.declared.Refusal.the-variants.{LastPlan}
+use Rattle.network.specs.Replies.{plan, refused, answer, nextAnswer}
 use Rattle.network.proofs.Bools.{and-make, clash, fails}
 use Rattle.network.proofs.Networks.{accepted}
 use Rattle.network.proofs.Order.{plan-setting}
@@ -184,6 +185,20 @@ module _ (n : ℕ) (ks xs ys : List ℕ) where
     plan-found f =
         let fit = plan-setting N s (p .is-plan) in
         f .found s fit is (subst (λ (m : ℕ). NoneFrom N s m) (level-length (p .level)) (none-from-end N s fit))
+
+    -- it is left at r, or nowhere
+    module _ {ws₁ : List ℕ} {r : ℕ} (d : TurnedBack N us (length xs) ws₁ r) where
+      pub plan-next : {ws′ : List ℕ} → r < length xs → Completed N ws₁ ws′ → nextAnswer N s ≡ plan (bytesOf (N .reaches) ws′)
+      plan-next {ws′} l g = go (plan-found (row-next plan-partable d l g))
+        where
+          go : NextFound N s ws′ [] (At Hung) → nextAnswer N s ≡ plan (bytesOf (N .reaches) ws′)
+          go (next-is e k q) = e
+
+      pub plan-last : (r < length xs → ⊥) → nextAnswer N s ≡ refused LastPlan
+      plan-last f = go (plan-found (row-last plan-partable d [] [] f))
+        where
+          go : NextFound N s [] [] Last → nextAnswer N s ≡ refused LastPlan
+          go (no-later e) = e
 
   -- at another setting, with no gate hung yet: it is followed up to where it stops
   module _ {us ws : List ℕ} (p : Followable n ks xs ys us ws) where

@@ -1,0 +1,2 @@
+-- What a step from plan to plan rests on.
+pub mod Advances

@@ -1,0 +1,2 @@
+-- From plan to plan.
+pub mod Advances
