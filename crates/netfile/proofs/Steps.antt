@@ -25,7 +25,7 @@ use Rattle.netfile.specs.Answers.{takenAnswer}
 use Rattle.netfile.proofs.Marking.{reaching, comes-first, body-reach, body-head, body-end}
 
 -- no record stands at the front
-broken-is : (F : Front) (r : Refusal) → takenAnswer F ≡ Broken r → F ≡ broken r
+pub broken-is : (F : Front) (r : Refusal) → takenAnswer F ≡ Broken r → F ≡ broken r
 broken-is (broken e) r h = cc
 broken-is (whole k body rest) r h = cc
 
@@ -67,7 +67,7 @@ stands may (x ∷ f) k e = comes (may x) refl (bodyOf x) refl
         absurd (true≢false (cc))
     comes true m (some n) h = fits n m h (leb n (length f)) refl
 
-same-size : {o : Option ℕ} {m n : ℕ} → o ≡ some m → o ≡ some n → m ≡ n
+pub same-size : {o : Option ℕ} {m n : ℕ} → o ≡ some m → o ≡ some n → m ≡ n
 same-size {o} {m} {n} p q = cc
 
 module _ (n : ℕ) (left : ℕ) (f : List ℕ) where

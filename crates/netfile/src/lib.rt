@@ -26,7 +26,7 @@ const FLAP: u8 = 3;
 
 const TWO_WAY: u8 = 4;
 
-const END: u8 = 9;
+pub const END: u8 = 9;
 
 // The body length of each kind from 0 to 31; 255 for a kind that has none.
 const BODY: [u8; 32] = [
@@ -132,7 +132,7 @@ pub fn take_record(file: &[u8], at: usize, place: Place) -> Taken
 }
 
 // The two-byte value at a position, low byte first.
-fn word_at(file: &[u8], at: usize) -> u16
+pub fn word_at(file: &[u8], at: usize) -> u16
     requires { ⌜ at + 1 < length (now file) ⌝ }
     ensures { λ r. ⌜ r ≡ wordOf (take 2 (drop at (now (file .entry)))) ⌝ }
 {
@@ -248,7 +248,7 @@ pub enum WriteAnswer {
 }
 
 // The two bytes of a value, low byte first.
-fn put_word(out: &mut [u8], at: usize, value: u16)
+pub fn put_word(out: &mut [u8], at: usize, value: u16)
     requires { ⌜ at + 1 < length (now out) ⌝ }
     ensures { λ _. ⌜ now (out .exit) ≡ sets (now (out .entry)) at (twoBytes value) ⌝ }
 {

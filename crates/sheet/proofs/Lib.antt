@@ -1,0 +1,4 @@
+-- The laws of the sheets.
+pub mod Examples
+pub mod Marking
+pub mod Gates

@@ -1,0 +1,24 @@
+-- The gated reaches of a table by its row of kinds, as the functions over rows look for them.
+-- Assumes nothing.
+use Prim.Native.Nat.{ℕ, zero, suc, _≤_, _<_}
+use mathlib.Core.Path.{_≡_}
+use mathlib.Core.Bool.{cond}
+use mathlib.Core.List.{List, [], _∷_}
+use lib.ListN.{length, drop}
+use Rattle.network.specs.Tables.{kindOf}
+use Rattle.network.specs.Settings.{isGated}
+
+-- The numbers of the gated reaches, the first reach with number i: `gatesFrom` by the kinds alone.
+abbrev pub gatesRow : ℕ → List ℕ → List ℕ
+gatesRow i [] = []
+gatesRow i (k ∷ ks) = cond (isGated (kindOf k)) (i ∷ gatesRow (suc i) ks) (gatesRow (suc i) ks)
+
+-- Those of them from reach i on.
+abbrev pub due : List ℕ → ℕ → List ℕ
+due ks i = gatesRow i (drop i ks)
+
+-- The next gated reach from reach i on is r; there is none if r is not below the number of reaches.
+pub record NextGate (ks : List ℕ) (i r : ℕ) : Type 0 where
+  pub below : r ≤ length ks
+  pub is-next : r < length ks → due ks i ≡ r ∷ due ks (suc r)
+  pub none-left : length ks ≤ r → due ks i ≡ []

@@ -1,0 +1,90 @@
+// Plan sheets and finding sheets: their reader, their writer, and the writer of a network's reply. The reach table is lent as three rows of
+// numbers, kinds, ends A and ends B, as the crate `tables` has them. What is a plan, and what a network gets, only the planner's promises say.
+use network::Refusal;
+use netfile::Body;
+use netfile::END;
+use netfile::Taken;
+ghost use mathlib.Core.Path.{_≡_};
+ghost use Prim.Native.Nat.{_+_, _*_, _≤_, _<_};
+ghost use lib.ListN.{length, take, drop};
+ghost use Rattle.netfile.specs.Records.{takeRecord};
+ghost use Rattle.netfile.specs.Answers.{takenAnswer};
+ghost use Rattle.sheet.specs.Readings.{mayStand};
+ghost use Rattle.sheet.specs.Rows.{NextGate};
+
+// The kinds of a plan sheet's records; the end is that of a network file.
+const PLAN: u8 = 16;
+
+const AS_DRAWN: u8 = 17;
+
+const TURNED: u8 = 18;
+
+// The kinds of a finding sheet.
+const SHUT_IN: u8 = 20;
+
+const LONE: u8 = 21;
+
+// The number of the gated kind in a row of kinds.
+const GATED: u8 = 0;
+
+// What the reader answers: a refusal, or the number of gated reaches read.
+pub enum SheetAnswer {
+    Refused(Refusal),
+    Read(usize),
+}
+
+// A place in a plan sheet: where the head is due, or where a gated reach or the end is.
+pub enum Place {
+    Head,
+    Inside,
+}
+
+fn may_stand(place: Place, kind: u8) -> bool
+    ensures { λ r. ⌜ r ≡ mayStand place kind ⌝ }
+{
+    match place {
+        Place::Head => kind == PLAN,
+        Place::Inside => match kind {
+            AS_DRAWN | TURNED | END => true,
+            _ => false,
+        },
+    }
+}
+
+// The kind may come at this place (5), and the whole body is there (4).
+fn take_sheet_record(sheet: &[u8], at: usize, place: Place) -> Taken
+    ensures { λ r. ⌜ r ≡ takenAnswer (takeRecord (mayStand place) (drop at (now (sheet .entry)))) ⌝ }
+{
+    if sheet.len() <= at {
+        return Taken::Broken(Refusal::Truncated);
+    }
+    let kind = sheet[at];
+    if !may_stand(place, kind) {
+        return Taken::Broken(Refusal::UnknownKind);
+    }
+    match netfile::body_length(kind) {
+        Body::Unknown => Taken::Broken(Refusal::UnknownKind),
+        Body::Length(n) => {
+            if n as usize <= sheet.len() - (at + 1) {
+                Taken::Whole(kind)
+            } else {
+                Taken::Broken(Refusal::Truncated)
+            }
+        }
+    }
+}
+
+// The number of the next gated reach from reach i on, or that of all reaches if there is none.
+fn next_gate(kinds: &[u8], from: usize) -> usize
+    requires { ⌜ from ≤ length (now kinds) ⌝ }
+    ensures { λ r. ⌜ NextGate (now (kinds .entry)) from r ⌝ }
+{
+    let mut i = from;
+    while i < kinds.len() {
+        if kinds[i] == GATED {
+            return i;
+        }
+        i += 1;
+    }
+    i
+}
