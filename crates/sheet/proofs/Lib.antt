@@ -2,3 +2,6 @@
 pub mod Examples
 pub mod Marking
 pub mod Gates
+pub mod Steps
+pub mod Sheets
+pub mod Writing

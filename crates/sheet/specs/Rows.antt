@@ -5,6 +5,7 @@ use mathlib.Core.Path.{_≡_}
 use mathlib.Core.Bool.{cond}
 use mathlib.Core.List.{List, [], _∷_}
 use lib.ListN.{length, drop}
+use Rattle.network.specs.Networks.{maxReaches}
 use Rattle.network.specs.Tables.{kindOf}
 use Rattle.network.specs.Settings.{isGated}
 
@@ -22,3 +23,8 @@ pub record NextGate (ks : List ℕ) (i r : ℕ) : Type 0 where
   pub below : r ≤ length ks
   pub is-next : r < length ks → due ks i ≡ r ∷ due ks (suc r)
   pub none-left : length ks ≤ r → due ks i ≡ []
+
+-- A setting with a byte for each gated reach of a table that is not over-full.
+pub record Records (ks s : List ℕ) : Type 0 where
+  pub few : length ks ≤ maxReaches
+  pub full : length s ≡ length (gatesRow 0 ks)

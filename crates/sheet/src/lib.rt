@@ -7,10 +7,14 @@ use netfile::Taken;
 ghost use mathlib.Core.Path.{_≡_};
 ghost use Prim.Native.Nat.{_+_, _*_, _≤_, _<_};
 ghost use lib.ListN.{length, take, drop};
+ghost use lib.Seq.{sets};
+ghost use mathlib.Core.List.{[], _∷_, _++_};
 ghost use Rattle.netfile.specs.Records.{takeRecord};
+ghost use Rattle.netfile.specs.Files.{endKind};
 ghost use Rattle.netfile.specs.Answers.{takenAnswer};
 ghost use Rattle.sheet.specs.Readings.{mayStand};
-ghost use Rattle.sheet.specs.Rows.{NextGate};
+ghost use Rattle.sheet.specs.Sheets.{hungKind, gateRecord, gateRecords};
+ghost use Rattle.sheet.specs.Rows.{gatesRow, NextGate, Records};
 
 // The kinds of a plan sheet's records; the end is that of a network file.
 const PLAN: u8 = 16;
@@ -87,4 +91,49 @@ fn next_gate(kinds: &[u8], from: usize) -> usize
         i += 1;
     }
     i
+}
+
+// Bytes go to a place of a buffer.
+fn put_bytes(out: &mut [u8], at: usize, bytes: &[u8])
+    requires { ⌜ at + length (now bytes) ≤ length (now out) ⌝ }
+    ensures { λ _. ⌜ now (out .exit) ≡ sets (now (out .entry)) at (now (bytes .entry)) ⌝ }
+{
+    let mut i: usize = 0;
+    while i < bytes.len() {
+        out[at + i] = bytes[i];
+        i += 1;
+    }
+}
+
+// The kind byte of a gated reach, by its byte in the setting.
+fn hung_kind(byte: u8) -> u8
+    ensures { λ r. ⌜ r ≡ hungKind byte ⌝ }
+{
+    if byte == 0 { AS_DRAWN } else { TURNED }
+}
+
+// The record of a gated reach.
+fn put_gate(out: &mut [u8], at: usize, reach: u16, byte: u8)
+    requires { ⌜ at + 2 < length (now out) ⌝ }
+    ensures { λ _. ⌜ now (out .exit) ≡ sets (now (out .entry)) at (gateRecord reach byte) ⌝ }
+{
+    out[at] = hung_kind(byte);
+    netfile::put_word(out, at + 1, reach);
+}
+
+// The records of a plan sheet, and the end, go to the first bytes of the part of the buffer after the head.
+fn put_records(kinds: &[u8], setting: &[u8], out: &mut [u8])
+    requires { ⌜ Records (now kinds) (now setting) ⌝ }
+    requires { ⌜ 3 * length (now setting) < length (now out) ⌝ }
+    ensures { λ _. ⌜ now (out .exit) ≡ sets (now (out .entry)) 0 (gateRecords (gatesRow 0 (now (kinds .entry))) (now (setting .entry)) ++ (endKind ∷ [])) ⌝ }
+{
+    let mut i: usize = 0;
+    let mut k: usize = 0;
+    while k < setting.len() {
+        i = next_gate(kinds, i);
+        put_gate(out, 3 * k, i as u16, setting[k]);
+        i += 1;
+        k += 1;
+    }
+    out[3 * k] = END;
 }
