@@ -19,6 +19,15 @@ gates-row i (k ∷ ks) [] ys = refl
 gates-row i (k ∷ ks) (x ∷ xs) [] = refl
 gates-row i (k ∷ ks) (x ∷ xs) (y ∷ ys) = ap (λ l. cond (isGated (kindOf k)) (i ∷ l) l) (gates-row (suc i) ks xs ys)
 
+-- there are no more of them than reaches
+gate-few : (b : Bool) (i : ℕ) (l : List ℕ) (n : ℕ) → length l ≤ n → length (cond b (i ∷ l) l) ≤ suc n
+gate-few true i l n h = omega arith
+gate-few false i l n h = omega arith
+
+pub gates-few : (i : ℕ) (ks : List ℕ) → length (gatesRow i ks) ≤ length ks
+gates-few i [] = omega arith
+gates-few i (k ∷ ks) = gate-few (isGated (kindOf k)) i (gatesRow (suc i) ks) (length ks) (gates-few (suc i) ks)
+
 other-kind : (k : ℕ) → (k ≡ 0 → ⊥) → isGated (kindOf k) ≡ false
 other-kind zero n = absurd (n refl)
 other-kind (suc zero) n = refl

@@ -5,3 +5,4 @@ pub mod Gates
 pub mod Steps
 pub mod Sheets
 pub mod Writing
+pub mod Calls

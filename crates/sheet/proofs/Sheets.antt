@@ -3,7 +3,7 @@
 use Prim.Native.Nat.{ℕ, zero, suc, _+_, _*_, _≤_, _<_}
 use native.Mathlib.Omega.{arith}
 use mathlib.Core.Path.{_≡_, refl, sym, ap, _∙_}
-use mathlib.Core.Bool.{Bool, true, false, cond, _&&_, true≢false}
+use mathlib.Core.Bool.{Bool, true, false, cond, true≢false}
 use mathlib.Core.List.{List, [], _∷_, _++_}
 use mathlib.Core.Option.{Option, none, some}
 use lib.ListN.{length, take, drop, length-append}
@@ -14,9 +14,10 @@ use Rattle.network.specs.declared.Refusal.the-variants.{TrailingBytes, BadSetti
 use Rattle.network.specs.Lists.{every}
 use Rattle.network.specs.Networks.{Network, Accepted, tableFault}
 use Rattle.network.specs.Settings.{gates, gateCount, isSetting}
-use Rattle.network.specs.Plans.{strongUnder, isPlan}
+use Rattle.network.specs.Plans.{isPlan}
 use Rattle.network.specs.Words.{wordOf}
-use Rattle.network.proofs.Bools.{and-left, and-right, and-make}
+use Rattle.network.proofs.Bools.{and-left, and-right}
+use Rattle.network.proofs.Order.{setting-length, plan-setting}
 use Rattle.netfile.specs.declared.Taken.{Taken}
 use Rattle.netfile.specs.declared.Taken.the-variants.{Broken, Whole}
 use Rattle.netfile.specs.Records.{bodyOf, areBytes, twoBytes, whole, takeRecord}
@@ -66,12 +67,11 @@ read-records gs s e h =
 
 -- what a plan has: a byte for each gated reach, each 0 or 1
 pub plan-long : (N : Network) (s : List ℕ) → isPlan N s ≡ true → length s ≡ gateCount N
-unfolding isPlan isSetting
-plan-long N s p = eqb-true (length s) (gateCount N) (and-left (eqb (length s) (gateCount N)) _ (and-left (isSetting N s) (strongUnder N s) p))
+plan-long N s p = setting-length N s (plan-setting N s p)
 
 plan-bits : (N : Network) (s : List ℕ) → isPlan N s ≡ true → every (λ x. leb x 1) s ≡ true
-unfolding isPlan isSetting
-plan-bits N s p = and-right (eqb (length s) (gateCount N)) _ (and-left (isSetting N s) (strongUnder N s) p)
+unfolding isSetting
+plan-bits N s p = and-right (eqb (length s) (gateCount N)) _ (plan-setting N s p)
 
 -- The sheet of a plan of an accepted network is read as that plan.
 pub read-write : (N : Network) (s : List ℕ) → Accepted N → isPlan N s ≡ true → readSheet N (sheetOf N s) ≡ read s

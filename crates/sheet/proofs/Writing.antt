@@ -1,12 +1,17 @@
 -- Bytes that are stored one after the other: a run of bytes, a gated reach's record, the records of a setting.
 -- Assumes nothing.
-use Prim.Native.Nat.{ℕ, zero, suc, _+_, _*_, _≤_, _<_}
+use Prim.Native.Nat.{ℕ, zero, suc, _+_, _*_, _-_, _≤_, _<_}
+use native.Mathlib.Nat.{zero-add}
 use native.Mathlib.Numerals.{add-one}
 use native.Mathlib.Omega.{arith}
 use mathlib.Core.Path.{_≡_, refl, sym, ap, _∙_}
-use mathlib.Core.List.{List, [], _∷_, _++_}
-use lib.ListN.{length, getD, drop, set, length-set, drop-of-length-le}
-use lib.Seq.{sets, drop-cons}
+use mathlib.Core.List.{List, [], _∷_, _++_, append-nil, append-assoc}
+use mathlib.Core.Logic.{⊎-elim}
+use lib.ListN.{length, getD, take, drop, set, length-set, length-drop, drop-of-length-le}
+use lib.Seq.{sets, sets-eq, take-all, drop-drop, drop-cons}
+use lib.Dec.{ltb}
+use borrow.Author.Tests.{ltb-true, ltb-false}
+use Rattle.network.proofs.Bools.{decide}
 use Rattle.netfile.specs.Records.{twoBytes}
 use Rattle.netfile.proofs.Writing.{sets-after, sets-long}
 use Rattle.sheet.specs.Sheets.{hungKind, gateRecord, gateRecords}
@@ -62,12 +67,9 @@ module _ (ks s out₀ out : List ℕ) (i k : ℕ) (p : Recording ks s out₀ out
   module _ (r : ℕ) (g : NextGate ks i r) (l : k < length s) where
     -- while a byte is left, so is a gated reach
     pub gate-there : r < length ks
-    gate-there = below-or (lt-or r (length ks))
-      where
-        lt-or : (r n : ℕ) → (n ≤ r → ⊥) → r < n
-        lt-or r n h = omega arith
-        below-or : ((length ks ≤ r → ⊥) → r < length ks) → r < length ks
-        below-or f = f (λ h. let e = ap length (g .none-left h) in let c = p .count in omega arith)
+    gate-there =
+        ⊎-elim (λ h. ltb-true r (length ks) h)
+        (λ h. let e = ap length (g .none-left (ltb-false r (length ks) h)) in let c = p .count in omega arith) (decide (ltb r (length ks)))
 
     pub recording-more : (out′ : List ℕ) → out′ ≡ sets out (3 * k) (gateRecord r (getD s k 0)) → Recording ks s out₀ out′ (r + 1) (k + 1)
     recording-more out′ e =
@@ -90,3 +92,22 @@ module _ (ks s out₀ out : List ℕ) (i k : ℕ) (p : Recording ks s out₀ out
 
   pub recording-all : length s ≤ k → set out (3 * k) 9 ≡ sets out₀ 0 (gateRecords (gatesRow 0 ks) s ++ (9 ∷ []))
   recording-all l = rw (drop-of-length-le s l, no-bytes (due ks i)) at (p .left)
+
+-- ---- a part of a buffer, from place n on, that was lent and is back
+
+pub part-back :
+    (n : ℕ) (l part xs : List ℕ) → n + length xs ≤ length l → part ≡ sets (take (length l - n) (drop n l)) 0 xs
+    → take n l ++ (part ++ drop (length l - n) (drop n l)) ≡ sets l n xs
+part-back n l part xs h e =
+    let beyond : length (drop n l) ≤ length l - n = omega (arith, length-drop n l) in
+    rw (
+      e,
+      take-all (length l - n) (drop n l) (omega (arith, length-drop n l)),
+      drop-of-length-le (drop n l) beyond,
+      append-nil,
+      sets-eq xs (drop n l) 0 (omega (arith, length-drop n l)),
+      sets-eq xs l n h,
+      zero-add (length xs),
+      drop-drop (length xs) n l,
+      append-assoc (take n l) xs (drop (n + length xs) l),
+    )

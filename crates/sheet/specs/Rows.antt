@@ -5,9 +5,10 @@ use mathlib.Core.Path.{_≡_}
 use mathlib.Core.Bool.{cond}
 use mathlib.Core.List.{List, [], _∷_}
 use lib.ListN.{length, drop}
+use Rattle.network.specs.declared.Reach.{Reach}
 use Rattle.network.specs.Networks.{maxReaches}
 use Rattle.network.specs.Tables.{kindOf}
-use Rattle.network.specs.Settings.{isGated}
+use Rattle.network.specs.Settings.{isGated, gatesFrom}
 
 -- The numbers of the gated reaches, the first reach with number i: `gatesFrom` by the kinds alone.
 abbrev pub gatesRow : ℕ → List ℕ → List ℕ
@@ -28,3 +29,8 @@ pub record NextGate (ks : List ℕ) (i r : ℕ) : Type 0 where
 pub record Records (ks s : List ℕ) : Type 0 where
   pub few : length ks ≤ maxReaches
   pub full : length s ≡ length (gatesRow 0 ks)
+
+-- The same of a table.
+pub record Fitting (t : List Reach) (s : List ℕ) : Type 0 where
+  pub few : length t ≤ maxReaches
+  pub full : length s ≡ length (gatesFrom 0 t)

@@ -4,17 +4,24 @@ use network::Refusal;
 use netfile::Body;
 use netfile::END;
 use netfile::Taken;
+use netfile::WriteAnswer;
+use planner::CheckAnswer;
 ghost use mathlib.Core.Path.{_≡_};
 ghost use Prim.Native.Nat.{_+_, _*_, _≤_, _<_};
 ghost use lib.ListN.{length, take, drop};
 ghost use lib.Seq.{sets};
 ghost use mathlib.Core.List.{[], _∷_, _++_};
+ghost use Rattle.network.specs.Tables.{tableOf};
+ghost use Rattle.network.specs.Settings.{gatesFrom};
+ghost use Rattle.network.specs.Marks.{markBytes};
+ghost use Rattle.tables.specs.Rows.{netOf};
 ghost use Rattle.netfile.specs.Records.{takeRecord};
 ghost use Rattle.netfile.specs.Files.{endKind};
 ghost use Rattle.netfile.specs.Answers.{takenAnswer};
 ghost use Rattle.sheet.specs.Readings.{mayStand};
-ghost use Rattle.sheet.specs.Sheets.{hungKind, gateRecord, gateRecords};
-ghost use Rattle.sheet.specs.Rows.{gatesRow, NextGate, Records};
+ghost use Rattle.sheet.specs.Sheets.{hungKind, gateRecord, gateRecords, planSheet, sheetOf, shutInSheet, loneSheet};
+ghost use Rattle.sheet.specs.Rows.{gatesRow, NextGate, Records, Fitting};
+ghost use Rattle.sheet.specs.Answers.{Put, roomFor, sheetFault};
 
 // The kinds of a plan sheet's records; the end is that of a network file.
 const PLAN: u8 = 16;
@@ -136,4 +143,78 @@ fn put_records(kinds: &[u8], setting: &[u8], out: &mut [u8])
         k += 1;
     }
     out[3 * k] = END;
+}
+
+// The sheet of a setting that fits goes to the first bytes of the buffer; 7. The records go into the part of the buffer after the head.
+fn write_sheet(kinds: &[u8], setting: &[u8], out: &mut [u8]) -> WriteAnswer
+    requires { ⌜ Records (now kinds) (now setting) ⌝ }
+    ensures { λ r. ⌜ Put (roomFor (planSheet (gatesRow 0 (now (kinds .entry))) (now (setting .entry))) (length (now (out .entry)))) (planSheet (gatesRow 0 (now (kinds .entry))) (now (setting .entry))) (now (out .entry)) r (now (out .exit)) ⌝ }
+{
+    let count = setting.len();
+    let size = 3 * count + 4;
+    if out.len() < size {
+        return WriteAnswer::Refused(Refusal::ShortBuffer);
+    }
+    out[0] = PLAN;
+    netfile::put_word(out, 1, count as u16);
+    put_records(kinds, setting, &mut out[3..]);
+    WriteAnswer::Written(size)
+}
+
+// The same over a table, which is as long as the shortest of its rows.
+fn write_fitting(kinds: &[u8], a: &[u16], b: &[u16], setting: &[u8], out: &mut [u8]) -> WriteAnswer
+    requires { ⌜ Fitting (tableOf (now kinds) (now a) (now b)) (now setting) ⌝ }
+    ensures { λ r. ⌜ Put (roomFor (planSheet (gatesFrom 0 (tableOf (now (kinds .entry)) (now (a .entry)) (now (b .entry)))) (now (setting .entry))) (length (now (out .entry)))) (planSheet (gatesFrom 0 (tableOf (now (kinds .entry)) (now (a .entry)) (now (b .entry)))) (now (setting .entry))) (now (out .entry)) r (now (out .exit)) ⌝ }
+{
+    let m = tables::row_count(kinds, a, b);
+    write_sheet(&kinds[..m], setting, out)
+}
+
+// The sheet of a plan goes to the first bytes of the buffer. Refuses 1, 2, 3, 8 and 7.
+pub fn write_sheet_rows(
+    basins: u16,
+    kinds: &[u8],
+    a: &[u16],
+    b: &[u16],
+    setting: &[u8],
+    out: &mut [u8],
+) -> WriteAnswer
+    ensures { λ r. ⌜ Put (sheetFault (netOf basins (now (kinds .entry)) (now (a .entry)) (now (b .entry))) (now (setting .entry)) (length (now (out .entry)))) (sheetOf (netOf basins (now (kinds .entry)) (now (a .entry)) (now (b .entry))) (now (setting .entry))) (now (out .entry)) r (now (out .exit)) ⌝ }
+{
+    match planner::check_rows(basins, kinds, a, b, setting) {
+        CheckAnswer::Refused(r) => WriteAnswer::Refused(r),
+        CheckAnswer::No => WriteAnswer::Refused(Refusal::BadSetting),
+        CheckAnswer::Yes => write_fitting(kinds, a, b, setting, out),
+    }
+}
+
+// The sheet of a shut-in finding goes to the first bytes of the buffer; 7.
+fn write_shut_in(marks: &[u8], out: &mut [u8]) -> WriteAnswer
+    requires { ⌜ length (now marks) ≡ markBytes ⌝ }
+    ensures { λ r. ⌜ Put (roomFor (shutInSheet (now (marks .entry))) (length (now (out .entry)))) (shutInSheet (now (marks .entry))) (now (out .entry)) r (now (out .exit)) ⌝ }
+{
+    let size = marks.len() + 2;
+    if out.len() < size {
+        return WriteAnswer::Refused(Refusal::ShortBuffer);
+    }
+    out[0] = SHUT_IN;
+    put_bytes(out, 1, marks);
+    out[size - 1] = END;
+    WriteAnswer::Written(size)
+}
+
+// The sheet of a lone reach goes to the first bytes of the buffer; 7.
+fn write_lone(reach: u16, marks: &[u8], out: &mut [u8]) -> WriteAnswer
+    requires { ⌜ length (now marks) ≡ markBytes ⌝ }
+    ensures { λ r. ⌜ Put (roomFor (loneSheet reach (now (marks .entry))) (length (now (out .entry)))) (loneSheet reach (now (marks .entry))) (now (out .entry)) r (now (out .exit)) ⌝ }
+{
+    let size = marks.len() + 4;
+    if out.len() < size {
+        return WriteAnswer::Refused(Refusal::ShortBuffer);
+    }
+    out[0] = LONE;
+    netfile::put_word(out, 1, reach);
+    put_bytes(out, 3, marks);
+    out[size - 1] = END;
+    WriteAnswer::Written(size)
 }

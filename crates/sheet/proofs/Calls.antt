@@ -1,0 +1,201 @@
+-- What the calls come to, case by case: bytes that are put into a buffer, and what the planner's check says.
+-- Assumes nothing.
+use Prim.Native.Nat.{ℕ, _+_, _*_, _-_, _≤_, _<_}
+use native.Mathlib.Nat.{zero-add}
+use native.Mathlib.Omega.{arith}
+use mathlib.Core.Path.{_≡_, refl, sym, ap, subst, _∙_}
+use mathlib.Core.Bool.{Bool, true, false, cond, _&&_, true≢false}
+use mathlib.Core.List.{List, [], _∷_, _++_, append-assoc}
+use mathlib.Core.Option.{Option, none, some}
+use lib.ListN.{length, take, drop, set, length-append}
+use lib.Seq.{sets, sets-eq, length-sets, length-take-le}
+use lib.Dec.{leb}
+use borrow.Author.Tests.{le-leb, lt-leb}
+use Rattle.network.specs.declared.Reach.{Reach}
+use Rattle.network.specs.declared.Refusal.{Refusal}
+use Rattle.network.specs.declared.Refusal.the-variants.{ShortBuffer, BadSetting}
+use Rattle.network.specs.Networks.{Network, tableFault, Accepted}
+use Rattle.network.specs.Tables.{tableOf}
+use Rattle.network.specs.Settings.{gates, gatesFrom, isSetting, settingFault}
+use Rattle.network.specs.Plans.{strongUnder, isPlan}
+use Rattle.network.proofs.Networks.{accepted}
+use Rattle.tables.proofs.Laws.{table-short}
+use Rattle.netfile.specs.declared.WriteAnswer.{WriteAnswer}
+use Rattle.netfile.specs.declared.WriteAnswer.the-variants.{Refused as Unwritten, Written}
+use Rattle.netfile.specs.Records.{twoBytes}
+use Rattle.netfile.specs.Answers.{firstOf, writeNumber, faultNumber}
+use Rattle.netfile.proofs.Writing.{sets-after, sets-long, set-sets-long}
+use Rattle.planner.specs.declared.CheckAnswer.{CheckAnswer}
+use Rattle.planner.specs.declared.CheckAnswer.the-variants as C
+use Rattle.planner.specs.Answers.{yesOr, unlessRefused, checkOf}
+use Rattle.sheet.specs.Sheets.{gateRecords, planSheet, sheetOf}
+use Rattle.sheet.specs.Rows.{gatesRow, Records, Fitting}
+use Rattle.sheet.specs.Answers.{putAnswer, bytesPut, Put, roomFor, planFault, sheetFault}
+use Rattle.sheet.proofs.Gates.{gates-row, gates-few}
+use Rattle.sheet.proofs.Writing.{part-back}
+use Rattle.sheet.proofs.Sheets.{plan-long, length-records, length-sheet}
+
+-- ---- bytes that are put into a buffer
+
+number-put : (o : Option Refusal) (f : List ℕ) → writeNumber (putAnswer o f) ≡ faultNumber o
+number-put none f = refl
+number-put (some r) f = refl
+
+put-of : (o : Option Refusal) (f out out′ : List ℕ) → out′ ≡ bytesPut o f ++ drop (length (bytesPut o f)) out → Put o f out (putAnswer o f) out′
+put-of o f out out′ e = record { answer = refl; number = number-put o f; bytes = e }
+
+pub put-refused : {o : Option Refusal} (f out : List ℕ) (r : Refusal) → o ≡ some r → Put o f out (Unwritten r) out
+put-refused f out r e = subst (λ o. Put o f out (Unwritten r) out) (sym e) (put-of (some r) f out out refl)
+
+module _ (f out : List ℕ) where
+  pub put-short : length out < length f → Put (roomFor f (length out)) f out (Unwritten ShortBuffer) out
+  put-short l = put-refused f out ShortBuffer (rw (lt-leb (length f) (length out) l))
+
+  pub put-whole : (n : ℕ) (out′ : List ℕ) → n ≡ length f → n ≤ length out → out′ ≡ sets out 0 f → Put (roomFor f (length out)) f out (Written n) out′
+  put-whole n out′ e l q =
+      let room : roomFor f (length out) ≡ none = rw (le-leb (length f) (length out) (omega arith)) in
+      rw e
+      (subst (λ o. Put o f out (Written (length f)) out′) (sym room)
+      (put-of none f out out′ (q ∙ sets-eq f out 0 (omega arith) ∙ ap (λ k. f ++ drop k out) (zero-add (length f)))))
+
+-- ---- a finding: its kind and its values, the marks, the end
+
+module _ (front marks out : List ℕ) where
+  abbrev finding : List ℕ
+  finding = front ++ (marks ++ (9 ∷ []))
+
+  pub finding-size : length finding ≡ length front + length marks + 1
+  finding-size = omega (arith, length-append front (marks ++ (9 ∷ [])), length-append marks (9 ∷ []))
+
+  module _ (n j : ℕ) (e : n ≡ length front + length marks + 1) (at : j ≡ length front) (l₁ l₂ : List ℕ) (p : l₁ ≡ sets out 0 front) (q : l₂ ≡ sets l₁ j marks) where
+    pub finding-long : length l₂ ≡ length out
+    finding-long = sets-long l₁ l₂ j marks q ∙ sets-long out l₁ 0 front p
+
+    pub finding-done : n ≤ length out → Put (roomFor finding (length out)) finding out (Written n) (set l₂ (n - 1) 9)
+    finding-done l = put-whole finding out n (set l₂ (n - 1) 9) (omega (arith, finding-size)) l whole
+      where
+        values : l₂ ≡ sets out 0 (front ++ marks)
+        values = q ∙ ap (λ l. sets l j marks) p ∙ sets-after out 0 j front marks (omega arith)
+
+        place : n - 1 ≡ 0 + length (front ++ marks)
+        place = omega (arith, length-append front marks)
+
+        whole : set l₂ (n - 1) 9 ≡ sets out 0 finding
+        whole =
+            ap (λ l. set l (n - 1) 9) values
+            ∙ sets-after out 0 (n - 1) (front ++ marks) (9 ∷ []) place
+            ∙ ap (sets out 0) (append-assoc front marks (9 ∷ []))
+
+-- ---- a setting that fits a row of kinds
+
+module _ (ks s : List ℕ) (fit : Records ks s) where
+  abbrev sheet : List ℕ
+  sheet = planSheet (gatesRow 0 ks) s
+
+  pub sheet-few : length s ≤ 1024
+  sheet-few = omega (arith, fit .few, fit .full, gates-few 0 ks)
+
+  size : length sheet ≡ 3 * length s + 4
+  size = length-sheet (gatesRow 0 ks) s (fit .full)
+
+  module _ (out : List ℕ) where
+    pub sheet-short : length out < 3 * length s + 4 → Put (roomFor sheet (length out)) sheet out (Unwritten ShortBuffer) out
+    sheet-short l = put-short sheet out (omega (arith, size))
+
+    module _ (l : 3 * length s + 4 ≤ length out) (l₁ : List ℕ) (p : l₁ ≡ sets (set out 0 16) 1 (twoBytes (length s))) where
+      -- the head keeps the buffer's length
+      pub head-long : length l₁ ≡ length out
+      head-long = set-sets-long out l₁ 0 16 1 (twoBytes (length s)) p
+
+      module _ (part : List ℕ) (q : part ≡ sets (take (length l₁ - 3) (drop 3 l₁)) 0 (gateRecords (gatesRow 0 ks) s ++ (9 ∷ []))) where
+        whole : take 3 l₁ ++ (part ++ drop (length l₁ - 3) (drop 3 l₁)) ≡ sets out 0 sheet
+        whole =
+            let records = gateRecords (gatesRow 0 ks) s ++ (9 ∷ []) in
+            part-back 3 l₁ part records (omega (arith, size, head-long)) q
+            ∙ ap (λ l. sets l 3 records) p
+            ∙ sets-after out 0 3 (16 ∷ twoBytes (length s)) records (omega arith)
+            ∙ ap (λ n. sets out 0 ((16 ∷ twoBytes n) ++ records)) (fit .full)
+
+        pub sheet-long : length (take 3 l₁ ++ (part ++ drop (length l₁ - 3) (drop 3 l₁))) ≡ length out
+        sheet-long = ap length whole ∙ length-sets out 0 sheet
+
+        pub sheet-done : Put (roomFor sheet (length out)) sheet out (Written (3 * length s + 4)) (take 3 l₁ ++ (part ++ drop (length l₁ - 3) (drop 3 l₁)))
+        sheet-done = put-whole sheet out (3 * length s + 4) _ (sym size) l whole
+
+-- the rows cut to the length of the table
+module _ (ks xs ys s : List ℕ) (m : ℕ) (e : m ≡ length (tableOf ks xs ys)) where
+  pub cut-gates : gatesRow 0 (take m ks) ≡ gatesFrom 0 (tableOf ks xs ys)
+  cut-gates = rw e (gates-row 0 ks xs ys)
+
+  pub cut-kinds : m ≤ length ks
+  cut-kinds = omega (arith, e, table-short ks xs ys)
+
+  pub cut-fits : Fitting (tableOf ks xs ys) s → Records (take m ks) s
+  cut-fits f =
+      record { few = omega (arith, length-take-le m ks cut-kinds, f .few); full = f .full ∙ sym (ap length cut-gates) }
+
+  pub cut-sheet :
+      (out : List ℕ) (r : WriteAnswer) (out′ : List ℕ)
+      → Put (roomFor (planSheet (gatesRow 0 (take m ks)) s) (length out)) (planSheet (gatesRow 0 (take m ks)) s) out r out′
+      → Put (roomFor (planSheet (gatesFrom 0 (tableOf ks xs ys)) s) (length out)) (planSheet (gatesFrom 0 (tableOf ks xs ys)) s) out r out′
+  cut-sheet out r out′ = subst (λ gs. Put (roomFor (planSheet gs s) (length out)) (planSheet gs s) out r out′) cut-gates
+
+-- ---- what the check says
+
+-- the refusal that the answer of the check stands for
+abbrev pub checkFault : CheckAnswer → Option Refusal
+checkFault (C.Refused r) = some r
+checkFault C.Yes = none
+checkFault C.No = some BadSetting
+
+check-cases :
+    (o : Option Refusal) (b c : Bool)
+    → checkFault (unlessRefused o (unlessRefused (cond b none (some BadSetting)) (yesOr (b && c)))) ≡ firstOf o (cond (b && c) none (some BadSetting))
+check-cases (some r) b c = refl
+check-cases none true true = refl
+check-cases none true false = refl
+check-cases none false c = refl
+
+-- 1, 2 and 3, and then 8 where the setting is no plan
+pub check-fault : (N : Network) (s : List ℕ) → checkFault (checkOf N s) ≡ firstOf (tableFault N) (planFault N s)
+unfolding checkOf settingFault isPlan
+check-fault N s = check-cases (tableFault N) (isSetting N s) (strongUnder N s)
+
+first-assoc : (o p q : Option Refusal) → firstOf o (firstOf p q) ≡ firstOf (firstOf o p) q
+first-assoc none p q = refl
+first-assoc (some r) p q = refl
+
+module _ (N : Network) (s : List ℕ) (v : CheckAnswer) (e : checkOf N s ≡ v) where
+  judged : firstOf (tableFault N) (planFault N s) ≡ checkFault v
+  judged = sym (check-fault N s) ∙ ap checkFault e
+
+  pub judged-sheet : (room : ℕ) → sheetFault N s room ≡ firstOf (checkFault v) (roomFor (sheetOf N s) room)
+  judged-sheet room = first-assoc (tableFault N) (planFault N s) (roomFor (sheetOf N s) room) ∙ ap (λ o. firstOf o (roomFor (sheetOf N s) room)) judged
+
+-- yes: the network is accepted and the setting is a plan
+pub record Plan (N : Network) (s : List ℕ) : Type 0 where
+  pub accepted-net : Accepted N
+  pub is-plan : isPlan N s ≡ true
+
+no-fault : (N : Network) (s : List ℕ) (o : Option Refusal) (b : Bool) → tableFault N ≡ o → isPlan N s ≡ b → firstOf o (cond b none (some BadSetting)) ≡ none → Plan N s
+no-fault N s none true t p e = record { accepted-net = t; is-plan = p }
+no-fault N s none false t p e = absurd (true≢false (cc))
+no-fault N s (some r) b t p e = absurd (true≢false (cc))
+
+module _ (N : Network) (s : List ℕ) (e : checkOf N s ≡ C.Yes) where
+  pub yes-plan : Plan N s
+  yes-plan = no-fault N s (tableFault N) (isPlan N s) refl refl (judged N s C.Yes e)
+
+  pub yes-fits : Fitting (N .reaches) s
+  yes-fits = record { few = accepted N (yes-plan .accepted-net) .few-reaches; full = plan-long N s (yes-plan .is-plan) }
+
+-- the writer, by what the check said
+module _ (N : Network) (s out : List ℕ) where
+  pub wrote-refused : (v : CheckAnswer) (r : Refusal) → checkOf N s ≡ v → checkFault v ≡ some r → Put (sheetFault N s (length out)) (sheetOf N s) out (Unwritten r) out
+  wrote-refused v r e f =
+      put-refused (sheetOf N s) out r (judged-sheet N s v e (length out) ∙ ap (λ o. firstOf o (roomFor (sheetOf N s) (length out))) f)
+
+  pub wrote-plan :
+      (r : WriteAnswer) (out′ : List ℕ) → checkOf N s ≡ C.Yes → Put (roomFor (sheetOf N s) (length out)) (sheetOf N s) out r out′
+      → Put (sheetFault N s (length out)) (sheetOf N s) out r out′
+  wrote-plan r out′ e = subst (λ o. Put o (sheetOf N s) out r out′) (sym (judged-sheet N s C.Yes e (length out)))
