@@ -19,6 +19,7 @@ use Rattle.network.specs.Tables.{tableOf}
 use Rattle.network.specs.Settings.{gates, gatesFrom, isSetting, settingFault}
 use Rattle.network.specs.Plans.{strongUnder, isPlan}
 use Rattle.network.proofs.Networks.{accepted}
+use Rattle.tables.specs.Rows.{gatesIn}
 use Rattle.tables.proofs.Laws.{table-short}
 use Rattle.netfile.specs.declared.WriteAnswer.{WriteAnswer}
 use Rattle.netfile.specs.declared.WriteAnswer.the-variants.{Refused as Unwritten, Written}
@@ -29,9 +30,9 @@ use Rattle.planner.specs.declared.CheckAnswer.{CheckAnswer}
 use Rattle.planner.specs.declared.CheckAnswer.the-variants as C
 use Rattle.planner.specs.Answers.{yesOr, unlessRefused, checkOf}
 use Rattle.sheet.specs.Sheets.{gateRecords, planSheet, sheetOf}
-use Rattle.sheet.specs.Rows.{gatesRow, Records, Fitting}
+use Rattle.sheet.specs.Rows.{gatesRow, Records, Fitting, Roomy, firstBytesSheet}
 use Rattle.sheet.specs.Answers.{putAnswer, bytesPut, Put, roomFor, planFault, sheetFault}
-use Rattle.sheet.proofs.Gates.{gates-row, gates-few}
+use Rattle.sheet.proofs.Gates.{gates-row, gates-few, count-row}
 use Rattle.sheet.proofs.Writing.{part-back}
 use Rattle.sheet.proofs.Sheets.{plan-long, length-records, length-sheet}
 
@@ -123,22 +124,40 @@ module _ (ks s : List ℕ) (fit : Records ks s) where
         sheet-done = put-whole sheet out (3 * length s + 4) _ (sym size) l whole
 
 -- the rows cut to the length of the table
-module _ (ks xs ys s : List ℕ) (m : ℕ) (e : m ≡ length (tableOf ks xs ys)) where
+module _ (ks xs ys : List ℕ) (m : ℕ) (e : m ≡ length (tableOf ks xs ys)) where
   pub cut-gates : gatesRow 0 (take m ks) ≡ gatesFrom 0 (tableOf ks xs ys)
   cut-gates = rw e (gates-row 0 ks xs ys)
 
   pub cut-kinds : m ≤ length ks
   cut-kinds = omega (arith, e, table-short ks xs ys)
 
-  pub cut-fits : Fitting (tableOf ks xs ys) s → Records (take m ks) s
-  cut-fits f =
+  pub cut-fits : (s : List ℕ) → Fitting (tableOf ks xs ys) s → Records (take m ks) s
+  cut-fits s f =
       record { few = omega (arith, length-take-le m ks cut-kinds, f .few); full = f .full ∙ sym (ap length cut-gates) }
 
   pub cut-sheet :
-      (out : List ℕ) (r : WriteAnswer) (out′ : List ℕ)
+      (s out : List ℕ) (r : WriteAnswer) (out′ : List ℕ)
       → Put (roomFor (planSheet (gatesRow 0 (take m ks)) s) (length out)) (planSheet (gatesRow 0 (take m ks)) s) out r out′
       → Put (roomFor (planSheet (gatesFrom 0 (tableOf ks xs ys)) s) (length out)) (planSheet (gatesFrom 0 (tableOf ks xs ys)) s) out r out′
-  cut-sheet out r out′ = subst (λ gs. Put (roomFor (planSheet gs s) (length out)) (planSheet gs s) out r out′) cut-gates
+  cut-sheet s out r out′ = subst (λ gs. Put (roomFor (planSheet gs s) (length out)) (planSheet gs s) out r out′) cut-gates
+
+  -- the first bytes of a plan buffer, one for each gated reach
+  module _ (plan : List ℕ) (roomy : Roomy (tableOf ks xs ys) plan) (g : ℕ) (count : g ≡ gatesIn (take m ks)) where
+    gate-count : g ≡ length (gatesFrom 0 (tableOf ks xs ys))
+    gate-count = count ∙ sym (count-row 0 (take m ks)) ∙ ap length cut-gates
+
+    pub cut-room : g ≤ length plan
+    cut-room = omega (arith, gate-count, roomy .room)
+
+    pub cut-plan : Fitting (tableOf ks xs ys) (take g plan)
+    cut-plan = record { few = roomy .few; full = length-take-le g plan cut-room ∙ gate-count }
+
+    pub cut-first :
+        (out : List ℕ) (r : WriteAnswer) (out′ : List ℕ)
+        → Put (roomFor (planSheet (gatesFrom 0 (tableOf ks xs ys)) (take g plan)) (length out)) (planSheet (gatesFrom 0 (tableOf ks xs ys)) (take g plan)) out r out′
+        → Put (roomFor (firstBytesSheet (tableOf ks xs ys) plan) (length out)) (firstBytesSheet (tableOf ks xs ys) plan) out r out′
+    cut-first out r out′ =
+        subst (λ n. Put (roomFor (planSheet (gatesFrom 0 (tableOf ks xs ys)) (take n plan)) (length out)) (planSheet (gatesFrom 0 (tableOf ks xs ys)) (take n plan)) out r out′) gate-count
 
 -- ---- what the check says
 

@@ -8,8 +8,10 @@ use mathlib.Core.Bool.{Bool, true, false, cond}
 use mathlib.Core.List.{List, [], _∷_}
 use lib.ListN.{length, getD, take, drop, drop-of-length-le}
 use lib.Seq.{drop-cons}
+use Rattle.network.specs.declared.Reach.{Reach}
 use Rattle.network.specs.Tables.{kindOf, tableOf}
 use Rattle.network.specs.Settings.{isGated, gatesFrom}
+use Rattle.tables.specs.Rows.{gatesIn}
 use Rattle.sheet.specs.Rows.{gatesRow, due, NextGate}
 
 -- the gated reaches of a table, by the kinds that it has
@@ -27,6 +29,18 @@ gate-few false i l n h = omega arith
 pub gates-few : (i : ℕ) (ks : List ℕ) → length (gatesRow i ks) ≤ length ks
 gates-few i [] = omega arith
 gates-few i (k ∷ ks) = gate-few (isGated (kindOf k)) i (gatesRow (suc i) ks) (length ks) (gates-few (suc i) ks)
+
+pub gates-below : (i : ℕ) (t : List Reach) → length (gatesFrom i t) ≤ length t
+gates-below i [] = omega arith
+gates-below i (r ∷ t) = gate-few (isGated (r .kind)) i (gatesFrom (suc i) t) (length t) (gates-below (suc i) t)
+
+length-gate : (b : Bool) (i : ℕ) (l : List ℕ) {n : ℕ} → length l ≡ n → length (cond b (i ∷ l) l) ≡ cond b (suc n) n
+length-gate true i l e = ap suc e
+length-gate false i l e = e
+
+pub count-row : (i : ℕ) (ks : List ℕ) → length (gatesRow i ks) ≡ gatesIn ks
+count-row i [] = refl
+count-row i (k ∷ ks) = length-gate (isGated (kindOf k)) i (gatesRow (suc i) ks) (count-row (suc i) ks)
 
 other-kind : (k : ℕ) → (k ≡ 0 → ⊥) → isGated (kindOf k) ≡ false
 other-kind zero n = absurd (n refl)

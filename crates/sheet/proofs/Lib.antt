@@ -6,3 +6,4 @@ pub mod Steps
 pub mod Sheets
 pub mod Writing
 pub mod Calls
+pub mod Replies

@@ -4,11 +4,12 @@ use Prim.Native.Nat.{ℕ, zero, suc, _≤_, _<_}
 use mathlib.Core.Path.{_≡_}
 use mathlib.Core.Bool.{cond}
 use mathlib.Core.List.{List, [], _∷_}
-use lib.ListN.{length, drop}
+use lib.ListN.{length, take, drop}
 use Rattle.network.specs.declared.Reach.{Reach}
 use Rattle.network.specs.Networks.{maxReaches}
 use Rattle.network.specs.Tables.{kindOf}
 use Rattle.network.specs.Settings.{isGated, gatesFrom}
+use Rattle.sheet.specs.Sheets.{planSheet}
 
 -- The numbers of the gated reaches, the first reach with number i: `gatesFrom` by the kinds alone.
 abbrev pub gatesRow : ℕ → List ℕ → List ℕ
@@ -34,3 +35,11 @@ pub record Records (ks s : List ℕ) : Type 0 where
 pub record Fitting (t : List Reach) (s : List ℕ) : Type 0 where
   pub few : length t ≤ maxReaches
   pub full : length s ≡ length (gatesFrom 0 t)
+
+-- A plan buffer with room for a byte for each gated reach, and the sheet of its first bytes.
+pub record Roomy (t : List Reach) (plan : List ℕ) : Type 0 where
+  pub few : length t ≤ maxReaches
+  pub room : length (gatesFrom 0 t) ≤ length plan
+
+abbrev pub firstBytesSheet : List Reach → List ℕ → List ℕ
+firstBytesSheet t plan = planSheet (gatesFrom 0 t) (take (length (gatesFrom 0 t)) plan)

@@ -1,16 +1,21 @@
 // Plan sheets and finding sheets: their reader, their writer, and the writer of a network's reply. The reach table is lent as three rows of
 // numbers, kinds, ends A and ends B, as the crate `tables` has them. What is a plan, and what a network gets, only the planner's promises say.
+use marks::MARK_BYTES;
+use network::MAX_REACHES;
 use network::Refusal;
 use netfile::Body;
 use netfile::END;
 use netfile::Taken;
 use netfile::WriteAnswer;
+use planner::Answer;
 use planner::CheckAnswer;
+use planner::Verdict;
 ghost use mathlib.Core.Path.{_≡_};
 ghost use Prim.Native.Nat.{_+_, _*_, _≤_, _<_};
 ghost use lib.ListN.{length, take, drop};
 ghost use lib.Seq.{sets};
 ghost use mathlib.Core.List.{[], _∷_, _++_};
+ghost use Rattle.network.specs.Networks.{maxReaches};
 ghost use Rattle.network.specs.Tables.{tableOf};
 ghost use Rattle.network.specs.Settings.{gatesFrom};
 ghost use Rattle.network.specs.Marks.{markBytes};
@@ -19,9 +24,9 @@ ghost use Rattle.netfile.specs.Records.{takeRecord};
 ghost use Rattle.netfile.specs.Files.{endKind};
 ghost use Rattle.netfile.specs.Answers.{takenAnswer};
 ghost use Rattle.sheet.specs.Readings.{mayStand};
-ghost use Rattle.sheet.specs.Sheets.{hungKind, gateRecord, gateRecords, planSheet, sheetOf, shutInSheet, loneSheet};
-ghost use Rattle.sheet.specs.Rows.{gatesRow, NextGate, Records, Fitting};
-ghost use Rattle.sheet.specs.Answers.{Put, roomFor, sheetFault};
+ghost use Rattle.sheet.specs.Sheets.{hungKind, gateRecord, gateRecords, planSheet, sheetOf, shutInSheet, loneSheet, replySheet};
+ghost use Rattle.sheet.specs.Rows.{gatesRow, NextGate, Records, Fitting, Roomy, firstBytesSheet};
+ghost use Rattle.sheet.specs.Answers.{Put, roomFor, sheetFault, replyFault};
 
 // The kinds of a plan sheet's records; the end is that of a network file.
 const PLAN: u8 = 16;
@@ -217,4 +222,50 @@ fn write_lone(reach: u16, marks: &[u8], out: &mut [u8]) -> WriteAnswer
     put_bytes(out, 3, marks);
     out[size - 1] = END;
     WriteAnswer::Written(size)
+}
+
+// The sheet of the plan that stands in the first bytes of its buffer, one for each gated reach.
+fn write_first(kinds: &[u8], a: &[u16], b: &[u16], plan: &[u8], out: &mut [u8]) -> WriteAnswer
+    requires { ⌜ Roomy (tableOf (now kinds) (now a) (now b)) (now plan) ⌝ }
+    ensures { λ r. ⌜ Put (roomFor (firstBytesSheet (tableOf (now (kinds .entry)) (now (a .entry)) (now (b .entry))) (now (plan .entry))) (length (now (out .entry)))) (firstBytesSheet (tableOf (now (kinds .entry)) (now (a .entry)) (now (b .entry))) (now (plan .entry))) (now (out .entry)) r (now (out .exit)) ⌝ }
+{
+    let m = tables::row_count(kinds, a, b);
+    let g = tables::count_gates(&kinds[..m]);
+    write_fitting(kinds, a, b, &plan[..g], out)
+}
+
+// The network's reply as a sheet, with lent working memory for the plan and the marks.
+fn write_reply_in(
+    basins: u16,
+    kinds: &[u8],
+    a: &[u16],
+    b: &[u16],
+    plan: &mut [u8],
+    marks: &mut [u8],
+    out: &mut [u8],
+) -> WriteAnswer
+    requires { ⌜ length (now plan) ≡ maxReaches ⌝ }
+    requires { ⌜ length (now marks) ≡ markBytes ⌝ }
+    ensures { λ r. ⌜ Put (replyFault (netOf basins (now (kinds .entry)) (now (a .entry)) (now (b .entry))) (length (now (out .entry)))) (replySheet (netOf basins (now (kinds .entry)) (now (a .entry)) (now (b .entry)))) (now (out .entry)) r (now (out .exit)) ⌝ }
+{
+    match planner::first_plan_rows(basins, kinds, a, b, plan, marks) {
+        Answer::Refused(r) => WriteAnswer::Refused(r),
+        Answer::Given(reply) => {
+            let verdict = reply.verdict;
+            match verdict {
+                Verdict::Plan => write_first(kinds, a, b, plan, out),
+                Verdict::ShutIn(_) => write_shut_in(marks, out),
+                Verdict::Lone(finding) => write_lone(finding.reach, marks, out),
+            }
+        }
+    }
+}
+
+// The network's first plan, or the finding that shows why there is none, goes to the first bytes of the buffer as a sheet. Refuses 1, 2, 3 and 7.
+pub fn write_reply_rows(basins: u16, kinds: &[u8], a: &[u16], b: &[u16], out: &mut [u8]) -> WriteAnswer
+    ensures { λ r. ⌜ Put (replyFault (netOf basins (now (kinds .entry)) (now (a .entry)) (now (b .entry))) (length (now (out .entry)))) (replySheet (netOf basins (now (kinds .entry)) (now (a .entry)) (now (b .entry)))) (now (out .entry)) r (now (out .exit)) ⌝ }
+{
+    let mut plan = [0u8; MAX_REACHES];
+    let mut marks = [0u8; MARK_BYTES];
+    write_reply_in(basins, kinds, a, b, &mut plan, &mut marks, out)
 }

@@ -14,13 +14,13 @@ slice-aggregate-write-sheet : tie.Need-slice-aggregate-write-sheet
 slice-aggregate-write-sheet c =
     let s = c .before .before .before .before .before .before .before .args in
     let count = c .before .row-count in
-    sym (length-take-le (count .result) (s .kinds .now) (cut-kinds (s .kinds .now) (s .a .now) (s .b .now) (s .setting .now) (count .result) (count .ensures)))
+    sym (length-take-le (count .result) (s .kinds .now) (cut-kinds (s .kinds .now) (s .a .now) (s .b .now) (count .result) (count .ensures)))
 
 write-sheet-requires : tie.Need-write-sheet-requires
 write-sheet-requires c κs =
     let s = c .before .before .before .before .before .before .before .before in
     let count = c .before .before .row-count in
-    cut-fits (s .args .kinds .now) (s .args .a .now) (s .args .b .now) (s .args .setting .now) (count .result) (count .ensures) (s .pre)
+    cut-fits (s .args .kinds .now) (s .args .a .now) (s .args .b .now) (count .result) (count .ensures) (s .args .setting .now) (s .pre)
 
 same-length : tie.Need-same-length
 same-length c = search needs
@@ -30,7 +30,7 @@ returns c =
     let s = c .before .before .before .before .before .before .before .before .before .before .before .args in
     let count = c .before .before .before .before .before .row-count in
     let wrote = c .before .before .write-sheet in
-    cut-sheet (s .kinds .now) (s .a .now) (s .b .now) (s .setting .now) (count .result) (count .ensures) (s .out .now) (wrote .result) (wrote .last .1 .1 .0) (wrote .ensures)
+    cut-sheet (s .kinds .now) (s .a .now) (s .b .now) (count .result) (count .ensures) (s .setting .now) (s .out .now) (wrote .result) (wrote .last .1 .1 .0) (wrote .ensures)
 
 pub write-fitting-spec : {M : Type 1} → statement M
 write-fitting-spec =
