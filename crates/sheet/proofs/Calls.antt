@@ -185,7 +185,7 @@ first-assoc none p q = refl
 first-assoc (some r) p q = refl
 
 module _ (N : Network) (s : List ℕ) (v : CheckAnswer) (e : checkOf N s ≡ v) where
-  judged : firstOf (tableFault N) (planFault N s) ≡ checkFault v
+  pub judged : firstOf (tableFault N) (planFault N s) ≡ checkFault v
   judged = sym (check-fault N s) ∙ ap checkFault e
 
   pub judged-sheet : (room : ℕ) → sheetFault N s room ≡ firstOf (checkFault v) (roomFor (sheetOf N s) room)

@@ -5,5 +5,7 @@ pub mod Gates
 pub mod Steps
 pub mod Sheets
 pub mod Writing
+pub mod Scan
 pub mod Calls
+pub mod Getting
 pub mod Replies

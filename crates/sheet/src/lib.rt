@@ -10,12 +10,13 @@ use netfile::WriteAnswer;
 use planner::Answer;
 use planner::CheckAnswer;
 use planner::Verdict;
+use tables::TableAnswer;
 ghost use mathlib.Core.Path.{_≡_};
 ghost use Prim.Native.Nat.{_+_, _*_, _≤_, _<_};
 ghost use lib.ListN.{length, take, drop};
 ghost use lib.Seq.{sets};
 ghost use mathlib.Core.List.{[], _∷_, _++_};
-ghost use Rattle.network.specs.Networks.{maxReaches};
+ghost use Rattle.network.specs.Networks.{maxReaches, tableFault};
 ghost use Rattle.network.specs.Tables.{tableOf};
 ghost use Rattle.network.specs.Settings.{gatesFrom};
 ghost use Rattle.network.specs.Marks.{markBytes};
@@ -23,10 +24,10 @@ ghost use Rattle.tables.specs.Rows.{netOf};
 ghost use Rattle.netfile.specs.Records.{takeRecord};
 ghost use Rattle.netfile.specs.Files.{endKind};
 ghost use Rattle.netfile.specs.Answers.{takenAnswer};
-ghost use Rattle.sheet.specs.Readings.{mayStand};
+ghost use Rattle.sheet.specs.Readings.{mayStand, read, byteIn, readGates, readRecords, ifPlan, unlessFault, readSheet, withRoom};
 ghost use Rattle.sheet.specs.Sheets.{hungKind, gateRecord, gateRecords, planSheet, sheetOf, shutInSheet, loneSheet, replySheet};
 ghost use Rattle.sheet.specs.Rows.{gatesRow, NextGate, Records, Fitting, Roomy, firstBytesSheet};
-ghost use Rattle.sheet.specs.Answers.{Put, roomFor, sheetFault, replyFault};
+ghost use Rattle.sheet.specs.Answers.{Got, Held, Put, roomFor, sheetFault, replyFault};
 
 // The kinds of a plan sheet's records; the end is that of a network file.
 const PLAN: u8 = 16;
@@ -268,4 +269,126 @@ pub fn write_reply_rows(basins: u16, kinds: &[u8], a: &[u16], b: &[u16], out: &m
     let mut plan = [0u8; MAX_REACHES];
     let mut marks = [0u8; MARK_BYTES];
     write_reply_in(basins, kinds, a, b, &mut plan, &mut marks, out)
+}
+
+// The byte of a gated reach in the setting, by its kind byte.
+fn byte_in(kind: u8) -> u8
+    ensures { λ r. ⌜ r ≡ byteIn kind ⌝ }
+{
+    if kind == AS_DRAWN { 0 } else { 1 }
+}
+
+// The records and the end, which start after the head. The setting that they say goes to the first bytes of lent working memory.
+fn read_gates(kinds: &[u8], sheet: &[u8], held: &mut [u8]) -> SheetAnswer
+    requires { ⌜ 3 ≤ length (now sheet) ⌝ }
+    requires { ⌜ length (gatesRow 0 (now kinds)) ≤ length (now held) ⌝ }
+    ensures { λ r. ⌜ Held (readGates (gatesRow 0 (now (kinds .entry))) (drop 3 (now (sheet .entry)))) r (now (held .exit)) ⌝ }
+{
+    let mut at: usize = 3;
+    let mut i: usize = 0;
+    let mut k: usize = 0;
+    loop {
+        let kind = match take_sheet_record(sheet, at, Place::Inside) {
+            Taken::Broken(r) => return SheetAnswer::Refused(r),
+            Taken::Whole(kind) => kind,
+        };
+        i = next_gate(kinds, i);
+        if kind == END {
+            if i < kinds.len() {
+                return SheetAnswer::Refused(Refusal::BadSetting);
+            }
+            if at + 1 < sheet.len() {
+                return SheetAnswer::Refused(Refusal::TrailingBytes);
+            }
+            return SheetAnswer::Read(k);
+        }
+        if kinds.len() <= i {
+            return SheetAnswer::Refused(Refusal::BadSetting);
+        }
+        if netfile::word_at(sheet, at + 1) as usize != i {
+            return SheetAnswer::Refused(Refusal::BadSetting);
+        }
+        held[k] = byte_in(kind);
+        at += 3;
+        i += 1;
+        k += 1;
+    }
+}
+
+// A whole sheet, its head, its records and its end, for the reaches of these kinds.
+fn read_records(kinds: &[u8], sheet: &[u8], held: &mut [u8]) -> SheetAnswer
+    requires { ⌜ length (gatesRow 0 (now kinds)) ≤ length (now held) ⌝ }
+    ensures { λ r. ⌜ Held (readRecords (gatesRow 0 (now (kinds .entry))) (now (sheet .entry))) r (now (held .exit)) ⌝ }
+{
+    match take_sheet_record(sheet, 0, Place::Head) {
+        Taken::Broken(r) => SheetAnswer::Refused(r),
+        Taken::Whole(_) => {
+            if netfile::word_at(sheet, 1) as usize != tables::count_gates(kinds) {
+                return SheetAnswer::Refused(Refusal::BadSetting);
+            }
+            read_gates(kinds, sheet, held)
+        }
+    }
+}
+
+// The bytes that a sheet says, if they are a plan of the network, go to the first bytes of the setting's buffer. Refuses 8, then 7.
+fn keep_plan(
+    basins: u16,
+    kinds: &[u8],
+    a: &[u16],
+    b: &[u16],
+    bytes: &[u8],
+    setting: &mut [u8],
+) -> SheetAnswer
+    ensures { λ r. ⌜ Got (withRoom (length (now (setting .entry))) (unlessFault (tableFault (netOf basins (now (kinds .entry)) (now (a .entry)) (now (b .entry)))) (ifPlan (netOf basins (now (kinds .entry)) (now (a .entry)) (now (b .entry))) (read (now (bytes .entry)))))) (now (setting .entry)) r (now (setting .exit)) ⌝ }
+{
+    match planner::check_rows(basins, kinds, a, b, bytes) {
+        CheckAnswer::Refused(r) => SheetAnswer::Refused(r),
+        CheckAnswer::No => SheetAnswer::Refused(Refusal::BadSetting),
+        CheckAnswer::Yes => {
+            if setting.len() < bytes.len() {
+                return SheetAnswer::Refused(Refusal::ShortBuffer);
+            }
+            put_bytes(setting, 0, bytes);
+            SheetAnswer::Read(bytes.len())
+        }
+    }
+}
+
+// The reader, with lent working memory.
+fn read_sheet_in(
+    basins: u16,
+    kinds: &[u8],
+    a: &[u16],
+    b: &[u16],
+    sheet: &[u8],
+    held: &mut [u8],
+    setting: &mut [u8],
+) -> SheetAnswer
+    requires { ⌜ length (now held) ≡ maxReaches ⌝ }
+    ensures { λ r. ⌜ Got (withRoom (length (now (setting .entry))) (readSheet (netOf basins (now (kinds .entry)) (now (a .entry)) (now (b .entry))) (now (sheet .entry)))) (now (setting .entry)) r (now (setting .exit)) ⌝ }
+{
+    if let TableAnswer::Refused(r) = tables::table_fault(basins, kinds, a, b) {
+        return SheetAnswer::Refused(r);
+    }
+    let m = tables::row_count(kinds, a, b);
+    match read_records(&kinds[..m], sheet, held) {
+        SheetAnswer::Refused(r) => SheetAnswer::Refused(r),
+        SheetAnswer::Read(n) => keep_plan(basins, kinds, a, b, &held[..n], setting),
+    }
+}
+
+// The setting of a plan sheet goes to the first bytes of the buffer. Refuses 1 to 8. The whole sheet is judged before anything is written.
+pub fn read_sheet_rows(
+    basins: u16,
+    kinds: &[u8],
+    a: &[u16],
+    b: &[u16],
+    sheet: &[u8],
+    setting: &mut [u8],
+) -> SheetAnswer
+    ensures { λ r. ⌜ Got (withRoom (length (now (setting .entry))) (readSheet (netOf basins (now (kinds .entry)) (now (a .entry)) (now (b .entry))) (now (sheet .entry)))) (now (setting .entry)) r (now (setting .exit)) ⌝ }
+{
+    let mut held = [0u8; MAX_REACHES];
+    read_sheet_in(basins, kinds, a, b, sheet, &mut held, setting)
 }
