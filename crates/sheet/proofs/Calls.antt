@@ -180,7 +180,7 @@ pub check-fault : (N : Network) (s : List ℕ) → checkFault (checkOf N s) ≡ 
 unfolding checkOf settingFault isPlan
 check-fault N s = check-cases (tableFault N) (isSetting N s) (strongUnder N s)
 
-first-assoc : (o p q : Option Refusal) → firstOf o (firstOf p q) ≡ firstOf (firstOf o p) q
+pub first-assoc : (o p q : Option Refusal) → firstOf o (firstOf p q) ≡ firstOf (firstOf o p) q
 first-assoc none p q = refl
 first-assoc (some r) p q = refl
 
@@ -196,7 +196,7 @@ pub record Plan (N : Network) (s : List ℕ) : Type 0 where
   pub accepted-net : Accepted N
   pub is-plan : isPlan N s ≡ true
 
-no-fault : (N : Network) (s : List ℕ) (o : Option Refusal) (b : Bool) → tableFault N ≡ o → isPlan N s ≡ b → firstOf o (cond b none (some BadSetting)) ≡ none → Plan N s
+pub no-fault : (N : Network) (s : List ℕ) (o : Option Refusal) (b : Bool) → tableFault N ≡ o → isPlan N s ≡ b → firstOf o (cond b none (some BadSetting)) ≡ none → Plan N s
 no-fault N s none true t p e = record { accepted-net = t; is-plan = p }
 no-fault N s none false t p e = absurd (true≢false (cc))
 no-fault N s (some r) b t p e = absurd (true≢false (cc))

@@ -85,7 +85,7 @@ module _ (N : Network) (s setting : List ℕ) (v : CheckAnswer) (e : checkOf N s
 
 -- ---- from the working memory to the buffer
 
-refused-is : (x : Reading) (r : Refusal) → Refused r ≡ sheetAnswer x → x ≡ refused r
+pub refused-is : (x : Reading) (r : Refusal) → Refused r ≡ sheetAnswer x → x ≡ refused r
 refused-is (refused e) r h = cc
 refused-is (read s) r h = cc
 

@@ -9,3 +9,4 @@ pub mod Scan
 pub mod Calls
 pub mod Getting
 pub mod Replies
+pub mod RoundTrips

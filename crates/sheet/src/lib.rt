@@ -1,5 +1,7 @@
 // Plan sheets and finding sheets: their reader, their writer, and the writer of a network's reply. The reach table is lent as three rows of
 // numbers, kinds, ends A and ends B, as the crate `tables` has them. What is a plan, and what a network gets, only the planner's promises say.
+pub mod laws;
+
 use marks::MARK_BYTES;
 use network::MAX_REACHES;
 use network::Refusal;

@@ -1,0 +1,265 @@
+-- Writing and reading one after the other, by what the calls promise; and that every accepted network has exactly one reply sheet.
+-- Assumes nothing.
+use Prim.Native.Nat.{ℕ, _≤_}
+use native.Mathlib.Omega.{arith}
+use mathlib.Core.Path.{_≡_, refl, sym, ap, subst, _∙_}
+use mathlib.Core.Bool.{Bool, true, false, cond, true≢false}
+use mathlib.Core.List.{List, [], _∷_, _++_}
+use mathlib.Core.Option.{Option, none, some}
+use lib.ListN.{length, take, drop, length-append}
+use lib.Seq.{take-at}
+use lib.Dec.{leb}
+use Rattle.network.specs.declared.Refusal.{Refusal}
+use Rattle.network.specs.declared.Refusal.the-variants.{ShortBuffer, BadSetting}
+use Rattle.network.specs.Networks.{Network, tableFault, Accepted}
+use Rattle.network.specs.Settings.{isSetting, settingFault}
+use Rattle.network.specs.Plans.{isPlan, passable, firstPlan}
+use Rattle.network.specs.Lone.{lowestLone}
+use Rattle.network.specs.Marks.{marksOf}
+use Rattle.network.specs.Replies.{Outcome, plan, shutIn, lone, loneSide, firstAnswer}
+use Rattle.network.proofs.Bools.{clash}
+use Rattle.network.proofs.Lone.{lone-blocks}
+use Rattle.network.proofs.Order.{plan-setting, first-is-plan}
+use Rattle.network.proofs.Replies.{lowest-is-lone}
+use Rattle.network.proofs.Theorem.{plan-passable}
+use Rattle.netfile.specs.declared.WriteAnswer.{WriteAnswer}
+use Rattle.netfile.specs.declared.WriteAnswer.the-variants.{Refused as Unwritten, Written}
+use Rattle.netfile.specs.Records.{areBytes}
+use Rattle.netfile.specs.Answers.{firstOf}
+use Rattle.planner.specs.declared.CheckAnswer.{CheckAnswer}
+use Rattle.planner.specs.declared.CheckAnswer.the-variants as C
+use Rattle.planner.specs.Answers.{checkOf}
+use Rattle.sheet.specs.declared.SheetAnswer.{SheetAnswer}
+use Rattle.sheet.specs.declared.SheetAnswer.the-variants.{Refused, Read}
+use Rattle.sheet.specs.Sheets.{sheetOf, shutInSheet, loneSheet, outcomeSheet, replySheet}
+use Rattle.sheet.specs.Readings.{Reading, refused, read, unlessFault, readRecords, readSheet, withRoom}
+use Rattle.sheet.specs.Answers.{sheetAnswer, settingRead, Got, putAnswer, bytesPut, Put, roomFor, planFault, sheetFault, replyFault}
+use Rattle.sheet.specs.Laws.{WriteRead, writtenBack, ReadWrite, checkedBack, ReadCheck, replyRead, ReplyThenRead, Replies, says-plan, says-shut-in, says-lone}
+use Rattle.sheet.proofs.Sheets.{read-write, write-read, was-read}
+use Rattle.sheet.proofs.Calls.{Plan, put-refused, first-assoc, no-fault}
+use Rattle.sheet.proofs.Getting.{got-refused, refused-is}
+use Rattle.sheet.proofs.Replies.{First, is-plan, is-shut, is-lone, first-cases}
+
+-- ---- what a writer's answer says
+
+not-written : (o : Option Refusal) (f : List ℕ) (r : Refusal) → Unwritten r ≡ putAnswer o f → o ≡ some r
+not-written none f r h = cc
+not-written (some e) f r h = cc
+
+was-written : (o : Option Refusal) (f : List ℕ) (n : ℕ) → Written n ≡ putAnswer o f → (o ≡ none) × (n ≡ length f)
+was-written none f n h = (refl, cc)
+was-written (some e) f n h = absurd (true≢false (cc))
+
+first-none : (o p : Option Refusal) → firstOf o p ≡ none → o ≡ none
+first-none none p h = refl
+first-none (some r) p h = cc
+
+module _ (o : Option Refusal) (f out out′ : List ℕ) where
+  pub unwritten : (r : Refusal) → Put o f out (Unwritten r) out′ → o ≡ some r
+  unwritten r p = not-written o f r (p .answer)
+
+  module _ (n : ℕ) (p : Put o f out (Written n) out′) where
+    pub written : o ≡ none
+    written = was-written o f n (p .answer) .0
+
+    size : n ≡ length f
+    size = was-written o f n (p .answer) .1
+
+    stands : out′ ≡ f ++ drop (length f) out
+    stands = subst (λ o. out′ ≡ bytesPut o f ++ drop (length (bytesPut o f)) out) written (p .bytes)
+
+    pub written-fits : n ≤ length out′
+    written-fits = omega (arith, size, ap length stands, length-append f (drop (length f) out))
+
+    pub written-front : take n out′ ≡ f
+    written-front = ap (take n) stands ∙ take-at f (drop (length f) out) n (sym size)
+
+-- ---- written, then read
+
+module _ (N : Network) (s out setting out′ : List ℕ) where
+  pub trip-refused : (r : Refusal) → Put (sheetFault N s (length out)) (sheetOf N s) out (Unwritten r) out′ → WriteRead N s out setting (Refused r) out′ setting
+  trip-refused r p =
+      record {
+        again = got-refused setting r (ap (λ o. unlessFault o (withRoom (length setting) (read s))) (unwritten (sheetFault N s (length out)) (sheetOf N s) out out′ r p));
+        sheet = p .bytes;
+      }
+
+  module _ (n : ℕ) (p : Put (sheetFault N s (length out)) (sheetOf N s) out (Written n) out′) where
+    sound : sheetFault N s (length out) ≡ none
+    sound = written (sheetFault N s (length out)) (sheetOf N s) out out′ n p
+
+    its-plan : Plan N s
+    its-plan =
+        no-fault N s (tableFault N) (isPlan N s) refl refl
+        (first-none (firstOf (tableFault N) (planFault N s)) (roomFor (sheetOf N s) (length out))
+        (sym (first-assoc (tableFault N) (planFault N s) (roomFor (sheetOf N s) (length out))) ∙ sound))
+
+    same : readSheet N (take n out′) ≡ read s
+    same =
+        ap (readSheet N) (written-front (sheetFault N s (length out)) (sheetOf N s) out out′ n p)
+        ∙ read-write N s (its-plan .accepted-net) (its-plan .is-plan)
+
+    pub trip-read :
+        (r : SheetAnswer) (setting′ : List ℕ) → Got (withRoom (length setting) (readSheet N (take n out′))) setting r setting′
+        → WriteRead N s out setting r out′ setting′
+    trip-read r setting′ g =
+        record {
+          again =
+              subst (λ x. Got x setting r setting′)
+              (ap (withRoom (length setting)) same ∙ ap (λ o. unlessFault o (withRoom (length setting) (read s))) (sym sound)) g;
+          sheet = p .bytes;
+        }
+
+-- ---- read, then written or checked
+
+room-kept : (room : ℕ) (x : Reading) (s : List ℕ) → withRoom room x ≡ read s → x ≡ read s
+room-kept room (refused r) s h = h
+room-kept room (read t) s h = go (leb (length t) room) h
+  where
+    go : (b : Bool) → cond b (read t) (refused ShortBuffer) ≡ read s → read t ≡ read s
+    go true e = e
+    go false e = cc
+
+-- a reading whose answer is a count is a setting of that length
+counted : (x : Reading) (n : ℕ) → Read n ≡ sheetAnswer x → (x ≡ read (settingRead x)) × (n ≡ length (settingRead x))
+counted (refused r) n h = absurd (true≢false (cc))
+counted (read s) n h = (refl, cc)
+
+-- an accepted network and a plan get yes
+check-yes : (N : Network) (s : List ℕ) → Accepted N → isPlan N s ≡ true → checkOf N s ≡ C.Yes
+unfolding checkOf settingFault
+check-yes N s ok p = rw (ok, plan-setting N s p, p)
+
+module _ (N : Network) (f setting setting′ : List ℕ) where
+  abbrev got : Reading
+  got = withRoom (length setting) (readSheet N f)
+
+  pub trip-unread : (out : List ℕ) (r : Refusal) → Got got setting (Refused r) setting′ → ReadWrite N f setting out (Unwritten r) setting′ out
+  trip-unread out r g =
+      record {
+        again = put-refused f out r (ap (λ x. writtenBack x f (length out)) (refused-is got r (g .answer)));
+        bytes = g .bytes;
+      }
+
+  pub trip-unchecked : (r : Refusal) → Got got setting (Refused r) setting′ → ReadCheck N f setting (C.Refused r) setting′
+  trip-unchecked r g = record { answer = sym (ap checkedBack (refused-is got r (g .answer))); bytes = g .bytes }
+
+  module _ (n : ℕ) (g : Got got setting (Read n) setting′) where
+    abbrev s : List ℕ
+    s = settingRead got
+
+    is : got ≡ read s
+    is = counted got n (g .answer) .0
+
+    size-read : n ≡ length s
+    size-read = counted got n (g .answer) .1
+
+    sheet-is : readSheet N f ≡ read s
+    sheet-is = room-kept (length setting) (readSheet N f) s is
+
+    pub read-fits : n ≤ length setting′
+    read-fits = omega (arith, size-read, ap length (g .bytes), length-append s (drop (length s) setting))
+
+    front : take n setting′ ≡ s
+    front = ap (take n) (g .bytes) ∙ take-at s (drop (length s) setting) n (sym size-read)
+
+    plan-fault : planFault N s ≡ none
+    plan-fault = rw (was-read N f s sheet-is .is-plan)
+
+    pub trip-written :
+        areBytes f ≡ true → (out : List ℕ) (r : WriteAnswer) (out′ : List ℕ)
+        → Put (sheetFault N (take n setting′) (length out)) (sheetOf N (take n setting′)) out r out′ → ReadWrite N f setting out r setting′ out′
+    trip-written b out r out′ p =
+        record {
+          again =
+              subst (λ x. Put (writtenBack x f (length out)) f out r out′) (sym is)
+              (subst (λ h. Put (roomFor h (length out)) h out r out′) (sym (write-read N f s b sheet-is))
+              (subst (λ o. Put o (sheetOf N s) out r out′) fault (subst (λ t. Put (sheetFault N t (length out)) (sheetOf N t) out r out′) front p)));
+          bytes = g .bytes;
+        }
+      where
+        fault : sheetFault N s (length out) ≡ roomFor (sheetOf N s) (length out)
+        fault =
+            ap (λ o. firstOf o (firstOf (planFault N s) (roomFor (sheetOf N s) (length out)))) (was-read N f s sheet-is .accepted)
+            ∙ ap (λ o. firstOf o (roomFor (sheetOf N s) (length out))) plan-fault
+
+    pub trip-checked : (v : CheckAnswer) → v ≡ checkOf N (take n setting′) → ReadCheck N f setting v setting′
+    trip-checked v e =
+        record {
+          answer =
+              e
+              ∙ ap (checkOf N) front
+              ∙ check-yes N s (was-read N f s sheet-is .accepted) (was-read N f s sheet-is .is-plan)
+              ∙ sym (ap checkedBack is);
+          bytes = g .bytes;
+        }
+
+-- ---- the reply's sheet
+
+says : (N : Network) → Accepted N → {o : Outcome} → First N o → Replies N (outcomeSheet N o)
+says N ok (is-plan s e) = says-plan s e (read-write N s ok (first-is-plan N e))
+says N ok (is-shut n) = says-shut-in n refl
+says N ok (is-lone i y e) = says-lone i y e refl
+
+-- The reply sheet of an accepted network says what the network gets,
+pub reply-says : (N : Network) → Accepted N → Replies N (replySheet N)
+unfolding replySheet
+reply-says N ok = says N ok (first-cases N ok)
+
+-- and it is the only one that does.
+pub reply-only : (N : Network) (f : List ℕ) → Accepted N → areBytes f ≡ true → Replies N f → f ≡ replySheet N
+unfolding replySheet
+reply-only N f ok b q = go (first-cases N ok) q
+  where
+    one : {i j : ℕ} → some i ≡ some j → i ≡ j
+    one e = cc
+
+    same-plan : {s t : List ℕ} → some s ≡ some t → s ≡ t
+    same-plan e = cc
+
+    go : {o : Outcome} → First N o → Replies N f → f ≡ outcomeSheet N o
+    go (is-plan s e) (says-plan t d r) = write-read N f t b r ∙ ap (sheetOf N) (same-plan (sym d ∙ e))
+    go (is-plan s e) (says-shut-in n r) = clash (plan-passable N s (first-is-plan N e)) n
+    go (is-plan s e) (says-lone i y l r) = absurd (lone-blocks N i (lowest-is-lone N l) s (first-is-plan N e))
+    go (is-shut n) (says-plan t d r) = clash (plan-passable N t (first-is-plan N d)) n
+    go (is-shut n) (says-shut-in m r) = r
+    go (is-shut n) (says-lone i y l r) = clash y n
+    go (is-lone i y l) (says-plan t d r) = absurd (lone-blocks N i (lowest-is-lone N l) t (first-is-plan N d))
+    go (is-lone i y l) (says-shut-in n r) = clash y n
+    go (is-lone i y l) (says-lone j z m r) = r ∙ ap (λ k. outcomeSheet N (lone k (marksOf (loneSide N k)) 0)) (one (sym m ∙ l))
+
+-- its reading as a plan sheet is the first plan, where there is one
+read-outcome : (N : Network) → Accepted N → {o : Outcome} → First N o → readSheet N (outcomeSheet N o) ≡ replyRead o
+unfolding readSheet readRecords
+read-outcome N ok (is-plan s e) = read-write N s ok (first-is-plan N e)
+read-outcome N ok (is-shut n) = rw ok
+read-outcome N ok (is-lone i y e) = rw ok
+
+pub read-reply : (N : Network) → Accepted N → readSheet N (replySheet N) ≡ replyRead (firstAnswer N)
+unfolding replySheet
+read-reply N ok = read-outcome N ok (first-cases N ok)
+
+module _ (N : Network) (out setting out′ : List ℕ) where
+  pub trip-unreplied : (r : Refusal) → Put (replyFault N (length out)) (replySheet N) out (Unwritten r) out′ → ReplyThenRead N out setting (Refused r) out′ setting
+  trip-unreplied r p =
+      record {
+        again =
+            got-refused setting r
+            (ap (λ o. unlessFault o (withRoom (length setting) (replyRead (firstAnswer N)))) (unwritten (replyFault N (length out)) (replySheet N) out out′ r p));
+        sheet = p .bytes;
+      }
+
+  pub trip-replied :
+      (n : ℕ) → Put (replyFault N (length out)) (replySheet N) out (Written n) out′ → (r : SheetAnswer) (setting′ : List ℕ)
+      → Got (withRoom (length setting) (readSheet N (take n out′))) setting r setting′ → ReplyThenRead N out setting r out′ setting′
+  trip-replied n p r setting′ g =
+      let sound : replyFault N (length out) ≡ none = written (replyFault N (length out)) (replySheet N) out out′ n p in
+      let same : readSheet N (take n out′) ≡ replyRead (firstAnswer N) =
+          ap (readSheet N) (written-front (replyFault N (length out)) (replySheet N) out out′ n p)
+          ∙ read-reply N (first-none (tableFault N) (roomFor (replySheet N) (length out)) sound) in
+      record {
+        again =
+            subst (λ x. Got x setting r setting′)
+            (ap (withRoom (length setting)) same ∙ ap (λ o. unlessFault o (withRoom (length setting) (replyRead (firstAnswer N)))) (sym sound)) g;
+        sheet = p .bytes;
+      }
