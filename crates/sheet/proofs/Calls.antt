@@ -25,7 +25,7 @@ use Rattle.netfile.specs.declared.WriteAnswer.{WriteAnswer}
 use Rattle.netfile.specs.declared.WriteAnswer.the-variants.{Refused as Unwritten, Written}
 use Rattle.netfile.specs.Records.{twoBytes}
 use Rattle.netfile.specs.Answers.{firstOf, writeNumber, faultNumber}
-use Rattle.netfile.proofs.Writing.{sets-after, sets-long, set-sets-long}
+use Rattle.netfile.proofs.Writing.{sets-after, set-sets-long}
 use Rattle.planner.specs.declared.CheckAnswer.{CheckAnswer}
 use Rattle.planner.specs.declared.CheckAnswer.the-variants as C
 use Rattle.planner.specs.Answers.{yesOr, unlessRefused, checkOf}
@@ -69,9 +69,6 @@ module _ (front marks out : List ℕ) where
   finding-size = omega (arith, length-append front (marks ++ (9 ∷ [])), length-append marks (9 ∷ []))
 
   module _ (n j : ℕ) (e : n ≡ length front + length marks + 1) (at : j ≡ length front) (l₁ l₂ : List ℕ) (p : l₁ ≡ sets out 0 front) (q : l₂ ≡ sets l₁ j marks) where
-    pub finding-long : length l₂ ≡ length out
-    finding-long = sets-long l₁ l₂ j marks q ∙ sets-long out l₁ 0 front p
-
     pub finding-done : n ≤ length out → Put (roomFor finding (length out)) finding out (Written n) (set l₂ (n - 1) 9)
     finding-done l = put-whole finding out n (set l₂ (n - 1) 9) (omega (arith, finding-size)) l whole
       where

@@ -90,7 +90,7 @@ same-length-6 c = c .before .before .before .before .before .before .before .bef
 returns-6 : tie.Need-returns-6 Inv-loop μ-loop
 returns-6 c =
     scan-other (c .before .before .before .before .before .before .before .before .before .loop .inv) (here (c .before .before .before .before)) (c .before .before .before .before .next-gate .ensures) (c .before .before .before .if1 .left) (c .before .before .if4 .left)
-    (c .before .word-at .result) (c .before .word-at .ensures) (c .if5 .taken)
+    (c .before .word-at .result) (c .before .word-at .ensures) (λ e. omega (arith, c .if5 .taken))
 
 byte-in-requires : tie.Need-byte-in-requires Inv-loop μ-loop
 byte-in-requires c κs = search needs

@@ -7,23 +7,17 @@ use mathlib.Core.List.{_∷_}
 use lib.ListN.{length, length-set}
 use borrow.Author.Needs.{needs}
 use Rattle.netfile.specs.Records.{twoBytes}
-use Rattle.netfile.proofs.Writing.{set-sets-long}
 use Rattle.sheet.specs.Sheets.{loneSheet}
-use Rattle.sheet.proofs.Calls.{put-short, finding-size, finding-long, finding-done}
+use Rattle.sheet.proofs.Calls.{put-short, finding-size, finding-done}
 use Rattle.sheet.proofs.write_lone.Statement.{statement}
 use Rattle.sheet.proofs.write_lone.Tie as tie
 
 -- the stores keep the buffer's length
 word-long : (c : tie.After-put-word) → length (c .put-word .last .0) ≡ length (c .before .before .before .before .before .args .out .now)
-word-long c =
-    let s = c .before .before .before .before .before .args in
-    set-sets-long (s .out .now) (c .put-word .last .0) 0 21 1 (twoBytes (s .reach)) (c .put-word .ensures)
+word-long c = c .put-word .kept .0 ∙ length-set (c .before .before .before .before .before .args .out .now) 0 21
 
 marks-long : (c : tie.After-put-bytes) → length (c .put-bytes .last .0) ≡ length (c .before .before .before .before .before .before .before .before .before .args .out .now)
-marks-long c =
-    let s = c .before .before .before .before .before .before .before .before .before .args in
-    let word = c .before .before .before .before .put-word in
-    finding-long (21 ∷ twoBytes (s .reach)) (s .marks .now) (s .out .now) _ 3 refl refl (word .last .0) (c .put-bytes .last .0) (word .ensures) (c .put-bytes .ensures)
+marks-long c = c .put-bytes .kept .0 ∙ word-long (c .before .before .before .before)
 
 add-size : tie.Need-add-size
 add-size c = omega (arith, c .before .before .pre)

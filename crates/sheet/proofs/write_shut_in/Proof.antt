@@ -7,15 +7,13 @@ use mathlib.Core.List.{[], _∷_}
 use lib.ListN.{length, length-set}
 use borrow.Author.Needs.{needs}
 use Rattle.sheet.specs.Sheets.{shutInSheet}
-use Rattle.sheet.proofs.Calls.{put-short, finding-size, finding-long, finding-done}
+use Rattle.sheet.proofs.Calls.{put-short, finding-size, finding-done}
 use Rattle.sheet.proofs.write_shut_in.Statement.{statement}
 use Rattle.sheet.proofs.write_shut_in.Tie as tie
 
 -- the stores keep the buffer's length
 marks-long : (c : tie.After-put-bytes) → length (c .put-bytes .last .0) ≡ length (c .before .before .before .before .before .args .out .now)
-marks-long c =
-    let s = c .before .before .before .before .before .args in
-    finding-long (20 ∷ []) (s .marks .now) (s .out .now) _ 1 refl refl _ (c .put-bytes .last .0) refl (c .put-bytes .ensures)
+marks-long c = c .put-bytes .kept .0 ∙ length-set (c .before .before .before .before .before .args .out .now) 0 20
 
 add-size : tie.Need-add-size
 add-size c = omega (arith, c .before .before .pre)
