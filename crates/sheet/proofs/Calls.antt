@@ -9,14 +9,12 @@ use mathlib.Core.List.{List, [], _∷_, _++_, append-assoc}
 use mathlib.Core.Option.{Option, none, some}
 use lib.ListN.{length, take, drop, set, length-append}
 use lib.Seq.{sets, sets-eq, length-sets, length-take-le}
-use lib.Dec.{leb}
 use borrow.Author.Tests.{le-leb, lt-leb}
-use Rattle.network.specs.declared.Reach.{Reach}
 use Rattle.network.specs.declared.Refusal.{Refusal}
 use Rattle.network.specs.declared.Refusal.the-variants.{ShortBuffer, BadSetting}
 use Rattle.network.specs.Networks.{Network, tableFault, Accepted}
 use Rattle.network.specs.Tables.{tableOf}
-use Rattle.network.specs.Settings.{gates, gatesFrom, isSetting, settingFault}
+use Rattle.network.specs.Settings.{gatesFrom, isSetting, settingFault}
 use Rattle.network.specs.Plans.{strongUnder, isPlan}
 use Rattle.network.proofs.Networks.{accepted}
 use Rattle.tables.specs.Rows.{gatesIn}
@@ -34,7 +32,7 @@ use Rattle.sheet.specs.Rows.{gatesRow, Records, Fitting, Roomy, firstByt
 use Rattle.sheet.specs.Answers.{putAnswer, bytesPut, Put, roomFor, planFault, sheetFault}
 use Rattle.sheet.proofs.Gates.{gates-row, gates-few, count-row}
 use Rattle.sheet.proofs.Writing.{part-back}
-use Rattle.sheet.proofs.Sheets.{plan-long, length-records, length-sheet}
+use Rattle.sheet.proofs.Sheets.{plan-long, length-sheet}
 
 -- ---- bytes that are put into a buffer
 

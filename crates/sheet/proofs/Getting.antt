@@ -1,11 +1,11 @@
 -- What the reader comes to, case by case: the head, the working memory, the planner's check, the room.
 -- Assumes nothing.
-use Prim.Native.Nat.{ℕ, _+_, _≤_, _<_}
+use Prim.Native.Nat.{ℕ, _≤_, _<_}
 use native.Mathlib.Nat.{zero-add}
 use native.Mathlib.Omega.{arith}
 use mathlib.Core.Path.{_≡_, refl, sym, ap, subst, _∙_}
 use mathlib.Core.Bool.{Bool, true, false, cond, true≢false}
-use mathlib.Core.List.{List, [], _∷_, _++_}
+use mathlib.Core.List.{List, _++_}
 use mathlib.Core.Option.{Option, none, some}
 use lib.ListN.{length, take, drop, length-take}
 use lib.Seq.{sets, sets-eq}
@@ -20,13 +20,12 @@ use Rattle.netfile.specs.declared.Taken.the-variants.{Whole}
 use Rattle.netfile.specs.Records.{takeRecord}
 use Rattle.netfile.specs.Answers.{takenAnswer, firstOf}
 use Rattle.planner.specs.declared.CheckAnswer.{CheckAnswer}
-use Rattle.planner.specs.declared.CheckAnswer.the-variants as C
 use Rattle.planner.specs.Answers.{checkOf}
 use Rattle.sheet.specs.declared.Place.the-variants.{Head}
 use Rattle.sheet.specs.declared.SheetAnswer.{SheetAnswer}
 use Rattle.sheet.specs.declared.SheetAnswer.the-variants.{Refused, Read}
 use Rattle.sheet.specs.Readings.{mayStand, Reading, refused, read, readGates, readRecords, ifPlan, unlessFault, readSheet, withRoom}
-use Rattle.sheet.specs.Answers.{sheetAnswer, settingRead, Got, Held, planFault}
+use Rattle.sheet.specs.Answers.{sheetAnswer, settingRead, Got, Held}
 use Rattle.sheet.proofs.Steps.{head-at}
 use Rattle.sheet.proofs.Scan.{held-refused}
 use Rattle.sheet.proofs.Calls.{checkFault, judged}

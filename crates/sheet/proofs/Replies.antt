@@ -1,21 +1,21 @@
 -- What the network gets, as the planner's first plan says it, and its sheet.
 -- Assumes nothing.
-use Prim.Native.Nat.{ℕ, _≤_, _<_}
+use Prim.Native.Nat.{ℕ}
 use native.Mathlib.Omega.{arith}
 use mathlib.Core.Path.{_≡_, refl, sym, ap, subst, subst⁻¹, _∙_}
-use mathlib.Core.Bool.{Bool, true, false, cond, true≢false}
-use mathlib.Core.List.{List, [], _∷_, _++_, append-nil}
+use mathlib.Core.Bool.{true, false, true≢false}
+use mathlib.Core.List.{List, _++_, append-nil}
 use mathlib.Core.Option.{Option, none, some}
 use lib.ListN.{length, take, drop, drop-of-length-le}
 use lib.Seq.{take-at}
 use borrow.Author.Tests.{le-leb}
 use Rattle.network.specs.declared.Refusal.{Refusal}
 use Rattle.network.specs.Networks.{Network, tableFault, Accepted, maxReaches}
-use Rattle.network.specs.Settings.{gates, gateCount}
+use Rattle.network.specs.Settings.{gateCount}
 use Rattle.network.specs.Plans.{isPlan, passable, firstPlan}
 use Rattle.network.specs.Lone.{lowestLone}
 use Rattle.network.specs.Marks.{markBytes, marksOf, onesIn}
-use Rattle.network.specs.Replies.{Outcome, plan, shutIn, lone, refused, shutInSide, loneSide, shutInFinding, loneFinding, chosen, answer, firstAnswer, unless, roomFault, firstReply}
+use Rattle.network.specs.Replies.{Outcome, plan, shutIn, lone, shutInSide, loneSide, shutInFinding, loneFinding, chosen, answer, firstAnswer, unless, roomFault, firstReply}
 use Rattle.network.proofs.Networks.{accepted}
 use Rattle.network.proofs.Marks.{length-marks}
 use Rattle.network.proofs.Order.{first-is-plan, first-none}

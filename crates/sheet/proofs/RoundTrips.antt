@@ -4,19 +4,18 @@ use Prim.Native.Nat.{ℕ, _≤_}
 use native.Mathlib.Omega.{arith}
 use mathlib.Core.Path.{_≡_, refl, sym, ap, subst, _∙_}
 use mathlib.Core.Bool.{Bool, true, false, cond, true≢false}
-use mathlib.Core.List.{List, [], _∷_, _++_}
+use mathlib.Core.List.{List, _++_}
 use mathlib.Core.Option.{Option, none, some}
 use lib.ListN.{length, take, drop, length-append}
 use lib.Seq.{take-at}
 use lib.Dec.{leb}
 use Rattle.network.specs.declared.Refusal.{Refusal}
-use Rattle.network.specs.declared.Refusal.the-variants.{ShortBuffer, BadSetting}
+use Rattle.network.specs.declared.Refusal.the-variants.{ShortBuffer}
 use Rattle.network.specs.Networks.{Network, tableFault, Accepted}
-use Rattle.network.specs.Settings.{isSetting, settingFault}
-use Rattle.network.specs.Plans.{isPlan, passable, firstPlan}
-use Rattle.network.specs.Lone.{lowestLone}
+use Rattle.network.specs.Settings.{settingFault}
+use Rattle.network.specs.Plans.{isPlan}
 use Rattle.network.specs.Marks.{marksOf}
-use Rattle.network.specs.Replies.{Outcome, plan, shutIn, lone, loneSide, firstAnswer}
+use Rattle.network.specs.Replies.{Outcome, lone, loneSide, firstAnswer}
 use Rattle.network.proofs.Bools.{clash}
 use Rattle.network.proofs.Lone.{lone-blocks}
 use Rattle.network.proofs.Order.{plan-setting, first-is-plan}
@@ -31,7 +30,7 @@ use Rattle.planner.specs.declared.CheckAnswer.the-variants as C
 use Rattle.planner.specs.Answers.{checkOf}
 use Rattle.sheet.specs.declared.SheetAnswer.{SheetAnswer}
 use Rattle.sheet.specs.declared.SheetAnswer.the-variants.{Refused, Read}
-use Rattle.sheet.specs.Sheets.{sheetOf, shutInSheet, loneSheet, outcomeSheet, replySheet}
+use Rattle.sheet.specs.Sheets.{sheetOf, outcomeSheet, replySheet}
 use Rattle.sheet.specs.Readings.{Reading, refused, read, unlessFault, readRecords, readSheet, withRoom}
 use Rattle.sheet.specs.Answers.{sheetAnswer, settingRead, Got, putAnswer, bytesPut, Put, roomFor, planFault, sheetFault, replyFault}
 use Rattle.sheet.specs.Laws.{WriteRead, writtenBack, ReadWrite, checkedBack, ReadCheck, replyRead, ReplyThenRead, Replies, says-plan, says-shut-in, says-lone}
@@ -255,8 +254,8 @@ module _ (N : Network) (out setting out′ : List ℕ) where
   trip-replied n p r setting′ g =
       let sound : replyFault N (length out) ≡ none = written (replyFault N (length out)) (replySheet N) out out′ n p in
       let same : readSheet N (take n out′) ≡ replyRead (firstAnswer N) =
-          ap (readSheet N) (written-front (replyFault N (length out)) (replySheet N) out out′ n p)
-          ∙ read-reply N (first-none (tableFault N) (roomFor (replySheet N) (length out)) sound) in
+      ap (readSheet N) (written-front (replyFault N (length out)) (replySheet N) out out′ n p)
+      ∙ read-reply N (first-none (tableFault N) (roomFor (replySheet N) (length out)) sound) in
       record {
         again =
             subst (λ x. Got x setting r setting′)

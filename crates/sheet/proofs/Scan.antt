@@ -1,9 +1,9 @@
 -- The scan of a sheet's records: what is known of the reading after k of them.
 -- Assumes nothing.
-use Prim.Native.Nat.{ℕ, zero, suc, _+_, _≤_, _<_}
+use Prim.Native.Nat.{ℕ, suc, _+_, _≤_, _<_}
 use native.Mathlib.Omega.{arith}
 use mathlib.Core.Path.{_≡_, refl, sym, ap, _∙_}
-use mathlib.Core.Bool.{true, false, cond}
+use mathlib.Core.Bool.{cond}
 use mathlib.Core.List.{List, [], _∷_, _++_, append-nil, append-assoc}
 use lib.ListN.{length, take, drop, set, length-set, length-drop, drop-of-length-le}
 use lib.Seq.{drop-drop, take-suc-set, length-take-le}
@@ -16,11 +16,10 @@ use Rattle.netfile.specs.declared.Taken.the-variants.{Broken, Whole}
 use Rattle.netfile.specs.Records.{takeRecord}
 use Rattle.netfile.specs.Answers.{takenAnswer}
 use Rattle.sheet.specs.declared.Place.the-variants.{Inside}
-use Rattle.sheet.specs.declared.SheetAnswer.{SheetAnswer}
 use Rattle.sheet.specs.declared.SheetAnswer.the-variants.{Refused, Read}
 use Rattle.sheet.specs.Readings.{mayStand, Reading, refused, read, atEnd, byteIn, withByte, readGates}
 use Rattle.sheet.specs.Rows.{gatesRow, due, NextGate}
-use Rattle.sheet.specs.Answers.{sheetAnswer, settingRead, Held}
+use Rattle.sheet.specs.Answers.{Held}
 use Rattle.sheet.proofs.Steps.{Stood, step-broken, step-end, step-early, GateStep, gate-front}
 
 -- the reading with bytes more, in front of the others
@@ -82,7 +81,7 @@ module _ {ks sheet held₀ held : List ℕ} {at i k : ℕ} (s : Scanned ks sheet
         let size : length (take k held) ≡ k = length-take-le k held (omega (arith, s .count, s .long)) in
         let done : readGates (due ks i) (drop at sheet) ≡ read [] = ends q l ∙ rw (drop-of-length-le sheet o) in
         let whole : readGates (gatesRow 0 ks) (drop 3 sheet) ≡ read (take k held) =
-            s .reading ∙ ap (withBytes (take k held)) done ∙ ap read (append-nil (take k held)) in
+        s .reading ∙ ap (withBytes (take k held)) done ∙ ap read (append-nil (take k held)) in
         rw whole (record { answer = ap Read (sym size); bytes = ap (λ n. take n held) size })
 
     module _ (q : kind ≡ 9 → ⊥) where
@@ -120,7 +119,7 @@ module _ {ks sheet held₀ held : List ℕ} {at i k : ℕ} (s : Scanned ks sheet
             let after-r : r + 1 ≡ suc r = omega arith in
             let after-k : k + 1 ≡ suc k = omega arith in
             let goes : readGates (due ks i) (drop at sheet) ≡ withByte (byteIn kind) (readGates (due ks (suc r)) (drop (at + 3) sheet)) =
-                here ∙ rw (eq-eqb n r d) in
+            here ∙ rw (eq-eqb n r d) in
             record {
               below = scan-fits;
               within = omega arith;

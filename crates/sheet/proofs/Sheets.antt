@@ -27,7 +27,7 @@ use Rattle.netfile.proofs.Steps.{stands}
 use Rattle.sheet.specs.declared.Place.the-variants.{Head, Inside}
 use Rattle.sheet.specs.Sheets.{hungKind, gateRecord, gateRecords, planSheet, sheetOf}
 use Rattle.sheet.specs.Readings.{mayStand, Reading, refused, read, atEnd, byteIn, withByte, readGates, readCount, readRecords, ifPlan, unlessFault, readSheet}
-use Rattle.sheet.proofs.Marking.{Hanging, hanging, comes-first, kind-again}
+use Rattle.sheet.proofs.Marking.{hanging, comes-first, kind-again}
 use Rattle.sheet.proofs.Steps.{Stood, step-broken, step-end, step-early, GateStep, gate-step, gate-front, head-step, head-at, head-broken}
 
 -- ---- what is written is read again
@@ -184,8 +184,8 @@ write-records gs f s b e = go (takenAnswer (takeRecord (mayStand Head) f)) refl
     go (Broken r) w = no-setting r s (sym (head-broken gs f r w) ∙ e)
     go (Whole k) w = value k w (eqb n (length gs)) refl (sym (head-at gs f k w .next) ∙ e)
 
--- what was read was written so, and is a plan
-pub record Written (N : Network) (f s : List ℕ) : Type 0 where
+-- a sheet that is read: the network is accepted, the setting is a plan, and the records say it
+pub record WasRead (N : Network) (f s : List ℕ) : Type 0 where
   pub accepted : Accepted N
   pub is-plan : isPlan N s ≡ true
   pub records : readRecords (gates N) f ≡ read s
@@ -198,11 +198,11 @@ if-plan-is N (read t) s h = go (isPlan N t) refl h
     go true p e = (rw (read-inj t s e) p, e)
     go false p e = no-setting BadSetting s e
 
-pub was-read : (N : Network) (f s : List ℕ) → readSheet N f ≡ read s → Written N f s
+pub was-read : (N : Network) (f s : List ℕ) → readSheet N f ≡ read s → WasRead N f s
 unfolding readSheet
 was-read N f s e = go (tableFault N) refl e
   where
-    go : (o : Option Refusal) → tableFault N ≡ o → unlessFault o (ifPlan N (readRecords (gates N) f)) ≡ read s → Written N f s
+    go : (o : Option Refusal) → tableFault N ≡ o → unlessFault o (ifPlan N (readRecords (gates N) f)) ≡ read s → WasRead N f s
     go (some r) t h = no-setting r s h
     go none t h = let x = if-plan-is N (readRecords (gates N) f) s h in record { accepted = t; is-plan = x .0; records = x .1 }
 

@@ -1,11 +1,11 @@
 -- One record of a plan sheet: what it does to the reading.
 -- Assumes nothing.
-use Prim.Native.Nat.{ℕ, suc, _+_, _≤_}
+use Prim.Native.Nat.{ℕ, _≤_}
 use native.Mathlib.Omega.{arith}
-use mathlib.Core.Path.{_≡_, refl, sym, ap, _∙_}
-use mathlib.Core.Bool.{Bool, true, false, cond}
+use mathlib.Core.Path.{_≡_, ap, _∙_}
+use mathlib.Core.Bool.{cond}
 use mathlib.Core.List.{List, [], _∷_}
-use lib.ListN.{length, take, drop, length-drop}
+use lib.ListN.{length, take, drop}
 use lib.Seq.{drop-drop}
 use lib.Dec.{eqb}
 use borrow.Author.Tests.{ne-eqb}
@@ -18,7 +18,7 @@ use Rattle.netfile.specs.Answers.{takenAnswer}
 use Rattle.netfile.proofs.Marking.{body-end}
 use Rattle.netfile.proofs.Steps.{broken-is, Stands, stands, same-size}
 use Rattle.sheet.specs.declared.Place.the-variants.{Head, Inside}
-use Rattle.sheet.specs.Readings.{mayStand, Reading, refused, atEnd, byteIn, withByte, readGates, readCount, readRecords}
+use Rattle.sheet.specs.Readings.{mayStand, refused, atEnd, byteIn, withByte, readGates, readCount, readRecords}
 use Rattle.sheet.proofs.Marking.{hanging, comes-first, body-hung, body-plan}
 
 -- a whole record of kind k stands at the front of the bytes, after the head

@@ -6,35 +6,35 @@ use Rattle.network.specs.Networks.{Network}
 use Rattle.network.specs.Cases.{G, F, T, net, firstByte}
 
 -- Case 3 with a two-way reach between its two gated ones, so that these have the numbers 0 and 2.
-abbrev pub two : Network
-two = net 2 (G 0 1 ∷ T 0 1 ∷ G 0 1 ∷ [])
+abbrev pub mixed : Network
+mixed = net 2 (G 0 1 ∷ T 0 1 ∷ G 0 1 ∷ [])
 
 -- Case 3.
-abbrev pub three : Network
-three = net 2 (G 0 1 ∷ G 0 1 ∷ [])
+abbrev pub case3 : Network
+case3 = net 2 (G 0 1 ∷ G 0 1 ∷ [])
 
 -- A network, the bytes of a sheet, and document 01's number for reading them, 0 where they are read.
 abbrev pub sheets : List (Network × (List ℕ) × ℕ)
 sheets =
     -- both plans of case 3, and two settings that are no plan
-    (three, 16 ∷ 2 ∷ 0 ∷ 17 ∷ 0 ∷ 0 ∷ 18 ∷ 1 ∷ 0 ∷ 9 ∷ [], 0)
-    ∷ (three, 16 ∷ 2 ∷ 0 ∷ 18 ∷ 0 ∷ 0 ∷ 17 ∷ 1 ∷ 0 ∷ 9 ∷ [], 0)
-    ∷ (three, 16 ∷ 2 ∷ 0 ∷ 17 ∷ 0 ∷ 0 ∷ 17 ∷ 1 ∷ 0 ∷ 9 ∷ [], 8)
-    ∷ (three, 16 ∷ 2 ∷ 0 ∷ 18 ∷ 0 ∷ 0 ∷ 18 ∷ 1 ∷ 0 ∷ 9 ∷ [], 8)
+    (case3, 16 ∷ 2 ∷ 0 ∷ 17 ∷ 0 ∷ 0 ∷ 18 ∷ 1 ∷ 0 ∷ 9 ∷ [], 0)
+    ∷ (case3, 16 ∷ 2 ∷ 0 ∷ 18 ∷ 0 ∷ 0 ∷ 17 ∷ 1 ∷ 0 ∷ 9 ∷ [], 0)
+    ∷ (case3, 16 ∷ 2 ∷ 0 ∷ 17 ∷ 0 ∷ 0 ∷ 17 ∷ 1 ∷ 0 ∷ 9 ∷ [], 8)
+    ∷ (case3, 16 ∷ 2 ∷ 0 ∷ 18 ∷ 0 ∷ 0 ∷ 18 ∷ 1 ∷ 0 ∷ 9 ∷ [], 8)
     -- the table comes before the sheet
     ∷ (net 0 [], [], 1) ∷ (net 257 [], [], 1) ∷ (net 2 (G 0 2 ∷ []), [], 3)
     -- the head: nothing, part of it, another kind, a wrong number
-    ∷ (three, [], 4) ∷ (three, 16 ∷ 2 ∷ [], 4) ∷ (three, 17 ∷ [], 5) ∷ (three, 20 ∷ [], 5) ∷ (three, 16 ∷ 3 ∷ 0 ∷ [], 8)
+    ∷ (case3, [], 4) ∷ (case3, 16 ∷ 2 ∷ [], 4) ∷ (case3, 17 ∷ [], 5) ∷ (case3, 20 ∷ [], 5) ∷ (case3, 16 ∷ 3 ∷ 0 ∷ [], 8)
     -- a record: none, part of it, another kind, a wrong reach, one twice, one too many, one too few
-    ∷ (three, 16 ∷ 2 ∷ 0 ∷ [], 4) ∷ (three, 16 ∷ 2 ∷ 0 ∷ 17 ∷ 0 ∷ [], 4) ∷ (three, 16 ∷ 2 ∷ 0 ∷ 16 ∷ [], 5)
-    ∷ (three, 16 ∷ 2 ∷ 0 ∷ 18 ∷ 1 ∷ 0 ∷ [], 8) ∷ (three, 16 ∷ 2 ∷ 0 ∷ 17 ∷ 0 ∷ 0 ∷ 18 ∷ 0 ∷ 0 ∷ 9 ∷ [], 8)
-    ∷ (three, 16 ∷ 2 ∷ 0 ∷ 17 ∷ 0 ∷ 0 ∷ 18 ∷ 1 ∷ 0 ∷ 17 ∷ 2 ∷ 0 ∷ 9 ∷ [], 8)
-    ∷ (three, 16 ∷ 2 ∷ 0 ∷ 17 ∷ 0 ∷ 0 ∷ 9 ∷ 9 ∷ [], 8)
+    ∷ (case3, 16 ∷ 2 ∷ 0 ∷ [], 4) ∷ (case3, 16 ∷ 2 ∷ 0 ∷ 17 ∷ 0 ∷ [], 4) ∷ (case3, 16 ∷ 2 ∷ 0 ∷ 16 ∷ [], 5)
+    ∷ (case3, 16 ∷ 2 ∷ 0 ∷ 18 ∷ 1 ∷ 0 ∷ [], 8) ∷ (case3, 16 ∷ 2 ∷ 0 ∷ 17 ∷ 0 ∷ 0 ∷ 18 ∷ 0 ∷ 0 ∷ 9 ∷ [], 8)
+    ∷ (case3, 16 ∷ 2 ∷ 0 ∷ 17 ∷ 0 ∷ 0 ∷ 18 ∷ 1 ∷ 0 ∷ 17 ∷ 2 ∷ 0 ∷ 9 ∷ [], 8)
+    ∷ (case3, 16 ∷ 2 ∷ 0 ∷ 17 ∷ 0 ∷ 0 ∷ 9 ∷ 9 ∷ [], 8)
     -- a byte after the end is 6 before the setting is judged; the end before all have theirs is 8 before that
-    ∷ (three, 16 ∷ 2 ∷ 0 ∷ 17 ∷ 0 ∷ 0 ∷ 17 ∷ 1 ∷ 0 ∷ 9 ∷ 9 ∷ [], 6)
+    ∷ (case3, 16 ∷ 2 ∷ 0 ∷ 17 ∷ 0 ∷ 0 ∷ 17 ∷ 1 ∷ 0 ∷ 9 ∷ 9 ∷ [], 6)
     -- a record has the number among all reaches
-    ∷ (two, 16 ∷ 2 ∷ 0 ∷ 17 ∷ 0 ∷ 0 ∷ 18 ∷ 2 ∷ 0 ∷ 9 ∷ [], 0)
-    ∷ (two, 16 ∷ 2 ∷ 0 ∷ 17 ∷ 0 ∷ 0 ∷ 18 ∷ 1 ∷ 0 ∷ 9 ∷ [], 8)
+    ∷ (mixed, 16 ∷ 2 ∷ 0 ∷ 17 ∷ 0 ∷ 0 ∷ 18 ∷ 2 ∷ 0 ∷ 9 ∷ [], 0)
+    ∷ (mixed, 16 ∷ 2 ∷ 0 ∷ 17 ∷ 0 ∷ 0 ∷ 18 ∷ 1 ∷ 0 ∷ 9 ∷ [], 8)
     ∷ []
 
 -- A network and its reply's sheet: the cases 1, 2, 3, 5, 10.
@@ -42,7 +42,7 @@ abbrev pub replies : List (Network × List ℕ)
 replies =
     (net 1 [], 16 ∷ 0 ∷ 0 ∷ 9 ∷ [])
     ∷ (net 2 (G 0 1 ∷ []), 21 ∷ 0 ∷ 0 ∷ (firstByte 2 ++ (9 ∷ [])))
-    ∷ (three, 16 ∷ 2 ∷ 0 ∷ 17 ∷ 0 ∷ 0 ∷ 18 ∷ 1 ∷ 0 ∷ 9 ∷ [])
+    ∷ (case3, 16 ∷ 2 ∷ 0 ∷ 17 ∷ 0 ∷ 0 ∷ 18 ∷ 1 ∷ 0 ∷ 9 ∷ [])
     ∷ (net 2 (F 0 1 ∷ []), 20 ∷ (firstByte 2 ++ (9 ∷ [])))
     ∷ (net 3 (G 0 1 ∷ T 1 2 ∷ []), 21 ∷ 0 ∷ 0 ∷ (firstByte 6 ++ (9 ∷ [])))
     ∷ []

@@ -3,12 +3,12 @@
 pub mod laws;
 
 use marks::MARK_BYTES;
-use network::MAX_REACHES;
-use network::Refusal;
 use netfile::Body;
 use netfile::END;
 use netfile::Taken;
 use netfile::WriteAnswer;
+use network::MAX_REACHES;
+use network::Refusal;
 use planner::Answer;
 use planner::CheckAnswer;
 use planner::Verdict;
@@ -93,7 +93,7 @@ fn take_sheet_record(sheet: &[u8], at: usize, place: Place) -> Taken
     }
 }
 
-// The number of the next gated reach from reach i on, or that of all reaches if there is none.
+// The number of the next gated reach from a reach on, or the number of all reaches if there is none.
 fn next_gate(kinds: &[u8], from: usize) -> usize
     requires { ⌜ from ≤ length (now kinds) ⌝ }
     ensures { λ r. ⌜ NextGate (now (kinds .entry)) from r ⌝ }
@@ -265,7 +265,13 @@ fn write_reply_in(
 }
 
 // The network's first plan, or the finding that shows why there is none, goes to the first bytes of the buffer as a sheet. Refuses 1, 2, 3 and 7.
-pub fn write_reply_rows(basins: u16, kinds: &[u8], a: &[u16], b: &[u16], out: &mut [u8]) -> WriteAnswer
+pub fn write_reply_rows(
+    basins: u16,
+    kinds: &[u8],
+    a: &[u16],
+    b: &[u16],
+    out: &mut [u8],
+) -> WriteAnswer
     ensures { λ r. ⌜ Put (replyFault (netOf basins (now (kinds .entry)) (now (a .entry)) (now (b .entry))) (length (now (out .entry)))) (replySheet (netOf basins (now (kinds .entry)) (now (a .entry)) (now (b .entry)))) (now (out .entry)) r (now (out .exit)) ⌝ }
 {
     let mut plan = [0u8; MAX_REACHES];

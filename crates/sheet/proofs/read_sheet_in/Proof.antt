@@ -1,7 +1,7 @@
 -- `sheet::read_sheet_in` meets its contract: the table, the whole sheet into the working memory, and then the plan.
 -- Assumes nothing.
 use native.Mathlib.Omega.{arith}
-use mathlib.Core.Path.{_≡_, sym, subst, _∙_}
+use mathlib.Core.Path.{sym, subst, _∙_}
 use lib.ListN.{take}
 use lib.Seq.{length-take-le}
 use borrow.Author.Needs.{needs}
@@ -65,9 +65,14 @@ read-records-requires c κs =
     let s = c .before .before .before .before .before .before .before .before .before .before .before .before in
     let count = c .before .before .row-count in
     let ks = s .args .kinds .now in
-    omega
-    (arith, s .pre, gates-few 0 (take (count .result) ks), length-take-le (count .result) ks (cut-kinds ks (s .args .a .now) (s .args .b .now) (count .result) (count .ensures)),
-    count .ensures, accepted (net s) (sound (c .before .before .before)) .few-reaches)
+    omega (
+      arith,
+      s .pre,
+      gates-few 0 (take (count .result) ks),
+      length-take-le (count .result) ks (cut-kinds ks (s .args .a .now) (s .args .b .now) (count .result) (count .ensures)),
+      count .ensures,
+      accepted (net s) (sound (c .before .before .before)) .few-reaches,
+    )
 
 enum-known-r-2 : tie.Need-enum-known-r-2
 enum-known-r-2 c = search needs

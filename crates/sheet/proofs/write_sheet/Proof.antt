@@ -51,9 +51,10 @@ part-put-records-end c = search needs
 
 put-records-requires : tie.Need-put-records-requires
 put-records-requires c κs =
-    let l = c .before .before .before .put-word .last .0 in
-    (c .before .before .before .before .before .before .before .before .before .pre,
-    omega (arith, length-take (length l - 3) (drop 3 l), length-drop 3 l, after-head (c .before .before .before), c .before .before .before .before .before .if1 .left))
+    let l = c .before .before .before .put-word .last .0 in (
+      c .before .before .before .before .before .before .before .before .before .pre,
+      omega (arith, length-take (length l - 3) (drop 3 l), length-drop 3 l, after-head (c .before .before .before), c .before .before .before .before .before .if1 .left),
+    )
 
 same-length : tie.Need-same-length
 same-length c =

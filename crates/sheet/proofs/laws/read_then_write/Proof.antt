@@ -28,7 +28,6 @@ GotAs c r =
 was-read : (c : tie.After-n) → GotAs (c .before .before .before .before) (Read (c .n .given .0 .0))
 was-read c = subst (GotAs (c .before .before .before .before)) (c .n .given .1) (c .before .before .before .before .read-sheet-rows .ensures)
 
-
 read-sheet-rows-requires : tie.Need-read-sheet-rows-requires
 read-sheet-rows-requires c κs = search needs
 
