@@ -42,7 +42,7 @@ returns : tie.Need-returns
 returns c =
     let s = c .before .before .before .before .before .before .before .before .before .args in
     head-wrong (gatesRow 0 (s .kinds .now)) (s .sheet .now) _ (head (c .before .before .before)) (c .before .before .word-at .result) (c .before .before .word-at .ensures) (s .held .now)
-    (λ e. c .if1 .taken (e ∙ count-row 0 (s .kinds .now) ∙ sym (c .before .count-gates .ensures)))
+    (λ e. omega (arith, c .if1 .taken, count-row 0 (s .kinds .now), c .before .count-gates .ensures))
 
 read-gates-requires : tie.Need-read-gates-requires
 read-gates-requires c κs =
