@@ -29,7 +29,7 @@ use Rattle.planner.specs.declared.CheckAnswer.the-variants as C
 use Rattle.planner.specs.Answers.{yesOr, unlessRefused, checkOf}
 use Rattle.sheet.specs.Sheets.{gateRecords, planSheet, sheetOf}
 use Rattle.sheet.specs.Rows.{gatesRow, Records, Fitting, Roomy, firstBytesSheet}
-use Rattle.sheet.specs.Answers.{putAnswer, bytesPut, Put, roomFor, planFault, sheetFault}
+use Rattle.sheet.specs.Answers.{putAnswer, bytesPut, Put, roomFor, planFault, sheetFault, PutWhole, WriteCall}
 use Rattle.sheet.proofs.Gates.{gates-row, gates-few, count-row}
 use Rattle.sheet.proofs.Writing.{part-back}
 use Rattle.sheet.proofs.Sheets.{plan-long, length-sheet}
@@ -47,10 +47,10 @@ pub put-refused : {o : Option Refusal} (f out : List ℕ) (r : Refusal) → o �
 put-refused f out r e = subst (λ o. Put o f out (Unwritten r) out) (sym e) (put-of (some r) f out out refl)
 
 module _ (f out : List ℕ) where
-  pub put-short : length out < length f → Put (roomFor f (length out)) f out (Unwritten ShortBuffer) out
+  pub put-short : length out < length f → PutWhole f out (Unwritten ShortBuffer) out
   put-short l = put-refused f out ShortBuffer (rw (lt-leb (length f) (length out) l))
 
-  pub put-whole : (n : ℕ) (out′ : List ℕ) → n ≡ length f → n ≤ length out → out′ ≡ sets out 0 f → Put (roomFor f (length out)) f out (Written n) out′
+  pub put-whole : (n : ℕ) (out′ : List ℕ) → n ≡ length f → n ≤ length out → out′ ≡ sets out 0 f → PutWhole f out (Written n) out′
   put-whole n out′ e l q =
       let room : roomFor f (length out) ≡ none = rw (le-leb (length f) (length out) (omega arith)) in
       rw e
@@ -67,7 +67,7 @@ module _ (front marks out : List ℕ) where
   finding-size = omega (arith, length-append front (marks ++ (9 ∷ [])), length-append marks (9 ∷ []))
 
   module _ (n j : ℕ) (e : n ≡ length front + length marks + 1) (at : j ≡ length front) (l₁ l₂ : List ℕ) (p : l₁ ≡ sets out 0 front) (q : l₂ ≡ sets l₁ j marks) where
-    pub finding-done : n ≤ length out → Put (roomFor finding (length out)) finding out (Written n) (set l₂ (n - 1) 9)
+    pub finding-done : n ≤ length out → PutWhole finding out (Written n) (set l₂ (n - 1) 9)
     finding-done l = put-whole finding out n (set l₂ (n - 1) 9) (omega (arith, finding-size)) l whole
       where
         values : l₂ ≡ sets out 0 (front ++ marks)
@@ -95,7 +95,7 @@ module _ (ks s : List ℕ) (fit : Records ks s) where
   size = length-sheet (gatesRow 0 ks) s (fit .full)
 
   module _ (out : List ℕ) where
-    pub sheet-short : length out < 3 * length s + 4 → Put (roomFor sheet (length out)) sheet out (Unwritten ShortBuffer) out
+    pub sheet-short : length out < 3 * length s + 4 → PutWhole sheet out (Unwritten ShortBuffer) out
     sheet-short l = put-short sheet out (omega (arith, size))
 
     module _ (l : 3 * length s + 4 ≤ length out) (l₁ : List ℕ) (p : l₁ ≡ sets (set out 0 16) 1 (twoBytes (length s))) where
@@ -115,7 +115,7 @@ module _ (ks s : List ℕ) (fit : Records ks s) where
         pub sheet-long : length (take 3 l₁ ++ (part ++ drop (length l₁ - 3) (drop 3 l₁))) ≡ length out
         sheet-long = ap length whole ∙ length-sets out 0 sheet
 
-        pub sheet-done : Put (roomFor sheet (length out)) sheet out (Written (3 * length s + 4)) (take 3 l₁ ++ (part ++ drop (length l₁ - 3) (drop 3 l₁)))
+        pub sheet-done : PutWhole sheet out (Written (3 * length s + 4)) (take 3 l₁ ++ (part ++ drop (length l₁ - 3) (drop 3 l₁)))
         sheet-done = put-whole sheet out (3 * length s + 4) _ (sym size) l whole
 
 -- the rows cut to the length of the table
@@ -132,9 +132,9 @@ module _ (ks xs ys : List ℕ) (m : ℕ) (e : m ≡ length (tableOf ks xs ys)) w
 
   pub cut-sheet :
       (s out : List ℕ) (r : WriteAnswer) (out′ : List ℕ)
-      → Put (roomFor (planSheet (gatesRow 0 (take m ks)) s) (length out)) (planSheet (gatesRow 0 (take m ks)) s) out r out′
-      → Put (roomFor (planSheet (gatesFrom 0 (tableOf ks xs ys)) s) (length out)) (planSheet (gatesFrom 0 (tableOf ks xs ys)) s) out r out′
-  cut-sheet s out r out′ = subst (λ gs. Put (roomFor (planSheet gs s) (length out)) (planSheet gs s) out r out′) cut-gates
+      → PutWhole (planSheet (gatesRow 0 (take m ks)) s) out r out′
+      → PutWhole (planSheet (gatesFrom 0 (tableOf ks xs ys)) s) out r out′
+  cut-sheet s out r out′ = subst (λ gs. PutWhole (planSheet gs s) out r out′) cut-gates
 
   -- the first bytes of a plan buffer, one for each gated reach
   module _ (plan : List ℕ) (roomy : Roomy (tableOf ks xs ys) plan) (g : ℕ) (count : g ≡ gatesIn (take m ks)) where
@@ -149,10 +149,10 @@ module _ (ks xs ys : List ℕ) (m : ℕ) (e : m ≡ length (tableOf ks xs ys)) w
 
     pub cut-first :
         (out : List ℕ) (r : WriteAnswer) (out′ : List ℕ)
-        → Put (roomFor (planSheet (gatesFrom 0 (tableOf ks xs ys)) (take g plan)) (length out)) (planSheet (gatesFrom 0 (tableOf ks xs ys)) (take g plan)) out r out′
-        → Put (roomFor (firstBytesSheet (tableOf ks xs ys) plan) (length out)) (firstBytesSheet (tableOf ks xs ys) plan) out r out′
+        → PutWhole (planSheet (gatesFrom 0 (tableOf ks xs ys)) (take g plan)) out r out′
+        → PutWhole (firstBytesSheet (tableOf ks xs ys) plan) out r out′
     cut-first out r out′ =
-        subst (λ n. Put (roomFor (planSheet (gatesFrom 0 (tableOf ks xs ys)) (take n plan)) (length out)) (planSheet (gatesFrom 0 (tableOf ks xs ys)) (take n plan)) out r out′) gate-count
+        subst (λ n. PutWhole (planSheet (gatesFrom 0 (tableOf ks xs ys)) (take n plan)) out r out′) gate-count
 
 -- ---- what the check says
 
@@ -205,11 +205,11 @@ module _ (N : Network) (s : List ℕ) (e : checkOf N s ≡ C.Yes) where
 
 -- the writer, by what the check said
 module _ (N : Network) (s out : List ℕ) where
-  pub wrote-refused : (v : CheckAnswer) (r : Refusal) → checkOf N s ≡ v → checkFault v ≡ some r → Put (sheetFault N s (length out)) (sheetOf N s) out (Unwritten r) out
+  pub wrote-refused : (v : CheckAnswer) (r : Refusal) → checkOf N s ≡ v → checkFault v ≡ some r → WriteCall N s out (Unwritten r) out
   wrote-refused v r e f =
       put-refused (sheetOf N s) out r (judged-sheet N s v e (length out) ∙ ap (λ o. firstOf o (roomFor (sheetOf N s) (length out))) f)
 
   pub wrote-plan :
-      (r : WriteAnswer) (out′ : List ℕ) → checkOf N s ≡ C.Yes → Put (roomFor (sheetOf N s) (length out)) (sheetOf N s) out r out′
-      → Put (sheetFault N s (length out)) (sheetOf N s) out r out′
+      (r : WriteAnswer) (out′ : List ℕ) → checkOf N s ≡ C.Yes → PutWhole (sheetOf N s) out r out′
+      → WriteCall N s out r out′
   wrote-plan r out′ e = subst (λ o. Put o (sheetOf N s) out r out′) (sym (judged-sheet N s C.Yes e (length out)))

@@ -30,7 +30,7 @@ use Rattle.planner.specs.declared.Answer.the-variants as A
 use Rattle.planner.specs.Answers.{given, answerOf, Written}
 use Rattle.sheet.specs.Sheets.{sheetOf, shutInSheet, loneSheet, outcomeSheet, replySheet}
 use Rattle.sheet.specs.Rows.{Roomy, firstBytesSheet}
-use Rattle.sheet.specs.Answers.{Put, roomFor, replyFault}
+use Rattle.sheet.specs.Answers.{Put, roomFor, PutWhole, ReplyCall}
 use Rattle.sheet.proofs.Sheets.{plan-long}
 use Rattle.sheet.proofs.Gates.{gates-below}
 use Rattle.sheet.proofs.Calls.{put-refused}
@@ -100,10 +100,10 @@ module _ (N : Network) (p m : List ℕ) (lp : length p ≡ maxReaches) (lm : len
     answered o t = w .reply ∙ ap answerOf (replied o t)
 
     -- the refusal is the table's
-    pub reply-refused : (out : List ℕ) (r : Refusal) → a ≡ A.Refused r → Put (replyFault N (length out)) (replySheet N) out (Unwritten r) out
+    pub reply-refused : (out : List ℕ) (r : Refusal) → a ≡ A.Refused r → ReplyCall N out (Unwritten r) out
     reply-refused out r e = go (tableFault N) refl
       where
-        go : (o : Option Refusal) → tableFault N ≡ o → Put (replyFault N (length out)) (replySheet N) out (Unwritten r) out
+        go : (o : Option Refusal) → tableFault N ≡ o → ReplyCall N out (Unwritten r) out
         go none t = absurd (never (first-cases N t) r (sym (answered none t) ∙ e))
         go (some x) t = put-refused (replySheet N) out r (ap (λ o. firstOf o (roomFor (replySheet N) (length out))) (t ∙ ap some (refused-inj (sym (answered (some x) t) ∙ e))))
 
@@ -131,7 +131,7 @@ module _ (N : Network) (p m : List ℕ) (lp : length p ≡ maxReaches) (lm : len
       -- the sheet of what was given is the network's
       pub reply-put :
           (out : List ℕ) (r : WriteAnswer) (out′ : List ℕ)
-          → Put (roomFor (verdictSheet N v p′ m′) (length out)) (verdictSheet N v p′ m′) out r out′ → Put (replyFault N (length out)) (replySheet N) out r out′
+          → PutWhole (verdictSheet N v p′ m′) out r out′ → ReplyCall N out r out′
       unfolding replySheet
       reply-put out r out′ x =
           subst (λ f. Put (firstOf (tableFault N) (roomFor f (length out))) f out r out′)

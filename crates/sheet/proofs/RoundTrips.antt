@@ -32,7 +32,7 @@ use Rattle.sheet.specs.declared.SheetAnswer.{SheetAnswer}
 use Rattle.sheet.specs.declared.SheetAnswer.the-variants.{Refused, Read}
 use Rattle.sheet.specs.Sheets.{sheetOf, outcomeSheet, replySheet}
 use Rattle.sheet.specs.Readings.{Reading, refused, read, unlessFault, readRecords, readSheet, withRoom}
-use Rattle.sheet.specs.Answers.{sheetAnswer, settingRead, Got, putAnswer, bytesPut, Put, roomFor, planFault, sheetFault, replyFault}
+use Rattle.sheet.specs.Answers.{sheetAnswer, settingRead, Got, putAnswer, bytesPut, Put, roomFor, planFault, sheetFault, replyFault, PutWhole, WriteCall, ReplyCall}
 use Rattle.sheet.specs.Laws.{WriteRead, writtenBack, ReadWrite, checkedBack, ReadCheck, replyRead, ReplyThenRead, Replies, says-plan, says-shut-in, says-lone}
 use Rattle.sheet.proofs.Sheets.{read-write, write-read, was-read}
 use Rattle.sheet.proofs.Calls.{Plan, put-refused, first-assoc, no-fault}
@@ -76,14 +76,14 @@ module _ (o : Option Refusal) (f out out′ : List ℕ) where
 -- ---- written, then read
 
 module _ (N : Network) (s out setting out′ : List ℕ) where
-  pub trip-refused : (r : Refusal) → Put (sheetFault N s (length out)) (sheetOf N s) out (Unwritten r) out′ → WriteRead N s out setting (Refused r) out′ setting
+  pub trip-refused : (r : Refusal) → WriteCall N s out (Unwritten r) out′ → WriteRead N s out setting (Refused r) out′ setting
   trip-refused r p =
       record {
         again = got-refused setting r (ap (λ o. unlessFault o (withRoom (length setting) (read s))) (unwritten (sheetFault N s (length out)) (sheetOf N s) out out′ r p));
         sheet = p .bytes;
       }
 
-  module _ (n : ℕ) (p : Put (sheetFault N s (length out)) (sheetOf N s) out (Written n) out′) where
+  module _ (n : ℕ) (p : WriteCall N s out (Written n) out′) where
     sound : sheetFault N s (length out) ≡ none
     sound = written (sheetFault N s (length out)) (sheetOf N s) out out′ n p
 
@@ -172,7 +172,7 @@ module _ (N : Network) (f setting setting′ : List ℕ) where
         record {
           again =
               subst (λ x. Put (writtenBack x f (length out)) f out r out′) (sym is)
-              (subst (λ h. Put (roomFor h (length out)) h out r out′) (sym (write-read N f s b sheet-is))
+              (subst (λ h. PutWhole h out r out′) (sym (write-read N f s b sheet-is))
               (subst (λ o. Put o (sheetOf N s) out r out′) fault (subst (λ t. Put (sheetFault N t (length out)) (sheetOf N t) out r out′) front p)));
           bytes = g .bytes;
         }
@@ -239,7 +239,7 @@ unfolding replySheet
 read-reply N ok = read-outcome N ok (first-cases N ok)
 
 module _ (N : Network) (out setting out′ : List ℕ) where
-  pub trip-unreplied : (r : Refusal) → Put (replyFault N (length out)) (replySheet N) out (Unwritten r) out′ → ReplyThenRead N out setting (Refused r) out′ setting
+  pub trip-unreplied : (r : Refusal) → ReplyCall N out (Unwritten r) out′ → ReplyThenRead N out setting (Refused r) out′ setting
   trip-unreplied r p =
       record {
         again =
@@ -249,7 +249,7 @@ module _ (N : Network) (out setting out′ : List ℕ) where
       }
 
   pub trip-replied :
-      (n : ℕ) → Put (replyFault N (length out)) (replySheet N) out (Written n) out′ → (r : SheetAnswer) (setting′ : List ℕ)
+      (n : ℕ) → ReplyCall N out (Written n) out′ → (r : SheetAnswer) (setting′ : List ℕ)
       → Got (withRoom (length setting) (readSheet N (take n out′))) setting r setting′ → ReplyThenRead N out setting r out′ setting′
   trip-replied n p r setting′ g =
       let sound : replyFault N (length out) ≡ none = written (replyFault N (length out)) (replySheet N) out out′ n p in

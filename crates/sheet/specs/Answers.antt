@@ -18,7 +18,7 @@ use Rattle.netfile.specs.Answers.{firstOf, writeNumber, faultNumber}
 use Rattle.sheet.specs.declared.SheetAnswer.{SheetAnswer}
 use Rattle.sheet.specs.declared.SheetAnswer.the-variants.{Refused, Read}
 use Rattle.sheet.specs.Sheets.{sheetOf, replySheet}
-use Rattle.sheet.specs.Readings.{Reading, refused, read}
+use Rattle.sheet.specs.Readings.{Reading, refused, read, readSheet, withRoom}
 
 -- The reader's answer: the refusal, or "the counts it read", here that of the gated reaches.
 abbrev pub sheetAnswer : Reading → SheetAnswer
@@ -81,3 +81,17 @@ sheetFault N s room = firstOf (tableFault N) (firstOf (planFault N s) (roomFor (
 -- "The reply writer .. refuses only 1, 2, 3 and 7."
 abbrev pub replyFault : Network → ℕ → Option Refusal
 replyFault N room = firstOf (tableFault N) (roomFor (replySheet N) room)
+
+-- The bytes f are written where there is room for them.
+abbrev pub PutWhole : List ℕ → List ℕ → WriteAnswer → List ℕ → Type 0
+PutWhole f out r out′ = Put (roomFor f (length out)) f out r out′
+
+-- The three calls: what each answers, its number, and what it leaves in the buffer that it is lent.
+abbrev pub ReadCall : Network → List ℕ → List ℕ → SheetAnswer → List ℕ → Type 0
+ReadCall N f setting r setting′ = Got (withRoom (length setting) (readSheet N f)) setting r setting′
+
+abbrev pub WriteCall : Network → List ℕ → List ℕ → WriteAnswer → List ℕ → Type 0
+WriteCall N s out r out′ = Put (sheetFault N s (length out)) (sheetOf N s) out r out′
+
+abbrev pub ReplyCall : Network → List ℕ → WriteAnswer → List ℕ → Type 0
+ReplyCall N out r out′ = Put (replyFault N (length out)) (replySheet N) out r out′

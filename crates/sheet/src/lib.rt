@@ -15,7 +15,7 @@ use planner::Verdict;
 use tables::TableAnswer;
 ghost use mathlib.Core.Path.{_≡_};
 ghost use Prim.Native.Nat.{_+_, _*_, _≤_, _<_};
-ghost use lib.ListN.{length, take, drop};
+ghost use lib.ListN.{length, drop};
 ghost use lib.Seq.{sets};
 ghost use mathlib.Core.List.{[], _∷_, _++_};
 ghost use Rattle.network.specs.Networks.{maxReaches, tableFault};
@@ -26,10 +26,10 @@ ghost use Rattle.tables.specs.Rows.{netOf};
 ghost use Rattle.netfile.specs.Records.{takeRecord};
 ghost use Rattle.netfile.specs.Files.{endKind};
 ghost use Rattle.netfile.specs.Answers.{takenAnswer};
-ghost use Rattle.sheet.specs.Readings.{mayStand, read, byteIn, readGates, readRecords, ifPlan, unlessFault, readSheet, withRoom};
-ghost use Rattle.sheet.specs.Sheets.{hungKind, gateRecord, gateRecords, planSheet, sheetOf, shutInSheet, loneSheet, replySheet};
+ghost use Rattle.sheet.specs.Readings.{mayStand, read, byteIn, readGates, readRecords, ifPlan, unlessFault, withRoom};
+ghost use Rattle.sheet.specs.Sheets.{hungKind, gateRecord, gateRecords, planSheet, shutInSheet, loneSheet};
 ghost use Rattle.sheet.specs.Rows.{gatesRow, NextGate, Records, Fitting, Roomy, firstBytesSheet};
-ghost use Rattle.sheet.specs.Answers.{Got, Held, Put, roomFor, sheetFault, replyFault};
+ghost use Rattle.sheet.specs.Answers.{Got, Held, PutWhole, ReadCall, WriteCall, ReplyCall};
 
 // The kinds of a plan sheet's records; the end is that of a network file.
 const PLAN: u8 = 16;
@@ -156,7 +156,7 @@ fn put_records(kinds: &[u8], setting: &[u8], out: &mut [u8])
 // The sheet of a setting that fits goes to the first bytes of the buffer; 7. The records go into the part of the buffer after the head.
 fn write_sheet(kinds: &[u8], setting: &[u8], out: &mut [u8]) -> WriteAnswer
     requires { ⌜ Records (now kinds) (now setting) ⌝ }
-    ensures { λ r. ⌜ Put (roomFor (planSheet (gatesRow 0 (now (kinds .entry))) (now (setting .entry))) (length (now (out .entry)))) (planSheet (gatesRow 0 (now (kinds .entry))) (now (setting .entry))) (now (out .entry)) r (now (out .exit)) ⌝ }
+    ensures { λ r. ⌜ PutWhole (planSheet (gatesRow 0 (now (kinds .entry))) (now (setting .entry))) (now (out .entry)) r (now (out .exit)) ⌝ }
 {
     let count = setting.len();
     let size = 3 * count + 4;
@@ -172,7 +172,7 @@ fn write_sheet(kinds: &[u8], setting: &[u8], out: &mut [u8]) -> WriteAnswer
 // The same over a table, which is as long as the shortest of its rows.
 fn write_fitting(kinds: &[u8], a: &[u16], b: &[u16], setting: &[u8], out: &mut [u8]) -> WriteAnswer
     requires { ⌜ Fitting (tableOf (now kinds) (now a) (now b)) (now setting) ⌝ }
-    ensures { λ r. ⌜ Put (roomFor (planSheet (gatesFrom 0 (tableOf (now (kinds .entry)) (now (a .entry)) (now (b .entry)))) (now (setting .entry))) (length (now (out .entry)))) (planSheet (gatesFrom 0 (tableOf (now (kinds .entry)) (now (a .entry)) (now (b .entry)))) (now (setting .entry))) (now (out .entry)) r (now (out .exit)) ⌝ }
+    ensures { λ r. ⌜ PutWhole (planSheet (gatesFrom 0 (tableOf (now (kinds .entry)) (now (a .entry)) (now (b .entry)))) (now (setting .entry))) (now (out .entry)) r (now (out .exit)) ⌝ }
 {
     let m = tables::row_count(kinds, a, b);
     write_sheet(&kinds[..m], setting, out)
@@ -187,7 +187,7 @@ pub fn write_sheet_rows(
     setting: &[u8],
     out: &mut [u8],
 ) -> WriteAnswer
-    ensures { λ r. ⌜ Put (sheetFault (netOf basins (now (kinds .entry)) (now (a .entry)) (now (b .entry))) (now (setting .entry)) (length (now (out .entry)))) (sheetOf (netOf basins (now (kinds .entry)) (now (a .entry)) (now (b .entry))) (now (setting .entry))) (now (out .entry)) r (now (out .exit)) ⌝ }
+    ensures { λ r. ⌜ WriteCall (netOf basins (now (kinds .entry)) (now (a .entry)) (now (b .entry))) (now (setting .entry)) (now (out .entry)) r (now (out .exit)) ⌝ }
 {
     match planner::check_rows(basins, kinds, a, b, setting) {
         CheckAnswer::Refused(r) => WriteAnswer::Refused(r),
@@ -199,7 +199,7 @@ pub fn write_sheet_rows(
 // The sheet of a shut-in finding goes to the first bytes of the buffer; 7.
 fn write_shut_in(marks: &[u8], out: &mut [u8]) -> WriteAnswer
     requires { ⌜ length (now marks) ≡ markBytes ⌝ }
-    ensures { λ r. ⌜ Put (roomFor (shutInSheet (now (marks .entry))) (length (now (out .entry)))) (shutInSheet (now (marks .entry))) (now (out .entry)) r (now (out .exit)) ⌝ }
+    ensures { λ r. ⌜ PutWhole (shutInSheet (now (marks .entry))) (now (out .entry)) r (now (out .exit)) ⌝ }
 {
     let size = marks.len() + 2;
     if out.len() < size {
@@ -214,7 +214,7 @@ fn write_shut_in(marks: &[u8], out: &mut [u8]) -> WriteAnswer
 // The sheet of a lone reach goes to the first bytes of the buffer; 7.
 fn write_lone(reach: u16, marks: &[u8], out: &mut [u8]) -> WriteAnswer
     requires { ⌜ length (now marks) ≡ markBytes ⌝ }
-    ensures { λ r. ⌜ Put (roomFor (loneSheet reach (now (marks .entry))) (length (now (out .entry)))) (loneSheet reach (now (marks .entry))) (now (out .entry)) r (now (out .exit)) ⌝ }
+    ensures { λ r. ⌜ PutWhole (loneSheet reach (now (marks .entry))) (now (out .entry)) r (now (out .exit)) ⌝ }
 {
     let size = marks.len() + 4;
     if out.len() < size {
@@ -230,7 +230,7 @@ fn write_lone(reach: u16, marks: &[u8], out: &mut [u8]) -> WriteAnswer
 // The sheet of the plan that stands in the first bytes of its buffer, one for each gated reach.
 fn write_first(kinds: &[u8], a: &[u16], b: &[u16], plan: &[u8], out: &mut [u8]) -> WriteAnswer
     requires { ⌜ Roomy (tableOf (now kinds) (now a) (now b)) (now plan) ⌝ }
-    ensures { λ r. ⌜ Put (roomFor (firstBytesSheet (tableOf (now (kinds .entry)) (now (a .entry)) (now (b .entry))) (now (plan .entry))) (length (now (out .entry)))) (firstBytesSheet (tableOf (now (kinds .entry)) (now (a .entry)) (now (b .entry))) (now (plan .entry))) (now (out .entry)) r (now (out .exit)) ⌝ }
+    ensures { λ r. ⌜ PutWhole (firstBytesSheet (tableOf (now (kinds .entry)) (now (a .entry)) (now (b .entry))) (now (plan .entry))) (now (out .entry)) r (now (out .exit)) ⌝ }
 {
     let m = tables::row_count(kinds, a, b);
     let g = tables::count_gates(&kinds[..m]);
@@ -249,7 +249,7 @@ fn write_reply_in(
 ) -> WriteAnswer
     requires { ⌜ length (now plan) ≡ maxReaches ⌝ }
     requires { ⌜ length (now marks) ≡ markBytes ⌝ }
-    ensures { λ r. ⌜ Put (replyFault (netOf basins (now (kinds .entry)) (now (a .entry)) (now (b .entry))) (length (now (out .entry)))) (replySheet (netOf basins (now (kinds .entry)) (now (a .entry)) (now (b .entry)))) (now (out .entry)) r (now (out .exit)) ⌝ }
+    ensures { λ r. ⌜ ReplyCall (netOf basins (now (kinds .entry)) (now (a .entry)) (now (b .entry))) (now (out .entry)) r (now (out .exit)) ⌝ }
 {
     match planner::first_plan_rows(basins, kinds, a, b, plan, marks) {
         Answer::Refused(r) => WriteAnswer::Refused(r),
@@ -272,7 +272,7 @@ pub fn write_reply_rows(
     b: &[u16],
     out: &mut [u8],
 ) -> WriteAnswer
-    ensures { λ r. ⌜ Put (replyFault (netOf basins (now (kinds .entry)) (now (a .entry)) (now (b .entry))) (length (now (out .entry)))) (replySheet (netOf basins (now (kinds .entry)) (now (a .entry)) (now (b .entry)))) (now (out .entry)) r (now (out .exit)) ⌝ }
+    ensures { λ r. ⌜ ReplyCall (netOf basins (now (kinds .entry)) (now (a .entry)) (now (b .entry))) (now (out .entry)) r (now (out .exit)) ⌝ }
 {
     let mut plan = [0u8; MAX_REACHES];
     let mut marks = [0u8; MARK_BYTES];
@@ -374,7 +374,7 @@ fn read_sheet_in(
     setting: &mut [u8],
 ) -> SheetAnswer
     requires { ⌜ length (now held) ≡ maxReaches ⌝ }
-    ensures { λ r. ⌜ Got (withRoom (length (now (setting .entry))) (readSheet (netOf basins (now (kinds .entry)) (now (a .entry)) (now (b .entry))) (now (sheet .entry)))) (now (setting .entry)) r (now (setting .exit)) ⌝ }
+    ensures { λ r. ⌜ ReadCall (netOf basins (now (kinds .entry)) (now (a .entry)) (now (b .entry))) (now (sheet .entry)) (now (setting .entry)) r (now (setting .exit)) ⌝ }
 {
     if let TableAnswer::Refused(r) = tables::table_fault(basins, kinds, a, b) {
         return SheetAnswer::Refused(r);
@@ -395,7 +395,7 @@ pub fn read_sheet_rows(
     sheet: &[u8],
     setting: &mut [u8],
 ) -> SheetAnswer
-    ensures { λ r. ⌜ Got (withRoom (length (now (setting .entry))) (readSheet (netOf basins (now (kinds .entry)) (now (a .entry)) (now (b .entry))) (now (sheet .entry)))) (now (setting .entry)) r (now (setting .exit)) ⌝ }
+    ensures { λ r. ⌜ ReadCall (netOf basins (now (kinds .entry)) (now (a .entry)) (now (b .entry))) (now (sheet .entry)) (now (setting .entry)) r (now (setting .exit)) ⌝ }
 {
     let mut held = [0u8; MAX_REACHES];
     read_sheet_in(basins, kinds, a, b, sheet, &mut held, setting)

@@ -1,15 +1,13 @@
 -- `sheet::laws::read_then_check` meets its contract, by what the reader and the check promise.
 -- Assumes nothing.
 use mathlib.Core.Path.{sym, subst}
-use lib.ListN.{length}
 use lib.Seq.{length-take-le}
 use borrow.Author.Needs.{needs}
 use Rattle.network.specs.Networks.{Network}
 use Rattle.tables.specs.Rows.{netOf}
 use Rattle.sheet.specs.declared.SheetAnswer.{SheetAnswer}
 use Rattle.sheet.specs.declared.SheetAnswer.the-variants.{Read}
-use Rattle.sheet.specs.Readings.{readSheet, withRoom}
-use Rattle.sheet.specs.Answers.{Got}
+use Rattle.sheet.specs.Answers.{ReadCall}
 use Rattle.sheet.proofs.RoundTrips.{read-fits, trip-unchecked, trip-checked}
 use Rattle.sheet.proofs.laws.read_then_check.Statement.{statement}
 use Rattle.sheet.proofs.laws.read_then_check.Tie as tie
@@ -22,7 +20,7 @@ net c = let s = c .args in netOf (s .basins) (s .kinds .now) (s .a .now) (s .b .
 abbrev GotAs : tie.After-read-sheet-rows → SheetAnswer → Type 0
 GotAs c r =
     let s = c .before .before .before .before .before .before .before in
-    Got (withRoom (length (s .args .setting .now)) (readSheet (net s) (s .args .sheet .now))) (s .args .setting .now) r (c .read-sheet-rows .last .1 .1 .1 .1 .1 .0)
+    ReadCall (net s) (s .args .sheet .now) (s .args .setting .now) r (c .read-sheet-rows .last .1 .1 .1 .1 .1 .0)
 
 was-read : (c : tie.After-n) → GotAs (c .before .before .before .before) (Read (c .n .given .0 .0))
 was-read c = subst (GotAs (c .before .before .before .before)) (c .n .given .1) (c .before .before .before .before .read-sheet-rows .ensures)

@@ -1,7 +1,6 @@
 -- `sheet::laws::read_then_write` meets its contract, by what the reader and the writer promise.
 -- Assumes nothing.
 use mathlib.Core.Path.{sym, subst}
-use lib.ListN.{length}
 use lib.Seq.{length-take-le}
 use borrow.Author.Needs.{needs}
 use Rattle.network.specs.Networks.{Network}
@@ -9,8 +8,7 @@ use Rattle.tables.specs.Rows.{netOf}
 use Rattle.netfile.proofs.Records.{bytes-make}
 use Rattle.sheet.specs.declared.SheetAnswer.{SheetAnswer}
 use Rattle.sheet.specs.declared.SheetAnswer.the-variants.{Read}
-use Rattle.sheet.specs.Readings.{readSheet, withRoom}
-use Rattle.sheet.specs.Answers.{Got}
+use Rattle.sheet.specs.Answers.{ReadCall}
 use Rattle.sheet.proofs.RoundTrips.{read-fits, trip-unread, trip-written}
 use Rattle.sheet.proofs.laws.read_then_write.Statement.{statement}
 use Rattle.sheet.proofs.laws.read_then_write.Tie as tie
@@ -23,7 +21,7 @@ net c = let s = c .args in netOf (s .basins) (s .kinds .now) (s .a .now) (s .b .
 abbrev GotAs : tie.After-read-sheet-rows → SheetAnswer → Type 0
 GotAs c r =
     let s = c .before .before .before .before .before .before .before .before in
-    Got (withRoom (length (s .args .setting .now)) (readSheet (net s) (s .args .sheet .now))) (s .args .setting .now) r (c .read-sheet-rows .last .1 .1 .1 .1 .1 .0)
+    ReadCall (net s) (s .args .sheet .now) (s .args .setting .now) r (c .read-sheet-rows .last .1 .1 .1 .1 .1 .0)
 
 was-read : (c : tie.After-n) → GotAs (c .before .before .before .before) (Read (c .n .given .0 .0))
 was-read c = subst (GotAs (c .before .before .before .before)) (c .n .given .1) (c .before .before .before .before .read-sheet-rows .ensures)

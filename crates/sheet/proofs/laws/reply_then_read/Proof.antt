@@ -1,15 +1,13 @@
 -- `sheet::laws::reply_then_read` meets its contract, by what the reply writer and the reader promise.
 -- Assumes nothing.
 use mathlib.Core.Path.{sym, subst}
-use lib.ListN.{length}
 use lib.Seq.{length-take-le}
 use borrow.Author.Needs.{needs}
 use Rattle.network.specs.Networks.{Network}
 use Rattle.tables.specs.Rows.{netOf}
 use Rattle.netfile.specs.declared.WriteAnswer.{WriteAnswer}
 use Rattle.netfile.specs.declared.WriteAnswer.the-variants.{Written}
-use Rattle.sheet.specs.Sheets.{replySheet}
-use Rattle.sheet.specs.Answers.{Put, replyFault}
+use Rattle.sheet.specs.Answers.{ReplyCall}
 use Rattle.sheet.proofs.RoundTrips.{written-fits, trip-unreplied, trip-replied}
 use Rattle.sheet.proofs.laws.reply_then_read.Statement.{statement}
 use Rattle.sheet.proofs.laws.reply_then_read.Tie as tie
@@ -22,7 +20,7 @@ net c = let s = c .args in netOf (s .basins) (s .kinds .now) (s .a .now) (s .b .
 abbrev Wrote : tie.After-write-reply-rows → WriteAnswer → Type 0
 Wrote c r =
     let s = c .before .before .before .before .before .before .before in
-    Put (replyFault (net s) (length (s .args .out .now))) (replySheet (net s)) (s .args .out .now) r (c .write-reply-rows .last .1 .1 .1 .1 .0)
+    ReplyCall (net s) (s .args .out .now) r (c .write-reply-rows .last .1 .1 .1 .1 .0)
 
 wrote : (c : tie.After-n) → Wrote (c .before .before .before .before) (Written (c .n .given .0 .0))
 wrote c = subst (Wrote (c .before .before .before .before)) (c .n .given .1) (c .before .before .before .before .write-reply-rows .ensures)
