@@ -1,0 +1,23 @@
+-- A table that is refused gets its refusal from each sheet call, whatever else it is lent, and nothing is written.
+-- Assumes nothing.
+use Prim.Native.Nat.{ℕ}
+use mathlib.Core.Path.{_≡_}
+use mathlib.Core.List.{List}
+use mathlib.Core.Option.{some}
+use Rattle.network.specs.declared.Refusal.{Refusal}
+use Rattle.network.specs.Networks.{Network, tableFault}
+use Rattle.netfile.specs.declared.WriteAnswer.the-variants.{Refused as Unwritten}
+use Rattle.sheet.specs.declared.SheetAnswer.the-variants.{Refused}
+use Rattle.sheet.specs.Readings.{readSheet}
+use Rattle.sheet.specs.Answers.{ReadCall, WriteCall, ReplyCall}
+
+module _ (N : Network) (r : Refusal) (e : tableFault N ≡ some r) where
+  pub read-faulty : (sheet setting : List ℕ) → ReadCall N sheet setting (Refused r) setting
+  unfolding readSheet
+  read-faulty sheet setting = record { answer = rw e; number = rw e; bytes = rw e }
+
+  pub write-faulty : (setting out : List ℕ) → WriteCall N setting out (Unwritten r) out
+  write-faulty setting out = record { answer = rw e; number = rw e; bytes = rw e }
+
+  pub reply-faulty : (out : List ℕ) → ReplyCall N out (Unwritten r) out
+  reply-faulty out = record { answer = rw e; number = rw e; bytes = rw e }
