@@ -1,0 +1,47 @@
+-- `matrix::weakest` is safe and ends. The measure is how many entries are left.
+-- Assumes nothing.
+use Prim.Native.Nat.{_-_}
+use native.Mathlib.Omega.{arith}
+use Rattle.second.proofs.matrix.weakest.Statement.{statement}
+use Rattle.second.proofs.matrix.weakest.Tie as tie
+
+abbrev Inv-loop : tie.InvT-loop
+Inv-loop m n t₀ t = Unit
+
+abbrev μ-loop : tie.MeasureT-loop
+μ-loop m n t₀ t = 36 - t
+
+loop-holds : tie.Need-loop-holds Inv-loop μ-loop
+loop-holds c = tt
+
+byte-at-requires : tie.Need-byte-at-requires Inv-loop μ-loop
+byte-at-requires c κs = tt
+
+returns : tie.Need-returns Inv-loop μ-loop
+returns c = tt
+
+add-t : tie.Need-add-t Inv-loop μ-loop
+add-t c = omega arith
+
+loop-less : tie.Need-loop-less Inv-loop μ-loop
+loop-less c = omega arith
+
+loop-again : tie.Need-loop-again Inv-loop μ-loop
+loop-again c = tt
+
+returns-2 : tie.Need-returns-2 Inv-loop μ-loop
+returns-2 c = tt
+
+pub weakest-spec : {M : Type 1} → statement M
+weakest-spec =
+    tie.close
+    (tie.spec
+    Inv-loop
+    μ-loop
+    loop-holds
+    byte-at-requires
+    returns
+    add-t
+    loop-less
+    loop-again
+    returns-2)

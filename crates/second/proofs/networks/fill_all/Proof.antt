@@ -1,0 +1,65 @@
+-- `networks::fill_all` is safe and ends. What is lent keeps its length. The measure is how many reaches are left.
+-- Assumes nothing.
+use Prim.Native.Nat.{_-_}
+use mathlib.Core.Path.{_≡_}
+use lib.ListN.{length}
+use native.Mathlib.Omega.{arith}
+use Rattle.second.proofs.networks.fill_all.Statement.{statement}
+use Rattle.second.proofs.networks.fill_all.Tie as tie
+
+abbrev Inv-loop : tie.InvT-loop
+Inv-loop basins x kinds₀ a₀ b₀ rest₀ i₀ kinds a b rest i = (length kinds ≡ length kinds₀) × (length a ≡ length a₀) × (length b ≡ length b₀)
+
+abbrev μ-loop : tie.MeasureT-loop
+μ-loop basins x kinds₀ a₀ b₀ rest₀ i₀ kinds a b rest i = length kinds - i
+
+loop-holds : tie.Need-loop-holds Inv-loop μ-loop
+loop-holds c = omega arith
+
+reach-of-requires : tie.Need-reach-of-requires Inv-loop μ-loop
+reach-of-requires c κs = tt
+
+put-reach-requires : tie.Need-put-reach-requires Inv-loop μ-loop
+put-reach-requires c κs = tt
+
+rest-of-requires : tie.Need-rest-of-requires Inv-loop μ-loop
+rest-of-requires c κs = tt
+
+add-i : tie.Need-add-i Inv-loop μ-loop
+add-i c = omega arith
+
+loop-less : tie.Need-loop-less Inv-loop μ-loop
+loop-less c = omega arith
+
+loop-again : tie.Need-loop-again Inv-loop μ-loop
+loop-again c = omega arith
+
+same-length : tie.Need-same-length Inv-loop μ-loop
+same-length c = omega arith
+
+same-length-2 : tie.Need-same-length-2 Inv-loop μ-loop
+same-length-2 c = omega arith
+
+same-length-3 : tie.Need-same-length-3 Inv-loop μ-loop
+same-length-3 c = omega arith
+
+returns : tie.Need-returns Inv-loop μ-loop
+returns c = tt
+
+pub fill-all-spec : {M : Type 1} → statement M
+fill-all-spec =
+    tie.close
+    (tie.spec
+    Inv-loop
+    μ-loop
+    loop-holds
+    reach-of-requires
+    put-reach-requires
+    rest-of-requires
+    add-i
+    loop-less
+    loop-again
+    same-length
+    same-length-2
+    same-length-3
+    returns)
