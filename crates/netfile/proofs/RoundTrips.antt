@@ -79,7 +79,8 @@ module _ (N : Network) (out kinds a b out′ : List ℕ) where
 
 -- ---- read, then written
 
-room-kept : (room : ℕ) (x : Reading) (N : Network) → withRoom room x ≡ read N → x ≡ read N
+-- a network that was read within the room of the rows was read
+pub room-kept : (room : ℕ) (x : Reading) (N : Network) → withRoom room x ≡ read N → x ≡ read N
 room-kept room (refused r) N h = h
 room-kept room (read M) N h = go (leb (length (M .reaches)) room) h
   where

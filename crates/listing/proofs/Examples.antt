@@ -1,0 +1,21 @@
+-- The inputs on both edges print what the table of specs/Examples.antt says.
+-- Assumes nothing.
+use mathlib.Core.Path.{_≡_, refl}
+use mathlib.Core.List.{map}
+use Rattle.network.specs.Settings.{isSetting}
+use Rattle.network.specs.Plans.{strongUnder, isPlan, passable, firstPlan, nextPlan}
+use Rattle.network.specs.Lone.{crossesAlone, isLone, lowestLone}
+use Rattle.network.specs.Marks.{marksOf}
+use Rattle.network.specs.Replies.{shutInSide, loneSide, shutInFinding, loneFinding, answer, firstAnswer}
+use Rattle.netfile.specs.Records.{bodyOf}
+use Rattle.netfile.specs.Files.{readReaches, readFile}
+use Rattle.listing.specs.Listings.{plansFrom, listing}
+use Rattle.listing.specs.Examples.{examples, limits, case3}
+
+pub examples-hold : map (λ e. listing (e .0)) examples ≡ map (λ e. e .1) examples
+unfolding isSetting strongUnder isPlan passable firstPlan nextPlan crossesAlone isLone lowestLone marksOf shutInSide loneSide shutInFinding loneFinding answer firstAnswer bodyOf readReaches readFile plansFrom listing
+examples-hold = refl
+
+pub limits-hold : map (λ e. plansFrom case3 (e .0) (firstPlan case3)) limits ≡ map (λ e. e .1) limits
+unfolding isSetting strongUnder isPlan firstPlan nextPlan plansFrom
+limits-hold = refl

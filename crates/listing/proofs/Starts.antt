@@ -1,0 +1,124 @@
+-- The start: the file's first bytes are read, and the first line is found.
+-- Assumes nothing.
+use Prim.Native.Nat.{ℕ, zero, suc, _≤_, min}
+use native.Mathlib.Nat.{min-zero, suc-min-suc}
+use native.Mathlib.Omega.{arith}
+use mathlib.Core.Path.{_≡_, refl, sym, ap, subst, _∙_}
+use mathlib.Core.Bool.{Bool, true, false, cond}
+use mathlib.Core.List.{List, [], _∷_, _++_, map}
+use lib.ListN.{length, take, drop, length-append, length-map}
+use lib.Seq.{take-at, take-nil}
+use lib.Dec.{leb, ltb}
+use borrow.Author.Tests.{le-leb}
+use Rattle.network.specs.declared.Reach.{Reach}
+use Rattle.network.specs.declared.Refusal.{Refusal}
+use Rattle.network.specs.Networks.{Network, maxReaches, Accepted}
+use Rattle.network.specs.Tables.{kindOf, kindNumber, tableOf}
+use Rattle.network.specs.Replies.{refusalNumber}
+use Rattle.network.proofs.Networks.{accepted}
+use Rattle.network.proofs.Bools.{and-left, and-right, and-make}
+use Rattle.tables.specs.Rows.{netOf}
+use Rattle.netfile.specs.declared.ReadAnswer.{ReadAnswer}
+use Rattle.netfile.specs.declared.ReadAnswer.the-variants.{Refused, Read}
+use Rattle.netfile.specs.Records.{areBytes}
+use Rattle.netfile.specs.Files.{Reading, refused, read, readFile}
+use Rattle.netfile.specs.Answers.{roomOf, withRoom, reachesRead, Rows, ReadCall}
+use Rattle.tables.proofs.Laws.{table-of-rows}
+use Rattle.netfile.proofs.Files.{write-read}
+use Rattle.netfile.proofs.RoundTrips.{room-kept}
+use Rattle.netfile.proofs.Calls.{answer-refused, Counted, answer-read}
+use Rattle.listing.specs.declared.Lister.{Lister}
+use Rattle.listing.specs.declared.Started.{Started}
+use Rattle.listing.specs.Listings.{maxBytes, maxPlans, replyLines, readingLines, listing}
+use Rattle.listing.specs.Pending.{pendingOf, pending, fileRead, Starting}
+use Rattle.listing.specs.Parts.{FirstLine, RefusalLine}
+use Rattle.listing.proofs.States.{first-roomy, refusal-pending}
+
+-- as many bytes as there are, at most m
+take-min : (m : ℕ) (file : List ℕ) → take (min (length file) m) file ≡ take m file
+take-min zero file = ap (λ (k : ℕ). take k file) (min-zero (length file))
+take-min (suc m) [] = take-nil (min (length {A = ℕ} []) (suc m))
+take-min (suc m) (x ∷ file) = ap (λ (k : ℕ). take k (x ∷ file)) (suc-min-suc (length file) m) ∙ ap (λ (t : List ℕ). x ∷ t) (take-min m file)
+
+-- what is read of them is read of the first 8,000
+pub first-read : (file : List ℕ) {n : ℕ} {kinds a b kinds′ a′ b′ : List ℕ} {r : ReadAnswer} → n ≡ min (length file) maxBytes → ReadCall (take n file) kinds a b r kinds′ a′ b′ → ReadCall (take maxBytes file) kinds a b r kinds′ a′ b′
+first-read file {kinds} {a} {b} {kinds′} {a′} {b′} {r} e c =
+    subst (λ f. ReadCall f kinds a b r kinds′ a′ b′) (ap (λ (k : ℕ). take k file) e ∙ take-min maxBytes file) c
+
+pub bytes-first : (m : ℕ) (file : List ℕ) → areBytes file ≡ true → areBytes (take m file) ≡ true
+bytes-first zero file b = refl
+bytes-first (suc m) [] b = refl
+bytes-first (suc m) (x ∷ file) b = and-make (and-left (ltb x 256) _ b) (bytes-first m file (and-right (ltb x 256) _ b))
+
+module _ (file kinds a b kinds′ a′ b′ : List ℕ) where
+  -- the file is refused
+  pub start-refused : (r : Refusal) (l : Lister) → ReadCall (take maxBytes file) kinds a b (Refused r) kinds′ a′ b′ → RefusalLine (refusalNumber r) l → Starting file kinds a b (record { lister = l; reaches = 0 }) kinds′ a′ b′
+  start-refused r l c state =
+      let none-read : fileRead file kinds a b ≡ refused r = answer-refused _ r (sym (c .answer)) in
+      record { rows = c .rows; counted = rw none-read; to-print = rw none-read (refusal-pending _ _ l state) }
+
+  module _ (n m : ℕ) (c : ReadCall (take maxBytes file) kinds a b (Read n m) kinds′ a′ b′) where
+    C : Counted (fileRead file kinds a b) n m
+    C = answer-read (fileRead file kinds a b) n m (sym (c .answer))
+
+    abbrev t : List Reach
+    t = C .network .reaches
+
+    rows : Rows t kinds a b kinds′ a′ b′
+    rows = subst (λ x. Rows (reachesRead x) kinds a b kinds′ a′ b′) (C .is) (c .rows)
+
+    -- a row holds what was read in its first m entries
+    row-front : (g : Reach → ℕ) (row row′ : List ℕ) → row′ ≡ map g t ++ drop (length t) row → take m row′ ≡ map g t
+    row-front g row row′ e = ap (take m) e ∙ take-at (map g t) (drop (length t) row) m (length-map t g ∙ C .reaches)
+
+    same-table : tableOf (take m kinds′) (take m a′) (take m b′) ≡ t
+    same-table =
+        rw (
+          row-front (λ r. kindNumber (r .kind)) kinds kinds′ (rows .kind-row),
+          row-front (λ r. r .a) a a′ (rows .a-row),
+          row-front (λ r. r .b) b b′ (rows .b-row),
+        )
+        (table-of-rows t)
+
+    same-network : netOf n (take m kinds′) (take m a′) (take m b′) ≡ C .network
+    same-network = λ i. record { basins = sym (C .basins) i; reaches = same-table i }
+
+    -- the file is read
+    pub start-read : (l : Lister) → areBytes (take maxBytes file) ≡ true → FirstLine n (take m kinds′) (take m a′) (take m b′) l → Starting file kinds a b (record { lister = l; reaches = m }) kinds′ a′ b′
+    start-read l bytes state =
+        record {
+          rows = c .rows;
+          counted = rw (C .is) (sym (C .reaches));
+          to-print =
+              rw (C .is)
+              (ap (λ (k : ℕ). pendingOf (netOf k (take m kinds′) (take m a′) (take m b′)) l) (state .basins-kept)
+              ∙ state .lines
+              ∙ rw same-network
+              (ap (replyLines (C .network) maxPlans) (first-roomy (C .network) good-table)));
+        }
+      where
+        good-table : Accepted (C .network)
+        good-table = write-read (take maxBytes file) (C .network) bytes (room-kept _ (readFile (take maxBytes file)) (C .network) (C .is)) .accepted
+
+-- ---- what a caller of the start knows
+
+module _ (file kinds a b kinds′ a′ b′ : List ℕ) (r : Started) (s : Starting file kinds a b r kinds′ a′ b′) where
+  row-long : (g : Reach → ℕ) (row row′ : List ℕ) → row′ ≡ map g (reachesRead (fileRead file kinds a b)) ++ drop (length (reachesRead (fileRead file kinds a b))) row → r .reaches ≤ length row′
+  row-long g row row′ e =
+      let t = reachesRead (fileRead file kinds a b) in
+      omega (arith, ap length e, length-append (map g t) (drop (length t) row), length-map t g, s .counted)
+
+  -- the rows hold the reaches
+  pub started-long : (r .reaches ≤ length kinds′) × (r .reaches ≤ length a′) × (r .reaches ≤ length b′)
+  started-long = (row-long _ kinds kinds′ (s .rows .kind-row), row-long _ a a′ (s .rows .a-row), row-long _ b b′ (s .rows .b-row))
+
+  -- with rows for as many reaches as there may be, all lines of the file are to be printed
+  module _ (bytes : areBytes file ≡ true) (room : maxReaches ≤ roomOf kinds a b) where
+    room-enough : (x : Reading) → readFile (take maxBytes file) ≡ x → withRoom (roomOf kinds a b) x ≡ x
+    room-enough (refused e) h = refl
+    room-enough (read N) h =
+        rw (le-leb (length (N .reaches)) (roomOf kinds a b) (omega (arith, accepted N (write-read (take maxBytes file) N (bytes-first maxBytes file bytes) h .accepted) .few-reaches)))
+
+    pub started-listing : pending (r .lister) (take (r .reaches) kinds′) (take (r .reaches) a′) (take (r .reaches) b′) ≡ listing file
+    unfolding listing
+    started-listing = s .to-print ∙ ap readingLines (room-enough (readFile (take maxBytes file)) refl)

@@ -1,0 +1,61 @@
+-- `listing::turned` meets its contract: only the line of a plan that is printed is left.
+-- Assumes nothing.
+use native.Mathlib.Omega.{arith}
+use mathlib.Core.Path.{ap}
+use Rattle.listing.specs.declared.Due.{Due}
+use Rattle.listing.specs.Pending.{linesAfter, planIn, lentNet}
+use Rattle.listing.specs.Parts.{planLength}
+use Rattle.listing.proofs.Sizes.{lister-size}
+use Rattle.listing.proofs.Turns.{turned-none, turned-next, turned-last}
+use borrow.Author.Needs.{needs}
+use Rattle.listing.proofs.turned.Statement.{statement}
+use Rattle.listing.proofs.turned.Tie as tie
+
+enum-known-due : tie.Need-enum-known-due
+enum-known-due c = search needs
+
+plan-length-requires : tie.Need-plan-length-requires
+plan-length-requires c κs = search needs
+
+line-after-requires : tie.Need-line-after-requires
+line-after-requires c κs = search needs
+
+enum-told : tie.Need-enum-told
+enum-told c = search needs
+
+enum-told-2 : tie.Need-enum-told-2
+enum-told-2 c = search needs
+
+enum-told-3 : tie.Need-enum-told-3
+enum-told-3 c = search needs
+
+returns : tie.Need-returns
+returns c = let s = c .before .before .before .before .before .before .before .before .before in turned-none (lentNet (s .args .l) (s .args .kinds .now) (s .args .a .now) (s .args .b .now)) (s .args .l) (lister-size (s .args .l) (s .good .0)) _ (c .before .before .before .before .due .given .1) (omega (arith, c .if1 .taken, c .before .before .plan-length .ensures, ap planLength (s .pre)))
+
+returns-2 : tie.Need-returns-2
+returns-2 c = let s = c .before .before .before .before .before .before .before .before .before .before in turned-next (lentNet (s .args .l) (s .args .kinds .now) (s .args .a .now) (s .args .b .now)) (s .args .l) (lister-size (s .args .l) (s .good .0)) _ (c .line-after .result) (c .before .before .before .before .before .due .given .1) (omega (arith, c .before .if1 .left, c .before .before .before .plan-length .ensures, ap planLength (s .pre))) (c .line-after .ensures)
+
+returns-3 : tie.Need-returns-3
+returns-3 c = let s = c .before .before .before .before .before in turned-last (lentNet (s .args .l) (s .args .kinds .now) (s .args .a .now) (s .args .b .now)) (s .args .l) (ap (λ (d : Due). linesAfter (lentNet (s .args .l) (s .args .kinds .now) (s .args .a .now) (s .args .b .now)) d (planIn (lentNet (s .args .l) (s .args .kinds .now) (s .args .a .now) (s .args .b .now)) (s .args .l))) (c .enum-told .given .1))
+
+returns-4 : tie.Need-returns-4
+returns-4 c = let s = c .before .before .before .before .before in turned-last (lentNet (s .args .l) (s .args .kinds .now) (s .args .a .now) (s .args .b .now)) (s .args .l) (ap (λ (d : Due). linesAfter (lentNet (s .args .l) (s .args .kinds .now) (s .args .a .now) (s .args .b .now)) d (planIn (lentNet (s .args .l) (s .args .kinds .now) (s .args .a .now) (s .args .b .now)) (s .args .l))) (c .enum-told2 .given .1))
+
+returns-5 : tie.Need-returns-5
+returns-5 c = let s = c .before .before .before .before .before in turned-last (lentNet (s .args .l) (s .args .kinds .now) (s .args .a .now) (s .args .b .now)) (s .args .l) (ap (λ (d : Due). linesAfter (lentNet (s .args .l) (s .args .kinds .now) (s .args .a .now) (s .args .b .now)) d (planIn (lentNet (s .args .l) (s .args .kinds .now) (s .args .a .now) (s .args .b .now)) (s .args .l))) (c .enum-told3 .given .1))
+
+pub turned-spec : {M : Type 1} → statement M
+turned-spec =
+    tie.close
+    (tie.spec
+    enum-known-due
+    plan-length-requires
+    line-after-requires
+    enum-told
+    enum-told-2
+    enum-told-3
+    returns
+    returns-2
+    returns-3
+    returns-4
+    returns-5)

@@ -1,0 +1,63 @@
+-- The parts of the start and of the filling: which line an answer calls for, and the state that a line leads to.
+-- Assumes nothing.
+use Prim.Native.Nat.{ℕ, zero, suc}
+use mathlib.Core.Path.{_≡_}
+use mathlib.Core.Bool.{cond}
+use mathlib.Core.List.{List, []}
+use lib.Dec.{eqb}
+use Rattle.network.specs.Networks.{Network, maxReaches}
+use Rattle.network.specs.Marks.{markBytes}
+use Rattle.network.specs.Replies.{refusalNumber, firstReply}
+use Rattle.tables.specs.Rows.{netOf}
+use Rattle.planner.specs.declared.Verdict.{Verdict}
+use Rattle.planner.specs.declared.Verdict.the-variants as Of
+use Rattle.planner.specs.declared.Answer.{Answer}
+use Rattle.planner.specs.declared.Answer.the-variants as A
+use Rattle.listing.specs.declared.Due.{Due}
+use Rattle.listing.specs.declared.Due.the-variants as D
+use Rattle.listing.specs.declared.Lister.{Lister}
+use Rattle.listing.specs.Listings.{maxPlans, replyLines}
+use Rattle.listing.specs.Pending.{linesAfter, planIn, restOf, pendingOf}
+
+-- The line that an answer calls for, where so many plans may still be printed.
+abbrev pub planDue : ℕ → Due
+planDue zero = D.More
+planDue (suc n) = D.Plan n
+
+abbrev pub verdictDue : Verdict → ℕ → Due
+verdictDue Of.Plan left = planDue left
+verdictDue (Of.ShutIn f) left = D.Refused 9
+verdictDue (Of.Lone f) left = D.Refused 10
+
+abbrev pub refusalDue : ℕ → Due
+refusalDue r = cond (eqb r 11) D.End (D.Refused r)
+
+abbrev pub dueOf : Answer → ℕ → Due
+dueOf (A.Refused r) left = refusalDue (refusalNumber r)
+dueOf (A.Given reply) left = verdictDue (reply .verdict) left
+
+-- The first line's state, and that after the line of a plan.
+pub record FirstLine (n : ℕ) (kinds a b : List ℕ) (r : Lister) : Type 0 where
+  pub basins-kept : r .basins ≡ n
+  pub lines : pendingOf (netOf n kinds a b) r ≡ replyLines (netOf n kinds a b) maxPlans (firstReply (netOf n kinds a b) maxReaches markBytes)
+
+pub record LineAfter (N : Network) (l : Lister) (left : ℕ) (r : Lister) : Type 0 where
+  pub basins-kept : r .basins ≡ l .basins
+  pub begun : r .at ≡ 0
+  pub lines : pendingOf N r ≡ linesAfter N (D.Plan left) (planIn N l)
+
+-- The length of a plan's line, by its number of gated reaches.
+abbrev pub planLength : ℕ → ℕ
+planLength zero = 2
+planLength (suc g) = suc (suc g)
+
+-- The same is to be printed; if nothing is left of the line, nothing is left at all.
+pub record Turned (N : Network) (l r : Lister) : Type 0 where
+  pub basins-kept : r .basins ≡ l .basins
+  pub same : pendingOf N r ≡ pendingOf N l
+  pub ended : restOf N r ≡ [] → pendingOf N r ≡ []
+
+-- The state of a refusal's line.
+pub record RefusalLine (k : ℕ) (l : Lister) : Type 0 where
+  pub its-line : l .due ≡ refusalDue k
+  pub begun : l .at ≡ 0

@@ -1,0 +1,369 @@
+// The lister's text: all that is printed for a network file, a lent buffer at a time.
+// `start` reads the file and finds the first plan; `Lister::fill` puts the next bytes of the text into a buffer and hands back the state after it.
+// No call for users has a `requires`.
+pub mod laws;
+
+use marks::MARK_BYTES;
+use netfile::ReadAnswer;
+use network::MAX_REACHES;
+use network::Refusal;
+use planner::Answer;
+use planner::Verdict;
+ghost use mathlib.Core.Path.{_≡_};
+ghost use mathlib.Core.List.{map};
+ghost use Prim.Native.Nat.{_≤_, min};
+ghost use lib.ListN.{length, take, drop};
+ghost use Rattle.network.specs.Networks.{maxReaches};
+ghost use Rattle.network.specs.Tables.{tableOf};
+ghost use Rattle.network.specs.Settings.{gatesFrom};
+ghost use Rattle.network.specs.Replies.{refusalNumber};
+ghost use Rattle.listing.specs.Listings.{character, planText, line, refusedText};
+ghost use Rattle.listing.specs.Pending.{lineOf, gatesHeld, lentNet, Put, Starting, Filling};
+ghost use Rattle.listing.specs.Parts.{planDue, refusalDue, dueOf, FirstLine, LineAfter, planLength, Turned, RefusalLine};
+
+// The most bytes of a file that are read, and the most plans that are printed.
+pub const MAX_BYTES: usize = 8000;
+
+pub const MAX_PLANS: usize = 1000;
+
+// A line: that of a plan, after which so many plans may still be printed; `more`; `end`; or `refused ` and a number.
+pub enum Due {
+    Plan(usize),
+    More,
+    End,
+    Refused(u8),
+}
+
+// A state of the lister: the basin count, the line that is being printed, how many of its bytes are printed, and the plan in hand.
+pub struct Lister {
+    pub basins: u16,
+    pub due: Due,
+    pub at: usize,
+    pub setting: [u8; MAX_REACHES],
+}
+
+// The state in which nothing is printed, and the number of reaches in the rows.
+pub struct Started {
+    pub lister: Lister,
+    pub reaches: usize,
+}
+
+// The number of bytes in the buffer, and the state after they are printed.
+pub struct Filled {
+    pub lister: Lister,
+    pub count: usize,
+}
+
+// The number of a refusal.
+fn number_of(r: Refusal) -> u8
+    ensures { λ n. ⌜ n ≡ refusalNumber r ⌝ }
+{
+    match r {
+        Refusal::BasinCount => 1,
+        Refusal::TooManyReaches => 2,
+        Refusal::EndOutOfRange => 3,
+        Refusal::Truncated => 4,
+        Refusal::UnknownKind => 5,
+        Refusal::TrailingBytes => 6,
+        Refusal::ShortBuffer => 7,
+        Refusal::BadSetting => 8,
+        Refusal::LastPlan => 11,
+    }
+}
+
+// The smaller of two counts.
+fn least(x: usize, y: usize) -> usize
+    ensures { λ r. ⌜ r ≡ min x y ⌝ }
+{
+    if x < y { x } else { y }
+}
+
+// Puts the first bytes of a text to the front of the buffer, as many as it holds.
+fn put(text: &[u8], out: &mut [u8]) -> usize
+    ensures { λ r. ⌜ Put (now (text .entry)) (now (out .entry)) (now (out .exit)) r ⌝ }
+{
+    let n = least(text.len(), out.len());
+    let mut i = 0;
+    while i < n {
+        out[i] = text[i];
+        i += 1;
+    }
+    n
+}
+
+// The same of a text from a place on.
+fn put_from(text: &[u8], at: usize, out: &mut [u8]) -> usize
+    ensures { λ r. ⌜ Put (drop at (now (text .entry))) (now (out .entry)) (now (out .exit)) r ⌝ }
+{
+    if at < text.len() {
+        put(&text[at..], out)
+    } else {
+        0
+    }
+}
+
+// The character of a gated reach's byte.
+fn digit(x: u8) -> u8
+    ensures { λ r. ⌜ r ≡ character x ⌝ }
+{
+    if x == 0 { b'0' } else { b'1' }
+}
+
+// Puts the characters of the first bytes of a setting, as many as the buffer holds.
+fn put_digits(setting: &[u8], out: &mut [u8]) -> usize
+    ensures { λ r. ⌜ Put (map character (now (setting .entry))) (now (out .entry)) (now (out .exit)) r ⌝ }
+{
+    let n = least(setting.len(), out.len());
+    let mut i = 0;
+    while i < n {
+        out[i] = digit(setting[i]);
+        i += 1;
+    }
+    n
+}
+
+// Puts the line of a plan, from a place on.
+fn put_plan(plan: &[u8], at: usize, out: &mut [u8]) -> usize
+    ensures { λ r. ⌜ Put (drop at (line (planText (now (plan .entry))))) (now (out .entry)) (now (out .exit)) r ⌝ }
+{
+    if plan.len() == 0 {
+        return put_from(b"-\n", at, out);
+    }
+    if plan.len() < at {
+        return 0;
+    }
+    let k = put_digits(&plan[at..], out);
+    if k == out.len() {
+        return k;
+    }
+    out[k] = b'\n';
+    k + 1
+}
+
+// Puts the line of a refusal, from a place on.
+fn put_refused(number: u8, at: usize, out: &mut [u8]) -> usize
+    ensures { λ r. ⌜ Put (drop at (line (refusedText number))) (now (out .entry)) (now (out .exit)) r ⌝ }
+{
+    if number < 10 {
+        let text = [
+            b'r',
+            b'e',
+            b'f',
+            b'u',
+            b's',
+            b'e',
+            b'd',
+            b' ',
+            b'0' + number,
+            b'\n',
+        ];
+        return put_from(&text, at, out);
+    }
+    let text = [
+        b'r',
+        b'e',
+        b'f',
+        b'u',
+        b's',
+        b'e',
+        b'd',
+        b' ',
+        b'0' + number / 10,
+        b'0' + number % 10,
+        b'\n',
+    ];
+    put_from(&text, at, out)
+}
+
+// The line for a refusal: `end` where it says that no plan is later.
+fn due_refused(r: Refusal) -> Due
+    ensures { λ d. ⌜ d ≡ refusalDue (refusalNumber r) ⌝ }
+{
+    let n = number_of(r);
+    if n == 11 { Due::End } else { Due::Refused(n) }
+}
+
+// The line for a plan that is there to be printed, if so many still may be.
+fn due_plan(left: usize) -> Due
+    ensures { λ d. ⌜ d ≡ planDue left ⌝ }
+{
+    if left == 0 {
+        Due::More
+    } else {
+        Due::Plan(left - 1)
+    }
+}
+
+// The line that an answer of first or next calls for.
+fn due_of(answer: Answer, left: usize) -> Due
+    ensures { λ d. ⌜ d ≡ dueOf answer left ⌝ }
+{
+    match answer {
+        Answer::Refused(r) => due_refused(r),
+        Answer::Given(reply) => {
+            let verdict = reply.verdict;
+            match verdict {
+                Verdict::Plan => due_plan(left),
+                Verdict::ShutIn(_) => Due::Refused(9),
+                Verdict::Lone(_) => Due::Refused(10),
+            }
+        }
+    }
+}
+
+// The number of gated reaches of a table, or the reach limit if there are more.
+fn gates_held(kinds: &[u8], a: &[u16], b: &[u16]) -> usize
+    ensures { λ r. ⌜ r ≡ min (length (gatesFrom 0 (tableOf (now (kinds .entry)) (now (a .entry)) (now (b .entry))))) maxReaches ⌝ }
+{
+    let m = tables::row_count(kinds, a, b);
+    let g = tables::count_gates(&kinds[..m]);
+    least(g, MAX_REACHES)
+}
+
+// Puts what is left of a state's line, as much as the buffer holds. The plan in hand has g bytes.
+fn put_line(l: Lister, g: usize, out: &mut [u8]) -> usize
+    requires { ⌜ g ≤ maxReaches ⌝ }
+    ensures { λ r. ⌜ Put (drop (l .at) (lineOf (l .due) (take g (l .setting)))) (now (out .entry)) (now (out .exit)) r ⌝ }
+{
+    let at = l.at;
+    let due = l.due;
+    match due {
+        Due::Plan(_) => {
+            let setting = l.setting;
+            put_plan(&setting[..g], at, out)
+        }
+        Due::More => put_from(b"more\n", at, out),
+        Due::End => put_from(b"end\n", at, out),
+        Due::Refused(n) => put_refused(n, at, out),
+    }
+}
+
+// A setting of zeros.
+fn zeros() -> [u8; MAX_REACHES] {
+    [0u8; MAX_REACHES]
+}
+
+// The state before the first line of a network; the bytes of the setting are lent by value.
+fn first_line(basins: u16, kinds: &[u8], a: &[u16], b: &[u16], setting: [u8; MAX_REACHES]) -> Lister
+    ensures { λ r. ⌜ FirstLine basins (now (kinds .entry)) (now (a .entry)) (now (b .entry)) r ⌝ }
+{
+    let mut plan = setting;
+    let mut marks = [0u8; MARK_BYTES];
+    let answer = planner::first_plan_rows(basins, kinds, a, b, &mut plan, &mut marks);
+    let due = due_of(answer, MAX_PLANS);
+    Lister {
+        basins,
+        due,
+        at: 0,
+        setting: plan,
+    }
+}
+
+// The state after the line of a plan, after which so many plans may still be printed. The plan in hand has g bytes.
+fn line_after(l: Lister, left: usize, g: usize, kinds: &[u8], a: &[u16], b: &[u16]) -> Lister
+    requires { ⌜ g ≡ gatesHeld (lentNet l (now kinds) (now a) (now b)) ⌝ }
+    ensures { λ r. ⌜ LineAfter (lentNet l (now (kinds .entry)) (now (a .entry)) (now (b .entry))) l left r ⌝ }
+{
+    let basins = l.basins;
+    let setting = l.setting;
+    let mut plan = l.setting;
+    let mut marks = [0u8; MARK_BYTES];
+    let answer = planner::next_plan_rows(basins, kinds, a, b, &setting[..g], &mut plan, &mut marks);
+    let due = due_of(answer, left);
+    Lister {
+        basins,
+        due,
+        at: 0,
+        setting: plan,
+    }
+}
+
+// The state before the line of a file that is refused.
+fn refusal_line(r: Refusal) -> Lister
+    ensures { λ l. ⌜ RefusalLine (refusalNumber r) l ⌝ }
+{
+    let due = due_refused(r);
+    let setting = zeros();
+    Lister {
+        basins: 0,
+        due,
+        at: 0,
+        setting,
+    }
+}
+
+// Reads the first bytes of a file into the rows, and finds the first line.
+pub fn start(file: &[u8], kinds: &mut [u8], a: &mut [u16], b: &mut [u16]) -> Started
+    ensures { λ r. ⌜ Starting (now (file .entry)) (now (kinds .entry)) (now (a .entry)) (now (b .entry)) r (now (kinds .exit)) (now (a .exit)) (now (b .exit)) ⌝ }
+{
+    let n = least(file.len(), MAX_BYTES);
+    match netfile::read_network_rows(&file[..n], kinds, a, b) {
+        ReadAnswer::Refused(r) => {
+            let lister = refusal_line(r);
+            Started { lister, reaches: 0 }
+        }
+        ReadAnswer::Read { basins, reaches } => {
+            let lister = first_line(
+                basins,
+                &kinds[..reaches],
+                &a[..reaches],
+                &b[..reaches],
+                zeros(),
+            );
+            Started { lister, reaches }
+        }
+    }
+}
+
+// The length of a plan's line.
+fn plan_length(g: usize) -> usize
+    requires { ⌜ g ≤ maxReaches ⌝ }
+    ensures { λ r. ⌜ r ≡ planLength g ⌝ }
+{
+    if g == 0 { 2 } else { g + 1 }
+}
+
+// The state with something left of its line, if anything is left: where the line of a plan is printed, the state after it.
+fn turned(l: Lister, g: usize, kinds: &[u8], a: &[u16], b: &[u16]) -> Lister
+    requires { ⌜ g ≡ gatesHeld (lentNet l (now kinds) (now a) (now b)) ⌝ }
+    ensures { λ r. ⌜ Turned (lentNet l (now (kinds .entry)) (now (a .entry)) (now (b .entry))) l r ⌝ }
+{
+    let due = l.due;
+    match due {
+        Due::Plan(left) => if l.at < plan_length(g) {
+            l
+        } else {
+            line_after(l, left, g, kinds, a, b)
+        },
+        Due::More => l,
+        Due::End => l,
+        Due::Refused(_) => l,
+    }
+}
+
+impl Lister {
+    // Puts the first bytes of what is still to be printed into the buffer, as many as it holds. The rows are the network's.
+    pub fn fill(self, kinds: &[u8], a: &[u16], b: &[u16], out: &mut [u8]) -> Filled
+        ensures { λ r. ⌜ Filling self (now (kinds .entry)) (now (a .entry)) (now (b .entry)) (now (out .entry)) (now (out .exit)) r ⌝ }
+    {
+        let g = gates_held(kinds, a, b);
+        let mut state = self;
+        let mut n = 0;
+        while n < out.len() {
+            state = turned(state, g, kinds, a, b);
+            let k = put_line(state, g, &mut out[n..]);
+            if k == 0 {
+                return Filled {
+                    lister: state,
+                    count: n,
+                };
+            }
+            state.at += k;
+            n += k;
+        }
+        Filled {
+            lister: state,
+            count: n,
+        }
+    }
+}
