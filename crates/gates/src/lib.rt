@@ -265,9 +265,11 @@ fn settle(
     if kinds[i] != 0 {
         return;
     }
-    if !try_drawn(n, a, b, ways, head, next, i, seen, queue) {
-        ways[i] = 1;
+    let drawn = try_drawn(n, a, b, ways, head, next, i, seen, queue);
+    if drawn {
+        return;
     }
+    ways[i] = 1;
 }
 
 // The same as `greedy` where no gate from `from` on is lone: one search for each gate.

@@ -3,7 +3,6 @@
 use native.Mathlib.Omega.{arith}
 use mathlib.Core.Path.{refl}
 use borrow.Author.Needs.{needs}
-use borrow.Author.Tests.{not-true, not-false}
 use Rattle.gates.specs.Hung.{as-it-was}
 use Rattle.gates.proofs.Readies.{kind-gate, kind-plain, settled-drawn, settled-turned}
 use Rattle.gates.proofs.settle.Statement.{statement}
@@ -18,9 +17,6 @@ returns c = as-it-was (kind-plain _ (c .if1 .taken)) refl
 try-drawn-requires : tie.Need-try-drawn-requires
 try-drawn-requires c κs = search needs
 
-slice-write-ways : tie.Need-slice-write-ways
-slice-write-ways c = search needs
-
 same-length : tie.Need-same-length
 same-length c = search needs
 
@@ -33,7 +29,10 @@ same-length-3 c = search needs
 returns-2 : tie.Need-returns-2
 returns-2 c =
     let s = c .before .before .before .before .before .before .before .before .before .before .before .before .before .before .before .before .before .before .before .before .before in
-    settled-turned (s .args .kinds .now) (s .args .ways .now) (s .args .i) (kind-gate _ ((c .before .before .before .before .before .before .before .before .before .before .before) .if1 .left)) ((c .before .before .before .before .before .before .before) .try-drawn .ensures) (not-true _ (c .if2 .taken))
+    settled-drawn (s .args .kinds .now) (s .args .ways .now) (s .args .i) (kind-gate _ ((c .before .before .before .before .before .before .before .before .before .before .before) .if1 .left)) ((c .before .before .before .before .before .before .before) .try-drawn .ensures) (c .if2 .taken)
+
+slice-write-ways : tie.Need-slice-write-ways
+slice-write-ways c = search needs
 
 same-length-4 : tie.Need-same-length-4
 same-length-4 c = search needs
@@ -47,9 +46,9 @@ same-length-6 c = search needs
 returns-3 : tie.Need-returns-3
 returns-3 c =
     let s = c .before .before .before .before .before .before .before .before .before .before .before .before .before .before .before .before .before .before .before .before .before in
-    settled-drawn (s .args .kinds .now) (s .args .ways .now) (s .args .i) (kind-gate _ ((c .before .before .before .before .before .before .before .before .before .before .before) .if1 .left)) ((c .before .before .before .before .before .before .before) .try-drawn .ensures) (not-false _ (c .if2 .left))
+    settled-turned (s .args .kinds .now) (s .args .ways .now) (s .args .i) (kind-gate _ ((c .before .before .before .before .before .before .before .before .before .before .before) .if1 .left)) ((c .before .before .before .before .before .before .before) .try-drawn .ensures) (c .if2 .left)
 
 pub settle-spec : {M : Type 1} → statement M
 settle-spec =
     tie.close
-    (tie.spec shared-slice-read-if1 returns try-drawn-requires slice-write-ways same-length same-length-2 same-length-3 returns-2 same-length-4 same-length-5 same-length-6 returns-3)
+    (tie.spec shared-slice-read-if1 returns try-drawn-requires same-length same-length-2 same-length-3 returns-2 slice-write-ways same-length-4 same-length-5 same-length-6 returns-3)
