@@ -9,3 +9,4 @@ pub mod Turns
 pub mod Fills
 pub mod Starts
 pub mod Printed
+pub mod Steps

@@ -41,7 +41,7 @@ gates-few o [] = omega arith
 gates-few o (r ∷ t) = gate-few (isGated (r .kind)) o (gatesFrom (suc o) t) (length t) (gates-few (suc o) t)
 
 -- the state holds a byte for each
-gates-fit : (N : Network) → Accepted N → gateCount N ≤ maxReaches
+pub gates-fit : (N : Network) → Accepted N → gateCount N ≤ maxReaches
 gates-fit N ok = omega (arith, gates-few 0 (N .reaches), accepted N ok .few-reaches)
 
 -- ---- a plan that is replied is a plan of an accepted table
@@ -73,7 +73,7 @@ module _ (N : Network) (k m : ℕ) where
 -- ---- the lines after a plan
 
 -- there is room for its gates and for marks
-roomy : (N : Network) → Accepted N → roomFault N maxReaches markBytes ≡ none
+pub roomy : (N : Network) → Accepted N → roomFault N maxReaches markBytes ≡ none
 unfolding roomFault
 roomy N ok = rw (le-leb (gateCount N) maxReaches (gates-fit N ok))
 

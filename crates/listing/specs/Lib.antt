@@ -4,3 +4,4 @@ pub mod Examples
 pub mod Laws
 pub mod Pending
 pub mod Parts
+pub mod Keeping

@@ -5,9 +5,11 @@ pub mod laws;
 
 use marks::MARK_BYTES;
 use netfile::ReadAnswer;
+use network::MAX_BASINS;
 use network::MAX_REACHES;
 use network::Refusal;
 use planner::Answer;
+use planner::HALF_EDGES;
 use planner::Verdict;
 ghost use mathlib.Core.Path.{_≡_};
 ghost use mathlib.Core.List.{map};
@@ -17,6 +19,10 @@ ghost use Rattle.network.specs.Networks.{maxReaches};
 ghost use Rattle.network.specs.Tables.{tableOf};
 ghost use Rattle.network.specs.Settings.{gatesFrom};
 ghost use Rattle.network.specs.Replies.{refusalNumber};
+ghost use Rattle.gates.specs.Ready.{Ready};
+ghost use Rattle.planner.specs.Rooms.{Space};
+ghost use Rattle.planner.specs.Seeks.{AtPlan};
+ghost use Rattle.listing.specs.Keeping.{Standing, Kept};
 ghost use Rattle.listing.specs.Listings.{character, planText, line, refusedText};
 ghost use Rattle.listing.specs.Pending.{lineOf, gatesHeld, lentNet, Put, Starting, Filling};
 ghost use Rattle.listing.specs.Parts.{planDue, refusalDue, dueOf, FirstLine, LineAfter, planLength, Turned, RefusalLine};
@@ -259,8 +265,8 @@ fn first_line(basins: u16, kinds: &[u8], a: &[u16], b: &[u16], setting: [u8; MAX
     }
 }
 
-// The state after the line of a plan, after which so many plans may still be printed. The plan in hand has g bytes.
-fn line_after(l: Lister, left: usize, g: usize, kinds: &[u8], a: &[u16], b: &[u16]) -> Lister
+// The state after the line of a plan, after which so many plans may still be printed, by asking for the next plan. The plan in hand has g bytes.
+fn asked(l: Lister, left: usize, g: usize, kinds: &[u8], a: &[u16], b: &[u16]) -> Lister
     requires { ⌜ g ≡ gatesHeld (lentNet l (now kinds) (now a) (now b)) ⌝ }
     ensures { λ r. ⌜ LineAfter (lentNet l (now (kinds .entry)) (now (a .entry)) (now (b .entry))) l left r ⌝ }
 {
@@ -276,6 +282,103 @@ fn line_after(l: Lister, left: usize, g: usize, kinds: &[u8], a: &[u16], b: &[u1
         at: 0,
         setting: plan,
     }
+}
+
+// The same in working memory that stands at the plan in hand, and then at the plan after it.
+fn stepped(
+    l: Lister,
+    left: usize,
+    g: usize,
+    kinds: &[u8],
+    a: &[u16],
+    b: &[u16],
+    under: &mut [u8],
+    ways: &mut [u8],
+    head: &[u16],
+    next: &[u16],
+    seen: &mut [u8],
+    queue: &mut [u16],
+) -> Lister
+    requires { ⌜ g ≡ gatesHeld (lentNet l (now kinds) (now a) (now b)) ⌝ }
+    requires { ⌜ Ready (l .basins) (now a) (now b) (now ways) (now head) (now next) (now seen) (now queue) ⌝ }
+    requires { ⌜ AtPlan (l .basins) (now kinds) (now a) (now b) (take g (l .setting)) (now ways) ⌝ }
+    requires { ⌜ length (now under) ≡ length (now ways) ⌝ }
+    ensures { λ r. ⌜ LineAfter (lentNet l (now (kinds .entry)) (now (a .entry)) (now (b .entry))) l left r ⌝ }
+    ensures { λ r. ⌜ Standing (l .basins) (now (kinds .entry)) (now (a .entry)) (now (b .entry)) (r .due) (take g (r .setting)) (now (ways .exit)) ⌝ }
+{
+    let basins = l.basins;
+    let setting = l.setting;
+    let n = basins as usize;
+    let later = runs::advance(
+        n,
+        kinds,
+        a,
+        b,
+        &setting[..g],
+        under,
+        ways,
+        head,
+        next,
+        seen,
+        queue,
+    );
+    if !later {
+        return Lister {
+            basins,
+            due: Due::End,
+            at: 0,
+            setting,
+        };
+    }
+    let mut plan = l.setting;
+    tables::gather(kinds, ways, &mut plan);
+    let due = due_plan(left);
+    Lister {
+        basins,
+        due,
+        at: 0,
+        setting: plan,
+    }
+}
+
+// The one or the other: the second where the working memory stands at the plan in hand.
+fn line_after(
+    l: Lister,
+    left: usize,
+    g: usize,
+    standing: bool,
+    kinds: &[u8],
+    a: &[u16],
+    b: &[u16],
+    under: &mut [u8],
+    ways: &mut [u8],
+    head: &[u16],
+    next: &[u16],
+    seen: &mut [u8],
+    queue: &mut [u16],
+) -> Lister
+    requires { ⌜ g ≡ gatesHeld (lentNet l (now kinds) (now a) (now b)) ⌝ }
+    requires { ⌜ Kept (l .basins) (now kinds) (now a) (now b) (Due.Plan left) (take g (l .setting)) (now under) (now ways) (now head) (now next) (now seen) (now queue) standing ⌝ }
+    ensures { λ r. ⌜ LineAfter (lentNet l (now (kinds .entry)) (now (a .entry)) (now (b .entry))) l left r ⌝ }
+    ensures { λ r. ⌜ Kept (l .basins) (now (kinds .entry)) (now (a .entry)) (now (b .entry)) (r .due) (take g (r .setting)) (now (under .exit)) (now (ways .exit)) (now (head .entry)) (now (next .entry)) (now (seen .exit)) (now (queue .exit)) standing ⌝ }
+{
+    if standing {
+        return stepped(
+            l,
+            left,
+            g,
+            kinds,
+            a,
+            b,
+            under,
+            ways,
+            head,
+            next,
+            seen,
+            queue,
+        );
+    }
+    asked(l, left, g, kinds, a, b)
 }
 
 // The state before the line of a file that is refused.
@@ -324,16 +427,45 @@ fn plan_length(g: usize) -> usize
 }
 
 // The state with something left of its line, if anything is left: where the line of a plan is printed, the state after it.
-fn turned(l: Lister, g: usize, kinds: &[u8], a: &[u16], b: &[u16]) -> Lister
+fn turned(
+    l: Lister,
+    g: usize,
+    standing: bool,
+    kinds: &[u8],
+    a: &[u16],
+    b: &[u16],
+    under: &mut [u8],
+    ways: &mut [u8],
+    head: &[u16],
+    next: &[u16],
+    seen: &mut [u8],
+    queue: &mut [u16],
+) -> Lister
     requires { ⌜ g ≡ gatesHeld (lentNet l (now kinds) (now a) (now b)) ⌝ }
+    requires { ⌜ Kept (l .basins) (now kinds) (now a) (now b) (l .due) (take g (l .setting)) (now under) (now ways) (now head) (now next) (now seen) (now queue) standing ⌝ }
     ensures { λ r. ⌜ Turned (lentNet l (now (kinds .entry)) (now (a .entry)) (now (b .entry))) l r ⌝ }
+    ensures { λ r. ⌜ Kept (l .basins) (now (kinds .entry)) (now (a .entry)) (now (b .entry)) (r .due) (take g (r .setting)) (now (under .exit)) (now (ways .exit)) (now (head .entry)) (now (next .entry)) (now (seen .exit)) (now (queue .exit)) standing ⌝ }
 {
     let due = l.due;
     match due {
         Due::Plan(left) => if l.at < plan_length(g) {
             l
         } else {
-            line_after(l, left, g, kinds, a, b)
+            line_after(
+                l,
+                left,
+                g,
+                standing,
+                kinds,
+                a,
+                b,
+                under,
+                ways,
+                head,
+                next,
+                seen,
+                queue,
+            )
         },
         Due::More => l,
         Due::End => l,
@@ -341,29 +473,122 @@ fn turned(l: Lister, g: usize, kinds: &[u8], a: &[u16], b: &[u16]) -> Lister
     }
 }
 
+// Fills a buffer line by line, in working memory that stands at the plan in hand, if it does.
+fn print_lines(
+    l: Lister,
+    g: usize,
+    standing: bool,
+    kinds: &[u8],
+    a: &[u16],
+    b: &[u16],
+    out: &mut [u8],
+    under: &mut [u8],
+    ways: &mut [u8],
+    head: &[u16],
+    next: &[u16],
+    seen: &mut [u8],
+    queue: &mut [u16],
+) -> Filled
+    requires { ⌜ g ≡ gatesHeld (lentNet l (now kinds) (now a) (now b)) ⌝ }
+    requires { ⌜ Kept (l .basins) (now kinds) (now a) (now b) (l .due) (take g (l .setting)) (now under) (now ways) (now head) (now next) (now seen) (now queue) standing ⌝ }
+    ensures { λ r. ⌜ Filling l (now (kinds .entry)) (now (a .entry)) (now (b .entry)) (now (out .entry)) (now (out .exit)) r ⌝ }
+{
+    let mut state = l;
+    let mut n = 0;
+    while n < out.len() {
+        state = turned(
+            state,
+            g,
+            standing,
+            kinds,
+            a,
+            b,
+            under,
+            ways,
+            head,
+            next,
+            seen,
+            queue,
+        );
+        let k = put_line(state, g, &mut out[n..]);
+        if k == 0 {
+            return Filled {
+                lister: state,
+                count: n,
+            };
+        }
+        state.at += k;
+        n += k;
+    }
+    Filled {
+        lister: state,
+        count: n,
+    }
+}
+
+// The same with lent working memory, which is prepared if the plan in hand is one.
+fn fill_in(
+    l: Lister,
+    kinds: &[u8],
+    a: &[u16],
+    b: &[u16],
+    out: &mut [u8],
+    under: &mut [u8],
+    ways: &mut [u8],
+    head: &mut [u16],
+    next: &mut [u16],
+    seen: &mut [u8],
+    queue: &mut [u16],
+) -> Filled
+    requires { ⌜ Space (now ways) (now under) (now head) (now next) (now seen) (now queue) ⌝ }
+    ensures { λ r. ⌜ Filling l (now (kinds .entry)) (now (a .entry)) (now (b .entry)) (now (out .entry)) (now (out .exit)) r ⌝ }
+{
+    let g = gates_held(kinds, a, b);
+    let m = least(kinds.len(), MAX_REACHES);
+    let basins = l.basins;
+    let setting = l.setting;
+    let hung = &mut ways[..m];
+    let standing = runs::prime(basins, kinds, a, b, &setting[..g], hung, head, next);
+    print_lines(
+        l,
+        g,
+        standing,
+        kinds,
+        a,
+        b,
+        out,
+        &mut under[..m],
+        hung,
+        head,
+        next,
+        seen,
+        queue,
+    )
+}
+
 impl Lister {
     // Puts the first bytes of what is still to be printed into the buffer, as many as it holds. The rows are the network's.
     pub fn fill(self, kinds: &[u8], a: &[u16], b: &[u16], out: &mut [u8]) -> Filled
         ensures { λ r. ⌜ Filling self (now (kinds .entry)) (now (a .entry)) (now (b .entry)) (now (out .entry)) (now (out .exit)) r ⌝ }
     {
-        let g = gates_held(kinds, a, b);
-        let mut state = self;
-        let mut n = 0;
-        while n < out.len() {
-            state = turned(state, g, kinds, a, b);
-            let k = put_line(state, g, &mut out[n..]);
-            if k == 0 {
-                return Filled {
-                    lister: state,
-                    count: n,
-                };
-            }
-            state.at += k;
-            n += k;
-        }
-        Filled {
-            lister: state,
-            count: n,
-        }
+        let mut under = [0u8; MAX_REACHES];
+        let mut ways = [0u8; MAX_REACHES];
+        let mut head = [0u16; MAX_BASINS];
+        let mut next = [0u16; HALF_EDGES];
+        let mut seen = [0u8; MAX_BASINS];
+        let mut queue = [0u16; MAX_BASINS];
+        fill_in(
+            self,
+            kinds,
+            a,
+            b,
+            out,
+            &mut under,
+            &mut ways,
+            &mut head,
+            &mut next,
+            &mut seen,
+            &mut queue,
+        )
     }
 }

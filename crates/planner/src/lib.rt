@@ -306,7 +306,7 @@ fn find_next(
 }
 
 // The half-edges of the largest table.
-const HALF_EDGES: usize = 2048;
+pub const HALF_EDGES: usize = 2048;
 
 // Marks the basins whose byte is x, and counts them.
 fn write_marks(n: usize, seen: &[u8], x: u8, marks: &mut [u8]) -> u16

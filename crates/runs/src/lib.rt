@@ -6,7 +6,8 @@ ghost use lib.ListN.{length};
 ghost use Rattle.tables.specs.Rows.{netOf};
 ghost use Rattle.gates.specs.Ready.{Ready};
 ghost use Rattle.planner.specs.Seeks.{AtPlan};
-ghost use Rattle.runs.specs.Advances.{Advanced};
+ghost use Rattle.runs.specs.Advances.{Advanced, Spare, Primed};
+use planner::CheckAnswer;
 
 // Copies a row.
 fn copy_row(from: &[u8], to: &mut [u8])
@@ -17,6 +18,37 @@ fn copy_row(from: &[u8], to: &mut [u8])
     while i < from.len() {
         to[i] = from[i];
         i += 1;
+    }
+}
+
+// Prepares working memory for the plans after a setting, if it is a plan: its ways, and the index of the half-edges. Says whether it is.
+pub fn prime(
+    basins: u16,
+    kinds: &[u8],
+    a: &[u16],
+    b: &[u16],
+    setting: &[u8],
+    ways: &mut [u8],
+    head: &mut [u16],
+    next: &mut [u16],
+) -> bool
+    requires { ⌜ Spare (now kinds) (now ways) (now head) (now next) ⌝ }
+    ensures { λ r. ⌜ Primed basins (now (kinds .entry)) (now (a .entry)) (now (b .entry)) (now (setting .entry)) (now (ways .exit)) (now (head .exit)) (now (next .exit)) r ⌝ }
+{
+    if a.len() != kinds.len() {
+        return false;
+    }
+    if b.len() != kinds.len() {
+        return false;
+    }
+    match planner::check_rows(basins, kinds, a, b, setting) {
+        CheckAnswer::Refused(_) => false,
+        CheckAnswer::No => false,
+        CheckAnswer::Yes => {
+            tables::hang(kinds, setting, ways);
+            search::index(basins as usize, a, b, head, next);
+            true
+        }
     }
 }
 

@@ -1,43 +1,45 @@
--- `listing::line_after` meets its contract: the line that the reply of next calls for.
+-- `listing::line_after` meets its contract: either way the state is that of the line after the plan's.
 -- Assumes nothing.
-use native.Mathlib.Omega.{arith}
-use mathlib.Core.Path.{sym, refl}
-use lib.Seq.{length-take-le}
-use Rattle.listing.proofs.Sizes.{lister-size}
-use Rattle.listing.proofs.States.{next-state}
+use mathlib.Core.Path.{sym, _∙_}
 use borrow.Author.Needs.{needs}
+use Rattle.gates.proofs.Readies.{ready-ways, ready-notes}
+use Rattle.listing.specs.Keeping.{unknown, kept}
+use Rattle.listing.proofs.Steps.{known}
 use Rattle.listing.proofs.line_after.Statement.{statement}
 use Rattle.listing.proofs.line_after.Tie as tie
 
-array-share-prefix-setting : tie.Need-array-share-prefix-setting
-array-share-prefix-setting c = let s = c .before .before .before .before .before in omega (arith, s .pre, lister-size (s .args .l) (s .good .0))
+stepped-requires : tie.Need-stepped-requires
+stepped-requires c κs = let s = c .before .before .before .before .before .before .before .before .before .before .before .before .before .before in let k = known (s .pre .1) (c .before .before .before .before .if1 .taken) in (s .pre .0, (k .ready, (k .stands, k .spare)))
 
-slice-aggregate-next-plan-rows : tie.Need-slice-aggregate-next-plan-rows
-slice-aggregate-next-plan-rows c = let s = c .before .before .before .before .before .before in sym (length-take-le _ (s .args .l .setting) (omega (arith, s .pre, lister-size (s .args .l) (s .good .0))))
+same-length : tie.Need-same-length
+same-length c = search needs
 
-slice-aggregate-next-plan-rows-2 : tie.Need-slice-aggregate-next-plan-rows-2
-slice-aggregate-next-plan-rows-2 c = search needs
+same-length-2 : tie.Need-same-length-2
+same-length-2 c = search needs
 
-slice-aggregate-next-plan-rows-3 : tie.Need-slice-aggregate-next-plan-rows-3
-slice-aggregate-next-plan-rows-3 c = search needs
+same-length-3 : tie.Need-same-length-3
+same-length-3 c = search needs
 
-next-plan-rows-requires : tie.Need-next-plan-rows-requires
-next-plan-rows-requires c κs = search needs
-
-due-of-requires : tie.Need-due-of-requires
-due-of-requires c κs = search needs
+same-length-4 : tie.Need-same-length-4
+same-length-4 c = search needs
 
 returns : tie.Need-returns
-returns c = let s = c .before .before .before .before .before .before .before .before .before .before .before .before in next-state (s .args .l) (s .args .kinds .now) (s .args .a .now) (s .args .b .now) _ (s .args .left) (lister-size (s .args .l) (s .good .0)) refl (c .due-of .ensures) (s .pre) (c .before .before .before .next-plan-rows .ensures)
+returns c =
+    let s = c .before .before .before .before .before .before .before .before .before .before .before .before .before .before .before .before .before .before .before .before .before .before .before in
+    let taken = c .before .before .before .before .before .before .before .before .before .before .before .before .before .if1 .taken in
+    let k = known (s .pre .1) taken in
+    let t = c .before .before .before .before .before .before .before .before .stepped in
+    let l = t .kept in (
+      t .ensures .0,
+      kept taken (ready-notes _ _ (ready-ways _ (k .ready) (l .1 .1 .1 .1 .1 .1 .1 .0)) (l .1 .1 .1 .1 .1 .1 .1 .1 .1 .1 .0) (l .1 .1 .1 .1 .1 .1 .1 .1 .1 .1 .1 .0))
+          (l .1 .1 .1 .1 .1 .1 .0 ∙ k .spare ∙ sym (l .1 .1 .1 .1 .1 .1 .1 .0)) (t .ensures .1),
+    )
+
+asked-requires : tie.Need-asked-requires
+asked-requires c κs = c .before .before .before .before .before .before .before .before .before .before .pre .0
+
+returns-2 : tie.Need-returns-2
+returns-2 c = (c .asked .ensures, unknown (c .before .if1 .left))
 
 pub line-after-spec : {M : Type 1} → statement M
-line-after-spec =
-    tie.close
-    (tie.spec
-    array-share-prefix-setting
-    slice-aggregate-next-plan-rows
-    slice-aggregate-next-plan-rows-2
-    slice-aggregate-next-plan-rows-3
-    next-plan-rows-requires
-    due-of-requires
-    returns)
+line-after-spec = tie.close (tie.spec stepped-requires same-length same-length-2 same-length-3 same-length-4 returns asked-requires returns-2)

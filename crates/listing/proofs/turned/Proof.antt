@@ -1,10 +1,12 @@
 -- `listing::turned` meets its contract: only the line of a plan that is printed is left.
 -- Assumes nothing.
 use native.Mathlib.Omega.{arith}
-use mathlib.Core.Path.{ap}
+use mathlib.Core.Path.{ap, subst}
+use lib.ListN.{take}
 use Rattle.listing.specs.declared.Due.{Due}
 use Rattle.listing.specs.Pending.{linesAfter, planIn, lentNet}
 use Rattle.listing.specs.Parts.{planLength}
+use Rattle.listing.specs.Keeping.{Kept}
 use Rattle.listing.proofs.Sizes.{lister-size}
 use Rattle.listing.proofs.Turns.{turned-none, turned-next, turned-last}
 use borrow.Author.Needs.{needs}
@@ -18,7 +20,12 @@ plan-length-requires : tie.Need-plan-length-requires
 plan-length-requires c κs = search needs
 
 line-after-requires : tie.Need-line-after-requires
-line-after-requires c κs = search needs
+line-after-requires c κs =
+    let s = c .before .before .before .before .before .before .before .before .before .before .before .before .before .before .before .before .before .before .before in (
+      s .pre .0,
+      subst (λ (d : Due). Kept (s .args .l .basins) (s .args .kinds .now) (s .args .a .now) (s .args .b .now) d (take (s .args .g) (s .args .l .setting)) (s .args .under .now) (s .args .ways .now) (s .args .head .now) (s .args .next .now) (s .args .seen .now) (s .args .queue .now) (s .args .standing))
+          (c .before .before .before .before .before .before .before .before .due .given .1) (s .pre .1),
+    )
 
 enum-told : tie.Need-enum-told
 enum-told c = search needs
@@ -30,19 +37,39 @@ enum-told-3 : tie.Need-enum-told-3
 enum-told-3 c = search needs
 
 returns : tie.Need-returns
-returns c = let s = c .before .before .before .before .before .before .before .before .before in turned-none (lentNet (s .args .l) (s .args .kinds .now) (s .args .a .now) (s .args .b .now)) (s .args .l) (lister-size (s .args .l) (s .good .0)) _ (c .before .before .before .before .due .given .1) (omega (arith, c .if1 .taken, c .before .before .plan-length .ensures, ap planLength (s .pre)))
+returns c =
+    let s = c .before .before .before .before .before .before .before .before .before .before .before .before .before .before .before in
+    (turned-none (lentNet (s .args .l) (s .args .kinds .now) (s .args .a .now) (s .args .b .now)) (s .args .l) (lister-size (s .args .l) (s .good .0)) _ (c .before .before .before .before .due .given .1) (omega (arith, c .if1 .taken, c .before .before .plan-length .ensures, ap planLength (s .pre .0))), s .pre .1)
+
+same-length : tie.Need-same-length
+same-length c = search needs
+
+same-length-2 : tie.Need-same-length-2
+same-length-2 c = search needs
+
+same-length-3 : tie.Need-same-length-3
+same-length-3 c = search needs
+
+same-length-4 : tie.Need-same-length-4
+same-length-4 c = search needs
 
 returns-2 : tie.Need-returns-2
-returns-2 c = let s = c .before .before .before .before .before .before .before .before .before .before in turned-next (lentNet (s .args .l) (s .args .kinds .now) (s .args .a .now) (s .args .b .now)) (s .args .l) (lister-size (s .args .l) (s .good .0)) _ (c .line-after .result) (c .before .before .before .before .before .due .given .1) (omega (arith, c .before .if1 .left, c .before .before .before .plan-length .ensures, ap planLength (s .pre))) (c .line-after .ensures)
+returns-2 c =
+    let s = c .before .before .before .before .before .before .before .before .before .before .before .before .before .before .before .before .before .before .before .before .before .before .before .before .before .before .before .before in
+    let t = c .before .before .before .before .before .before .before .before .line-after in (
+      turned-next (lentNet (s .args .l) (s .args .kinds .now) (s .args .a .now) (s .args .b .now)) (s .args .l) (lister-size (s .args .l) (s .good .0)) _ (t .result) (c .before .before .before .before .before .before .before .before .before .before .before .before .before .before .before .before .before .due .given .1)
+          (omega (arith, c .before .before .before .before .before .before .before .before .before .before .before .before .before .if1 .left, c .before .before .before .before .before .before .before .before .before .before .before .before .before .before .before .plan-length .ensures, ap planLength (s .pre .0))) (t .ensures .0),
+      t .ensures .1,
+    )
 
 returns-3 : tie.Need-returns-3
-returns-3 c = let s = c .before .before .before .before .before in turned-last (lentNet (s .args .l) (s .args .kinds .now) (s .args .a .now) (s .args .b .now)) (s .args .l) (ap (λ (d : Due). linesAfter (lentNet (s .args .l) (s .args .kinds .now) (s .args .a .now) (s .args .b .now)) d (planIn (lentNet (s .args .l) (s .args .kinds .now) (s .args .a .now) (s .args .b .now)) (s .args .l))) (c .enum-told .given .1))
+returns-3 c = let s = c .before .before .before .before .before .before .before .before .before .before .before in (turned-last (lentNet (s .args .l) (s .args .kinds .now) (s .args .a .now) (s .args .b .now)) (s .args .l) (ap (λ (d : Due). linesAfter (lentNet (s .args .l) (s .args .kinds .now) (s .args .a .now) (s .args .b .now)) d (planIn (lentNet (s .args .l) (s .args .kinds .now) (s .args .a .now) (s .args .b .now)) (s .args .l))) (c .enum-told .given .1)), s .pre .1)
 
 returns-4 : tie.Need-returns-4
-returns-4 c = let s = c .before .before .before .before .before in turned-last (lentNet (s .args .l) (s .args .kinds .now) (s .args .a .now) (s .args .b .now)) (s .args .l) (ap (λ (d : Due). linesAfter (lentNet (s .args .l) (s .args .kinds .now) (s .args .a .now) (s .args .b .now)) d (planIn (lentNet (s .args .l) (s .args .kinds .now) (s .args .a .now) (s .args .b .now)) (s .args .l))) (c .enum-told2 .given .1))
+returns-4 c = let s = c .before .before .before .before .before .before .before .before .before .before .before in (turned-last (lentNet (s .args .l) (s .args .kinds .now) (s .args .a .now) (s .args .b .now)) (s .args .l) (ap (λ (d : Due). linesAfter (lentNet (s .args .l) (s .args .kinds .now) (s .args .a .now) (s .args .b .now)) d (planIn (lentNet (s .args .l) (s .args .kinds .now) (s .args .a .now) (s .args .b .now)) (s .args .l))) (c .enum-told2 .given .1)), s .pre .1)
 
 returns-5 : tie.Need-returns-5
-returns-5 c = let s = c .before .before .before .before .before in turned-last (lentNet (s .args .l) (s .args .kinds .now) (s .args .a .now) (s .args .b .now)) (s .args .l) (ap (λ (d : Due). linesAfter (lentNet (s .args .l) (s .args .kinds .now) (s .args .a .now) (s .args .b .now)) d (planIn (lentNet (s .args .l) (s .args .kinds .now) (s .args .a .now) (s .args .b .now)) (s .args .l))) (c .enum-told3 .given .1))
+returns-5 c = let s = c .before .before .before .before .before .before .before .before .before .before .before in (turned-last (lentNet (s .args .l) (s .args .kinds .now) (s .args .a .now) (s .args .b .now)) (s .args .l) (ap (λ (d : Due). linesAfter (lentNet (s .args .l) (s .args .kinds .now) (s .args .a .now) (s .args .b .now)) d (planIn (lentNet (s .args .l) (s .args .kinds .now) (s .args .a .now) (s .args .b .now)) (s .args .l))) (c .enum-told3 .given .1)), s .pre .1)
 
 pub turned-spec : {M : Type 1} → statement M
 turned-spec =
@@ -55,6 +82,10 @@ turned-spec =
     enum-told-2
     enum-told-3
     returns
+    same-length
+    same-length-2
+    same-length-3
+    same-length-4
     returns-2
     returns-3
     returns-4

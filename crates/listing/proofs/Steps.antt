@@ -1,0 +1,135 @@
+-- The state after the line of a plan, from a step in working memory that stands at it.
+-- Assumes nothing.
+use Prim.Native.Nat.{ℕ, zero, suc, _≤_}
+use native.Mathlib.Omega.{arith}
+use mathlib.Core.Path.{_≡_, refl, sym, ap, subst, subst⁻¹, _∙_}
+use mathlib.Core.Bool.{Bool, true, false, true≢false}
+use mathlib.Core.List.{List, _++_}
+use lib.ListN.{length, take, drop}
+use Rattle.network.specs.declared.Refusal.the-variants.{LastPlan}
+use Rattle.network.specs.Networks.{Network, maxBasins, maxReaches}
+use Rattle.network.specs.Settings.{settingFault}
+use Rattle.network.specs.Plans.{isPlan}
+use Rattle.network.specs.Marks.{markBytes}
+use Rattle.network.specs.Replies.{Outcome, plan, refused, nextAnswer, nextReply}
+use Rattle.network.proofs.Bools.{clash}
+use Rattle.network.proofs.Networks.{accepted}
+use Rattle.network.proofs.Order.{setting-length, plan-setting}
+use Rattle.tables.specs.Rows.{netOf, gatesIn, waysRow, bytesRow}
+use Rattle.tables.proofs.Laws.{row-gates}
+use Rattle.gates.specs.Ready.{Ready}
+use Rattle.planner.specs.Seeks.{AtPlan}
+use Rattle.runs.specs.Advances.{Advanced, moved, at-last, Spare, Primed, elsewhere, at-plan}
+use Rattle.runs.proofs.Advances.{spare-ready}
+use Rattle.listing.specs.declared.Due.{Due}
+use Rattle.listing.specs.declared.Due.the-variants as D
+use Rattle.listing.specs.declared.Lister.{Lister}
+use Rattle.listing.specs.Listings.{replyLines}
+use Rattle.listing.specs.Pending.{gatesHeld, pendingOf, lentNet}
+use Rattle.listing.specs.Parts.{planDue, LineAfter}
+use Rattle.listing.specs.Keeping.{Standing, Kept, unknown, kept}
+use Rattle.listing.proofs.States.{GivenPlan, gates-fit, roomy, plan-held, reply-pending}
+
+module _ (l : Lister) (ks xs ys ws : List ℕ) (left g : ℕ) (held : g ≡ gatesHeld (lentNet l ks xs ys)) (p : AtPlan (l .basins) ks xs ys (take g (l .setting)) ws) where
+  abbrev N : Network
+  N = lentNet l ks xs ys
+
+  abbrev s : List ℕ
+  s = take g (l .setting)
+
+  -- the gates are as many as the kinds say, and the state holds a byte for each
+  gates-are : (q : List ℕ) → isPlan N q ≡ true → length q ≡ gatesIn ks
+  gates-are q e = setting-length N q (plan-setting N q e) ∙ row-gates ks xs ys (p .level .ends-a) (p .level .ends-b) 0
+
+  pub gates-room : gatesIn ks ≤ maxReaches
+  gates-room = omega (arith, gates-fit N (p .level .accepted), row-gates ks xs ys (p .level .ends-a) (p .level .ends-b) 0)
+
+  -- the reply of next, with room enough
+  replies : nextReply N s maxReaches markBytes ≡ nextAnswer N s
+  unfolding nextReply settingFault
+  replies = rw (p .level .accepted, plan-setting N s (p .is-plan), roomy N (p .level .accepted))
+
+  -- its lines are those after the plan's
+  lines-after : {o : Outcome} (r : Lister) → nextAnswer N s ≡ o → r .basins ≡ l .basins → r .at ≡ 0 → pendingOf N r ≡ replyLines N left o → LineAfter N l left r
+  lines-after {o} r e same begun lines =
+      record {
+        basins-kept = same;
+        begun = begun;
+        lines = lines ∙ ap (replyLines N left) (sym (replies ∙ e)) ∙ ap (λ (k : ℕ). replyLines N left (nextReply N (take k (l .setting)) maxReaches markBytes)) held;
+      }
+
+  abbrev ended : Lister
+  ended = record { basins = l .basins; due = D.End; at = 0; setting = l .setting }
+
+  pub step-last : nextAnswer N s ≡ refused LastPlan → LineAfter N l left ended
+  step-last e = lines-after ended e refl refl (reply-pending N (l .setting) (refused LastPlan) (λ q f. absurd (true≢false cc)) left ended refl refl refl)
+
+  module _ {ws′ bytes : List ℕ} {d : Due} (due : d ≡ planDue left) (e : nextAnswer N s ≡ plan (bytesRow ks ws′)) (is : isPlan N (bytesRow ks ws′) ≡ true) (hung : ws′ ≡ waysRow ks (bytesRow ks ws′))
+      (put : bytes ≡ bytesRow ks ws′ ++ drop (gatesIn ks) (l .setting)) where
+    abbrev q : List ℕ
+    q = bytesRow ks ws′
+
+    given : GivenPlan N q
+    given = record { table = p .level .accepted; is-plan = is }
+
+    abbrev after : Lister
+    after = record { basins = l .basins; due = d; at = 0; setting = bytes }
+
+    pub step-next : LineAfter N l left after
+    step-next =
+        lines-after after e refl refl
+        (reply-pending N (l .setting) (plan q) (λ t f. record { table = p .level .accepted; is-plan = subst (λ (v : List ℕ). isPlan N v ≡ true) (plan-one f) is }) left after due refl
+        (put ∙ ap (λ (k : ℕ). q ++ drop k (l .setting)) (sym (gates-are q is))))
+      where
+        plan-one : {v t : List ℕ} → plan v ≡ plan t → v ≡ t
+        plan-one f = cc
+
+    in-hand : take g bytes ≡ q
+    in-hand = ap (take g) put ∙ ap (λ (k : ℕ). take k (q ++ drop (gatesIn ks) (l .setting))) held ∙ plan-held N q given (drop (gatesIn ks) (l .setting))
+
+    pub step-stands : Standing (l .basins) ks xs ys d (take g bytes) ws′
+    step-stands = subst⁻¹ (λ (x : Due). Standing (l .basins) ks xs ys x (take g bytes) ws′) due (stands left)
+      where
+        stands : (k : ℕ) → Standing (l .basins) ks xs ys (planDue k) (take g bytes) ws′
+        stands zero = tt
+        stands (suc k) = subst⁻¹ (λ (v : List ℕ). AtPlan (l .basins) ks xs ys v ws′) in-hand (record { level = p .level; is-plan = is; hung = hung })
+
+-- ---- what a step says
+
+pub was-last : {N : Network} {ks s ws′ : List ℕ} {r : Bool} → Advanced N ks s ws′ r → r ≡ false → nextAnswer N s ≡ refused LastPlan
+was-last (moved y e is hung) n = clash y n
+was-last (at-last y e) n = e
+
+pub record Next (N : Network) (ks s ws′ : List ℕ) : Type 0 where
+  pub is-next : nextAnswer N s ≡ plan (bytesRow ks ws′)
+  pub is-plan : isPlan N (bytesRow ks ws′) ≡ true
+  pub hung : ws′ ≡ waysRow ks (bytesRow ks ws′)
+
+pub was-next : {N : Network} {ks s ws′ : List ℕ} {r : Bool} → Advanced N ks s ws′ r → r ≡ true → Next N ks s ws′
+was-next (moved y e is hung) t = record { is-next = e; is-plan = is; hung = hung }
+was-next (at-last y e) t = clash t y
+
+-- ---- working memory that is kept
+
+pub record Known (n : ℕ) (ks xs ys : List ℕ) (d : Due) (s us ws head next seen queue : List ℕ) : Type 0 where
+  pub ready : Ready n xs ys ws head next seen queue
+  pub spare : length us ≡ length ws
+  pub stands : Standing n ks xs ys d s ws
+
+pub known : {n : ℕ} {ks xs ys : List ℕ} {d : Due} {s us ws head next seen queue : List ℕ} {r : Bool} → Kept n ks xs ys d s us ws head next seen queue r → r ≡ true
+    → Known n ks xs ys d s us ws head next seen queue
+known (unknown y) t = clash t y
+known (kept y ready spare stands) t = record { ready = ready; spare = spare; stands = stands }
+
+-- working memory that was prepared
+pub primed-kept : {n : ℕ} {ks xs ys s us ws ws₀ head head₀ next next₀ seen queue : List ℕ} {r : Bool} (d : Due) → Spare ks ws₀ head₀ next₀ → length ws ≡ length ws₀ → length us ≡ length ws
+    → length seen ≡ maxBasins → length queue ≡ maxBasins → Primed n ks xs ys s ws head next r → Kept n ks xs ys d s us ws head next seen queue r
+primed-kept d z e f seen-long queue-long (elsewhere y) = unknown y
+primed-kept {n} {ks} {xs} {ys} {s} {us} {ws} d z e f seen-long queue-long (at-plan y p ix) =
+    kept y (spare-ready (p .level) z e ix (omega (arith, seen-long, accepted (netOf n ks xs ys) (p .level .accepted) .few-basins)) (omega (arith, seen-long, queue-long))) f (stands d)
+  where
+    stands : (c : Due) → Standing n ks xs ys c s ws
+    stands (D.Plan left) = p
+    stands D.More = tt
+    stands D.End = tt
+    stands (D.Refused k) = tt

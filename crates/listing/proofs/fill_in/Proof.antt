@@ -1,0 +1,120 @@
+-- `listing::fill_in` meets its contract: what is printed does not depend on whether the working memory stands at the plan in hand.
+-- Assumes nothing.
+use Prim.Native.Nat.{ℕ, _≤_}
+use native.Mathlib.Omega.{arith}
+use mathlib.Core.Path.{_≡_, refl, sym, _∙_}
+use mathlib.Core.List.{List}
+use lib.ListN.{length, take}
+use lib.Seq.{length-take-le}
+use borrow.Author.Needs.{needs}
+use Rattle.network.specs.Networks.{maxReaches}
+use Rattle.runs.specs.Advances.{Spare}
+use Rattle.listing.proofs.Sizes.{lister-size}
+use Rattle.listing.proofs.Steps.{primed-kept}
+use Rattle.listing.proofs.fill_in.Statement.{statement}
+use Rattle.listing.proofs.fill_in.Tie as tie
+
+-- a row that is cut to what the table needs
+cut : (m : ℕ) (xs : List ℕ) → length xs ≡ maxReaches → m ≤ maxReaches → length (take m xs) ≡ m
+cut m xs e h = length-take-le m xs (omega arith)
+
+-- the working memory where the ways are cut
+abbrev start : tie.After-hung → tie.Start
+start c = c .before .before .before .before .before .before .before .before .before .before .before .before .before .before
+
+few : (c : tie.After-hung) → c .before .before .least .result ≤ maxReaches
+few c = omega (arith, c .before .before .least .ensures)
+
+spare : (c : tie.After-hung) → let s = start c .args in Spare (s .kinds .now) (take (c .before .before .least .result) (s .ways .now)) (s .head .now) (s .next .now)
+spare c =
+    let s = start c in
+    record {
+      ways-spare = cut (c .before .before .least .result) (s .args .ways .now) (s .pre .ways-space) (few c) ∙ c .before .before .least .ensures;
+      head-spare = s .pre .head-space;
+      next-spare = s .pre .next-space;
+    }
+
+gates-held-requires : tie.Need-gates-held-requires
+gates-held-requires c κs = search needs
+
+least-requires : tie.Need-least-requires
+least-requires c κs = search needs
+
+slice-relend-prefix-hung : tie.Need-slice-relend-prefix-hung
+slice-relend-prefix-hung c = omega (arith, c .before .least .ensures, c .before .before .before .before .before .before .before .before .before .before .before .before .before .pre .ways-space)
+
+slice-aggregate-hung : tie.Need-slice-aggregate-hung
+slice-aggregate-hung c = let s = start c in sym (cut (c .before .before .least .result) (s .args .ways .now) (s .pre .ways-space) (few c))
+
+array-share-prefix-setting : tie.Need-array-share-prefix-setting
+array-share-prefix-setting c = let s = start c in omega (arith, c .before .before .before .gates-held .ensures, lister-size (s .args .l) (s .good .0))
+
+slice-aggregate-prime : tie.Need-slice-aggregate-prime
+slice-aggregate-prime c = let s = start (c .before) in sym (length-take-le _ (s .args .l .setting) (omega (arith, c .before .before .before .before .gates-held .ensures, lister-size (s .args .l) (s .good .0))))
+
+prime-requires : tie.Need-prime-requires
+prime-requires c κs = spare (c .before .before .before .before)
+
+slice-relend-prefix-print-lines : tie.Need-slice-relend-prefix-print-lines
+slice-relend-prefix-print-lines c = let h = c .before .before .before .before .before .before .before .before .before .before .before .before in omega (arith, few h, start h .pre .back-space)
+
+slice-aggregate-print-lines : tie.Need-slice-aggregate-print-lines
+slice-aggregate-print-lines c = let h = c .before .before .before .before .before .before .before .before .before .before .before .before .before in let s = start h in sym (cut (h .before .before .least .result) (s .args .under .now) (s .pre .back-space) (few h))
+
+print-lines-requires : tie.Need-print-lines-requires
+print-lines-requires c κs =
+    let h = c .before .before .before .before .before .before .before .before .before .before .before .before .before .before .before .before .before in
+    let s = start h in
+    let m = h .before .before .least .result in
+    let t = c .before .before .before .before .before .before .before .before .before .before .before .before .prime in
+    let long = t .kept .1 .1 .1 .1 .1 .0 in (
+      c .before .before .before .before .before .before .before .before .before .before .before .before .before .before .before .before .before .before .before .before .gates-held .ensures,
+      primed-kept (s .args .l .due) (spare h) long (cut m (s .args .under .now) (s .pre .back-space) (few h) ∙ sym (long ∙ cut m (s .args .ways .now) (s .pre .ways-space) (few h))) (s .pre .seen-space) (s .pre .queue-space) (t .ensures),
+    )
+
+same-length : tie.Need-same-length
+same-length c = search needs
+
+same-length-2 : tie.Need-same-length-2
+same-length-2 c = search needs
+
+same-length-3 : tie.Need-same-length-3
+same-length-3 c = search needs
+
+same-length-4 : tie.Need-same-length-4
+same-length-4 c = search needs
+
+same-length-5 : tie.Need-same-length-5
+same-length-5 c = search needs
+
+same-length-6 : tie.Need-same-length-6
+same-length-6 c = search needs
+
+same-length-7 : tie.Need-same-length-7
+same-length-7 c = search needs
+
+returns : tie.Need-returns
+returns c = c .before .before .before .before .before .before .before .before .before .before .print-lines .ensures
+
+pub fill-in-spec : {M : Type 1} → statement M
+fill-in-spec =
+    tie.close
+    (tie.spec
+    gates-held-requires
+    least-requires
+    slice-relend-prefix-hung
+    slice-aggregate-hung
+    array-share-prefix-setting
+    slice-aggregate-prime
+    prime-requires
+    slice-relend-prefix-print-lines
+    slice-aggregate-print-lines
+    print-lines-requires
+    same-length
+    same-length-2
+    same-length-3
+    same-length-4
+    same-length-5
+    same-length-6
+    same-length-7
+    returns)
