@@ -7,7 +7,7 @@ use listing::MAX_BYTES;
 use network::MAX_REACHES;
 
 // The bytes of one call that writes.
-const CHUNK: usize = 16384;
+const CHUNK: usize = 65536;
 
 // Prints what is to be printed, a buffer at a time, and stops early where the output takes no more.
 fn print(lister: Lister, kinds: &[u8], a: &[u16], b: &[u16], out: &mut [u8]) {
