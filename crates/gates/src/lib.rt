@@ -272,7 +272,7 @@ fn settle(
     ways[i] = 1;
 }
 
-// The same as `greedy` where no gate from `from` on is lone: one search for each gate.
+// The same as `greedy` where no reach is lone: one search for each gate, and none is stuck.
 pub fn complete(
     n: usize,
     kinds: &[u8],

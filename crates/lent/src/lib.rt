@@ -1,6 +1,6 @@
 // The lent reach table, a slice of records, taken apart into rows of numbers.
 // The borrow checker does not cover a slice of structs. So two functions have the slice in hand and are proved by a walk of their code, by
-// hand: `pack` and `unpack`. They copy one record after the other, and leave the work on it to `put` and `reach_of`, which are covered.
+// hand: `pack` and `unpack`. They go over the table once, in place, and leave one record to `numbers_of` and `reach_of`, which are covered.
 use network::Kind;
 use network::MAX_BASINS;
 use network::MAX_REACHES;

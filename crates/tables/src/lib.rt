@@ -5,7 +5,7 @@ use network::MAX_REACHES;
 use network::Refusal;
 ghost use mathlib.Core.Path.{_≡_};
 ghost use mathlib.Core.Bool.{_&&_};
-ghost use mathlib.Core.List.{[], _++_};
+ghost use mathlib.Core.List.{_++_};
 ghost use Prim.Native.Nat.{_≤_, min};
 ghost use lib.ListN.{length, drop};
 ghost use lib.Dec.{leb, eqb};
@@ -139,14 +139,6 @@ pub fn hang(kinds: &[u8], setting: &[u8], ways: &mut [u8])
         }
         i += 1;
     }
-}
-
-// The ways of all reaches with every gate usable either way.
-pub fn unhang(kinds: &[u8], ways: &mut [u8])
-    requires { ⌜ length (now ways) ≡ length (now kinds) ⌝ }
-    ensures { λ _. ⌜ now (ways .exit) ≡ waysRow (now (kinds .entry)) [] ⌝ }
-{
-    hang(kinds, &[], ways);
 }
 
 // Puts the bytes of the gated reaches, in reach order, to the front of the plan.
