@@ -92,24 +92,24 @@ module _ (n : ℕ) (ks xs ys : List ℕ) (ea : length xs ≡ length ks) (eb : le
         more : set (upTo N us i) i x ≡ upTo N us (suc i)
         more = up-more N (u .setting) us (u .is) i x below at
 
-        tried-on : {ws′ seen : List ℕ} {r : Bool} → Tried (leftOut xs ys (upTo N us i) i) n a b x (upTo N us i) i ws′ seen r → r ≡ true → Along N us ws′ (suc i)
+        tried-on : {ws′ : List ℕ} {r : Bool} → Tried (leftOut xs ys (upTo N us i) i) a b x (upTo N us i) i ws′ r → r ≡ true → Along N us ws′ (suc i)
         tried-on (hung p e q) y = record { is = e ∙ more; whole = subst (λ (v : List ℕ). Whole N v) more (law ∙ p) }
-        tried-on (lost p e q f) y = clash y q
+        tried-on (lost p e q) y = clash y q
 
-        tried-off : {ws′ seen : List ℕ} {r : Bool} → Tried (leftOut xs ys (upTo N us i) i) n a b x (upTo N us i) i ws′ seen r → r ≡ false → Followed N us ws′ i
+        tried-off : {ws′ : List ℕ} {r : Bool} → Tried (leftOut xs ys (upTo N us i) i) a b x (upTo N us i) i ws′ r → r ≡ false → Followed N us ws′ i
         tried-off (hung p e q) y = clash q y
-        tried-off (lost p e q f) y =
+        tried-off (lost p e q) y =
             let same = e ∙ up-either N (u .setting) us (u .is) i below g in
             stopped below same (subst⁻¹ (λ (v : List ℕ). Whole N v) same str) (subst (λ (v : List ℕ). Broken N v) more (law ∙ p))
 
       -- a gate that is as drawn was tried turned
-      parted-on : {ws′ seen : List ℕ} {r : Bool} → Tried (leftOut xs ys (upTo N us i) i) n (getD xs i 0) (getD ys i 0) 1 (upTo N us i) i ws′ seen r → r ≡ true → (ws′ ≡ set (upTo N us i) i 1) × Whole N ws′
+      parted-on : {ws′ : List ℕ} {r : Bool} → Tried (leftOut xs ys (upTo N us i) i) (getD xs i 0) (getD ys i 0) 1 (upTo N us i) i ws′ r → r ≡ true → (ws′ ≡ set (upTo N us i) i 1) × Whole N ws′
       parted-on (hung p e q) y = (e, subst⁻¹ (λ (v : List ℕ). Whole N v) e (turned-law ∙ p))
-      parted-on (lost p e q f) y = clash y q
+      parted-on (lost p e q) y = clash y q
 
-      parted-off : {ws′ seen : List ℕ} {r : Bool} → Tried (leftOut xs ys (upTo N us i) i) n (getD xs i 0) (getD ys i 0) 1 (upTo N us i) i ws′ seen r → r ≡ false → (ws′ ≡ upTo N us i) × Broken N (set (upTo N us i) i 1)
+      parted-off : {ws′ : List ℕ} {r : Bool} → Tried (leftOut xs ys (upTo N us i) i) (getD xs i 0) (getD ys i 0) 1 (upTo N us i) i ws′ r → r ≡ false → (ws′ ≡ upTo N us i) × Broken N (set (upTo N us i) i 1)
       parted-off (hung p e q) y = clash q y
-      parted-off (lost p e q f) y = (e ∙ up-either N (u .setting) us (u .is) i below g, turned-law ∙ p)
+      parted-off (lost p e q) y = (e ∙ up-either N (u .setting) us (u .is) i below g, turned-law ∙ p)
 
     -- ---- following
 
@@ -118,7 +118,7 @@ module _ (n : ℕ) (ks xs ys : List ℕ) (ea : length xs ≡ length ks) (eb : le
       same y = ap (λ (v : List ℕ). set v i y) (w .is)
 
       -- one reach more
-      pub follow-on : {ws′ seen : List ℕ} {r : Bool} → HungAs n ks xs ys us ws i ws′ seen r → r ≡ true → Along N us ws′ (suc i)
+      pub follow-on : {ws′ : List ℕ} {r : Bool} → HungAs ks xs ys us ws i ws′ r → r ≡ true → Along N us ws′ (suc i)
       follow-on (no-gate p e q) y =
           let plain = up-plain N (u .setting) us (u .is) i below (row-gated n ks xs ys ea eb i false l p) in
           record { is = e ∙ w .is ∙ sym plain; whole = subst⁻¹ (λ (v : List ℕ). Whole N v) plain (w .whole) }
@@ -126,7 +126,7 @@ module _ (n : ℕ) (ks xs ys : List ℕ) (ea : length xs ≡ length ks) (eb : le
       follow-on (as-turned p z t) y = let g = row-gated n ks xs ys ea eb i true l p in tried-on (w .whole) g (getD xs i 0) (getD ys i 0) 1 (byte-turned g z) (turned-law (w .whole) g) (tried-same xs ys ws (upTo N us i) i same t) y
 
       -- or the gate that loses something
-      pub follow-off : {ws′ seen : List ℕ} {r : Bool} → HungAs n ks xs ys us ws i ws′ seen r → r ≡ false → Followed N us ws′ i
+      pub follow-off : {ws′ : List ℕ} {r : Bool} → HungAs ks xs ys us ws i ws′ r → r ≡ false → Followed N us ws′ i
       follow-off (no-gate p e q) y = clash q y
       follow-off (as-drawn p z t) y = let g = row-gated n ks xs ys ea eb i true l p in tried-off (w .whole) g (getD ys i 0) (getD xs i 0) 0 (sym byte ∙ z) (drawn-law (w .whole) g) (tried-same xs ys ws (upTo N us i) i same t) y
       follow-off (as-turned p z t) y = let g = row-gated n ks xs ys ea eb i true l p in tried-off (w .whole) g (getD xs i 0) (getD ys i 0) 1 (byte-turned g z) (turned-law (w .whole) g) (tried-same xs ys ws (upTo N us i) i same t) y
@@ -145,7 +145,7 @@ module _ (n : ℕ) (ks xs ys : List ℕ) (ea : length xs ≡ length ks) (eb : le
           go (no d) = w .none j (omega arith) q
 
       -- one reach less
-      pub back-on : {ws′ seen : List ℕ} {r : Bool} → PartedAt n ks xs ys us ws i ws′ seen r → r ≡ false → Back N us to ws′ i
+      pub back-on : {ws′ : List ℕ} {r : Bool} → PartedAt ks xs ys us ws i ws′ r → r ≡ false → Back N us to ws′ i
       back-on (passed p q z) y =
           let g = row-gated n ks xs ys ea eb i false l p in
           record { is = q ∙ w .is ∙ ap (λ (j : ℕ). upTo N us j) e ∙ up-plain N (u .setting) us (u .is) i below g; none = more-none (λ h d. clash h g) }
@@ -158,7 +158,7 @@ module _ (n : ℕ) (ks xs ys : List ℕ) (ea : length xs ≡ length ks) (eb : le
           record { is = o .0; none = more-none (λ h x. o .1) }
 
       -- or the gate that was turned
-      pub back-found : {ws′ seen : List ℕ} {r : Bool} → PartedAt n ks xs ys us ws i ws′ seen r → r ≡ true → TurnedBack N us to ws′ i
+      pub back-found : {ws′ : List ℕ} {r : Bool} → PartedAt ks xs ys us ws i ws′ r → r ≡ true → TurnedBack N us to ws′ i
       back-found (passed p q z) y = clash y z
       back-found (freed p z q d) y = clash y d
       back-found (tried p z t) y =

@@ -19,9 +19,8 @@ use Rattle.network.proofs.Finds.{every-at, every-make, range-has, range-in}
 use Rattle.network.proofs.Walks.{Within, walk-trans, walk-reached, reached-walk, reached-same}
 use Rattle.search.specs.Ends.{arcsOf}
 use Rattle.search.specs.Searches.{Searchable, Searched}
-use Rattle.search.proofs.Laws.{reached-turned}
-use Rattle.gates.specs.Ready.{Ready, flipWay, FirstUnseen, Missed, Weakest}
-use Rattle.gates.specs.Hung.{Leads, leftOut, Tried, hung, lost, HungGate, drawn, turned, stuck, Settled, as-it-was, as-drawn, as-turned}
+use Rattle.gates.specs.Ready.{Ready, FirstUnseen, Missed, Weakest}
+use Rattle.gates.specs.Hung.{leftOut, Tried, hung, lost, HungGate, drawn, turned, stuck, Settled, as-it-was, as-drawn, as-turned}
 
 pub searchable : {n : ℕ} {xs ys ws head next seen queue : List ℕ} (start : ℕ) → Ready n xs ys ws head next seen queue → start < n → Searchable n xs ys ws head next start seen queue
 searchable start r l =
@@ -36,23 +35,18 @@ pub ready-notes : {n : ℕ} {xs ys ws head next seen queue : List ℕ} (seen′ 
 ready-notes seen′ queue′ r e f =
     record { some-basin = r .some-basin; few-basins = r .few-basins; table = r .table; ways-full = r .ways-full; index = r .index; seen-room = omega (arith, r .seen-room); queue-room = omega (arith, r .queue-room) }
 
-pub searched-leads : {A : List Arc} {n u v : ℕ} {seen : List ℕ} {r : Bool} → Searched A n u v seen r → Leads A n u v seen r
-searched-leads s = record { found = s .found; noted = s .whole }
-
 -- a reach that was left out gets its way, or is usable either way again
-pub tried-hung : {A : List Arc} {n u v : ℕ} {seen : List ℕ} {r : Bool} (ws : List ℕ) (i x : ℕ) → Leads A n u v seen r → r ≡ true → Tried A n u v x ws i (set (set ws i 3) i x) seen true
-tried-hung ws i x l e = hung (sym (l .found) ∙ e) (set-set ws i 3 x) refl
+pub tried-hung : {A : List Arc} {u v : ℕ} {r : Bool} (ws : List ℕ) (i x : ℕ) → r ≡ reached A u v → r ≡ true → Tried A u v x ws i (set (set ws i 3) i x) true
+tried-hung ws i x f e = hung (sym f ∙ e) (set-set ws i 3 x) refl
 
-pub tried-lost : {A : List Arc} {n u v x : ℕ} {seen : List ℕ} {r : Bool} (ws : List ℕ) (i : ℕ) → Leads A n u v seen r → r ≡ false → Tried A n u v x ws i (set (set ws i 3) i 2) seen false
-tried-lost ws i l e = lost (sym (l .found) ∙ e) (set-set ws i 3 2) refl (l .noted e)
+pub tried-lost : {A : List Arc} {u v x : ℕ} {r : Bool} (ws : List ℕ) (i : ℕ) → r ≡ reached A u v → r ≡ false → Tried A u v x ws i (set (set ws i 3) i 2) false
+tried-lost ws i f e = lost (sym f ∙ e) (set-set ws i 3 2) refl
 
 -- only the ways of the other reaches matter
-pub tried-same : {n u v x : ℕ} (xs ys ws vs : List ℕ) (i : ℕ) {ws′ seen : List ℕ} {r : Bool} → ((y : ℕ) → set ws i y ≡ set vs i y)
-    → Tried (leftOut xs ys ws i) n u v x ws i ws′ seen r → Tried (leftOut xs ys vs i) n u v x vs i ws′ seen r
+pub tried-same : {u v x : ℕ} (xs ys ws vs : List ℕ) (i : ℕ) {ws′ : List ℕ} {r : Bool} → ((y : ℕ) → set ws i y ≡ set vs i y)
+    → Tried (leftOut xs ys ws i) u v x ws i ws′ r → Tried (leftOut xs ys vs i) u v x vs i ws′ r
 tried-same {u} {v} {x} xs ys ws vs i f (hung p e q) = hung (subst (λ (l : List ℕ). reached (arcsOf xs ys l) u v ≡ true) (f 3) p) (e ∙ f x) q
-tried-same {n} {u} {v} xs ys ws vs i {seen} f (lost p e q g) =
-    lost (subst (λ (l : List ℕ). reached (arcsOf xs ys l) u v ≡ false) (f 3) p) (e ∙ f 2) q
-    (subst (λ (l : List ℕ). (w : ℕ) → w < n → getD seen w 0 ≡ bit (reached (arcsOf xs ys l) u w)) (f 3) g)
+tried-same {u} {v} xs ys ws vs i f (lost p e q) = lost (subst (λ (l : List ℕ). reached (arcsOf xs ys l) u v ≡ false) (f 3) p) (e ∙ f 2) q
 
 -- ---- a gate
 
@@ -65,30 +59,51 @@ kind-plain zero n = absurd (n refl)
 kind-plain (suc zero) n = refl
 kind-plain (suc (suc k)) n = refl
 
-module _ {n : ℕ} (ks : List ℕ) {xs ys : List ℕ} (ws : List ℕ) (i : ℕ) (g : isGated (kindOf (getD ks i 0)) ≡ true) {ws₁ seen₁ : List ℕ} {r₁ : Bool} where
+module _ (xs ys ws : List ℕ) (i : ℕ) {u v x : ℕ} {ws₁ : List ℕ} {r₁ : Bool} where
+  -- after a try that failed, the ways but for that of the reach are as they were
+  freed-same : Tried (leftOut xs ys ws i) u v x ws i ws₁ r₁ → r₁ ≡ false → (z : ℕ) → set ws₁ i z ≡ set ws i z
+  freed-same (hung p e q) y z = clash q y
+  freed-same (lost p e q) y z = ap (λ (w : List ℕ). set w i z) e ∙ set-set ws i 2 z
+
+  not-led : Tried (leftOut xs ys ws i) u v x ws i ws₁ r₁ → r₁ ≡ false → reached (leftOut xs ys ws i) u v ≡ false
+  not-led (hung p e q) y = clash q y
+  not-led (lost p e q) y = p
+
+module _ (ks : List ℕ) {xs ys : List ℕ} (ws : List ℕ) (i : ℕ) (g : isGated (kindOf (getD ks i 0)) ≡ true) {ws₁ : List ℕ} {r₁ : Bool} where
   -- the first try succeeded
-  pub gate-drawn : Tried (leftOut xs ys ws i) n (getD ys i 0) (getD xs i 0) 0 ws i ws₁ seen₁ r₁ → r₁ ≡ true → HungGate n ks xs ys ws i ws₁ seen₁ true
+  pub gate-drawn : {n : ℕ} {seen : List ℕ} → Tried (leftOut xs ys ws i) (getD ys i 0) (getD xs i 0) 0 ws i ws₁ r₁ → r₁ ≡ true → HungGate n ks xs ys ws i ws₁ seen true
   gate-drawn (hung p e q) y = drawn g p e refl
-  gate-drawn (lost p e q f) y = clash y q
+  gate-drawn (lost p e q) y = clash y q
 
   -- and where the gate is settled
-  pub settled-drawn : Tried (leftOut xs ys ws i) n (getD ys i 0) (getD xs i 0) 0 ws i ws₁ seen₁ r₁ → r₁ ≡ true → Settled ks xs ys ws i ws₁
+  pub settled-drawn : Tried (leftOut xs ys ws i) (getD ys i 0) (getD xs i 0) 0 ws i ws₁ r₁ → r₁ ≡ true → Settled ks xs ys ws i ws₁
   settled-drawn (hung p e q) y = as-drawn g p e
-  settled-drawn (lost p e q f) y = clash y q
+  settled-drawn (lost p e q) y = clash y q
 
-  pub settled-turned : Tried (leftOut xs ys ws i) n (getD ys i 0) (getD xs i 0) 0 ws i ws₁ seen₁ r₁ → r₁ ≡ false → Settled ks xs ys ws i (set ws₁ i 1)
+  pub settled-turned : Tried (leftOut xs ys ws i) (getD ys i 0) (getD xs i 0) 0 ws i ws₁ r₁ → r₁ ≡ false → Settled ks xs ys ws i (set ws₁ i 1)
   settled-turned (hung p e q) y = clash q y
-  settled-turned (lost p e q f) y = as-turned g p (ap (λ (v : List ℕ). set v i 1) e ∙ set-set ws i 2 1)
+  settled-turned (lost p e q) y = as-turned g p (ap (λ (v : List ℕ). set v i 1) e ∙ set-set ws i 2 1)
 
-  -- it did not, and the second decides
-  pub gate-turned : {ws₂ seen₂ : List ℕ} {r₂ : Bool} → Tried (leftOut xs ys ws i) n (getD ys i 0) (getD xs i 0) 0 ws i ws₁ seen₁ r₁ → r₁ ≡ false
-      → Tried (leftOut xs ys ws₁ i) n (getD xs i 0) (getD ys i 0) 1 ws₁ i ws₂ seen₂ r₂ → HungGate n ks xs ys ws i ws₂ seen₂ r₂
-  gate-turned (hung p e q) y t = clash q y
-  gate-turned (lost p e q f) y t = second (tried-same xs ys ws₁ ws i (λ z. ap (λ (v : List ℕ). set v i z) e ∙ set-set ws i 2 z) t)
+  -- it did not, and the second did
+  pub gate-turned : {n : ℕ} {ws₂ seen : List ℕ} {r₂ : Bool} → Tried (leftOut xs ys ws i) (getD ys i 0) (getD xs i 0) 0 ws i ws₁ r₁ → r₁ ≡ false
+      → Tried (leftOut xs ys ws₁ i) (getD xs i 0) (getD ys i 0) 1 ws₁ i ws₂ r₂ → r₂ ≡ true → HungGate n ks xs ys ws i ws₂ seen true
+  gate-turned {n} {ws₂} {seen} {r₂} t y u z = from (tried-same xs ys ws₁ ws i (freed-same xs ys ws i t y) u)
     where
-      second : {ws₂ seen₂ : List ℕ} {r₂ : Bool} → Tried (leftOut xs ys ws i) n (getD xs i 0) (getD ys i 0) 1 ws i ws₂ seen₂ r₂ → HungGate n ks xs ys ws i ws₂ seen₂ r₂
-      second (hung p′ e′ q′) = turned g p p′ e′ q′
-      second (lost p′ e′ q′ f′) = stuck g p p′ q′ f′
+      from : Tried (leftOut xs ys ws i) (getD xs i 0) (getD ys i 0) 1 ws i ws₂ r₂ → HungGate n ks xs ys ws i ws₂ seen true
+      from (hung p e q) = turned g (not-led xs ys ws i t y) p e refl
+      from (lost p e q) = clash z q
+
+  -- neither did, and a whole search without the reach notes what its end A leads to
+  pub gate-stuck : {n goal : ℕ} {ws₂ ws′ seen : List ℕ} {r₂ found : Bool} → Tried (leftOut xs ys ws i) (getD ys i 0) (getD xs i 0) 0 ws i ws₁ r₁ → r₁ ≡ false
+      → Tried (leftOut xs ys ws₁ i) (getD xs i 0) (getD ys i 0) 1 ws₁ i ws₂ r₂ → r₂ ≡ false → n ≤ goal
+      → Searched (arcsOf xs ys (set ws₂ i 3)) n (getD xs i 0) goal seen found → HungGate n ks xs ys ws i ws′ seen false
+  gate-stuck {n} {goal} {ws₂} {ws′} {seen} {r₂} {found} t y u z far s = from (tried-same xs ys ws₁ ws i (freed-same xs ys ws i t y) u)
+    where
+      from : Tried (leftOut xs ys ws i) (getD xs i 0) (getD ys i 0) 1 ws i ws₂ r₂ → HungGate n ks xs ys ws i ws′ seen false
+      from (hung p e q) = clash q z
+      from (lost p e q) =
+          stuck g (not-led xs ys ws i t y) p refl
+          (subst (λ (l : List ℕ). (v : ℕ) → v < n → getD seen v 0 ≡ bit (reached (arcsOf xs ys l) (getD xs i 0) v)) (ap (λ (v : List ℕ). set v i 3) e ∙ set-set ws i 2 3) (s .whole (s .outside far)))
 
 -- ---- all basins
 
@@ -110,39 +125,6 @@ missed-first {A} {n} {start} {goal} {seen} {r} far s f =
       at = λ l. bit-0 (reached A start r) (sym (noted r l) ∙ f .at l);
       noted = noted;
     }
-
--- ---- against the arrows
-
-flip-in : (w a b : ℕ) → Within (passing (flipWay w) a b) (passing w b a)
-flip-in zero a b y m = m
-flip-in (suc zero) a b y m = m
-flip-in (suc (suc zero)) a b y m = ⊎-elim (λ e. List·Memᴰ·tail (List·Memᴰ·head e)) (λ m′. ⊎-elim (λ e. List·Memᴰ·head e) (λ n. absurd (List·Memᴰ·not-nil n)) (List·Memᴰ·cases-cons m′)) (List·Memᴰ·cases-cons m)
-flip-in (suc (suc (suc w))) a b y m = m
-
-flip-out : (w a b : ℕ) → Within (passing w b a) (passing (flipWay w) a b)
-flip-out zero a b y m = m
-flip-out (suc zero) a b y m = m
-flip-out (suc (suc zero)) a b y m = ⊎-elim (λ e. List·Memᴰ·tail (List·Memᴰ·head e)) (λ m′. ⊎-elim (λ e. List·Memᴰ·head e) (λ n. absurd (List·Memᴰ·not-nil n)) (List·Memᴰ·cases-cons m′)) (List·Memᴰ·cases-cons m)
-flip-out (suc (suc (suc w))) a b y m = m
-
-append-within : {A B A′ B′ : List Arc} → Within A A′ → Within B B′ → Within (A ++ B) (A′ ++ B′)
-append-within {A} {B} {A′} {B′} f g y m = ⊎-elim (λ p. Memᴰ·append-left B′ (f y p)) (λ q. Memᴰ·append-right A′ (g y q)) (List·Memᴰ·append-cases A m)
-
-flips-in : (xs ys ws : List ℕ) → Within (arcsOf xs ys (map flipWay ws)) (arcsOf ys xs ws)
-flips-in [] ys ws y m = absurd (List·Memᴰ·not-nil m)
-flips-in (a ∷ xs) [] ws y m = absurd (List·Memᴰ·not-nil m)
-flips-in (a ∷ xs) (b ∷ ys) [] y m = absurd (List·Memᴰ·not-nil m)
-flips-in (a ∷ xs) (b ∷ ys) (w ∷ ws) y m = append-within (flip-in w a b) (flips-in xs ys ws) y m
-
-flips-out : (xs ys ws : List ℕ) → Within (arcsOf ys xs ws) (arcsOf xs ys (map flipWay ws))
-flips-out [] [] ws y m = absurd (List·Memᴰ·not-nil m)
-flips-out [] (b ∷ ys) ws y m = absurd (List·Memᴰ·not-nil m)
-flips-out (a ∷ xs) [] ws y m = absurd (List·Memᴰ·not-nil m)
-flips-out (a ∷ xs) (b ∷ ys) [] y m = absurd (List·Memᴰ·not-nil m)
-flips-out (a ∷ xs) (b ∷ ys) (w ∷ ws) y m = append-within (flip-out w a b) (flips-out xs ys ws) y m
-
-pub reached-flipped : (xs ys ws : List ℕ) (u v : ℕ) → reached (arcsOf xs ys (map flipWay ws)) u v ≡ reached (arcsOf xs ys ws) v u
-reached-flipped xs ys ws u v = reached-same (arcsOf xs ys (map flipWay ws)) (arcsOf ys xs ws) u v (flips-in xs ys ws) (flips-out xs ys ws) ∙ reached-turned xs ys ws u v
 
 -- ---- the lowest basin that does not reach all
 

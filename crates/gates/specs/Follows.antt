@@ -50,17 +50,17 @@ pub data TurnedBack (N : Network) (us : List ℕ) (to : ℕ) : List ℕ → ℕ 
   nowhere : {ws : List ℕ} {r : ℕ} → r ≡ length (N .reaches) → ((j : ℕ) → j < to → NoPart N us j) → TurnedBack N us to ws r
 
 -- What hanging reach i as us has it does: nothing if it is no gate, else it is tried as drawn where its byte is 0, turned where it is not.
-pub data HungAs (n : ℕ) (ks xs ys us ws : List ℕ) (i : ℕ) : List ℕ → List ℕ → Bool → Type 0 where
-  no-gate : {ws′ seen : List ℕ} {r : Bool} → isGated (kindOf (getD ks i 0)) ≡ false → ws′ ≡ ws → r ≡ true → HungAs n ks xs ys us ws i ws′ seen r
-  as-drawn : {ws′ seen : List ℕ} {r : Bool} → isGated (kindOf (getD ks i 0)) ≡ true → getD us i 0 ≡ 0
-      → Tried (leftOut xs ys ws i) n (getD ys i 0) (getD xs i 0) 0 ws i ws′ seen r → HungAs n ks xs ys us ws i ws′ seen r
-  as-turned : {ws′ seen : List ℕ} {r : Bool} → isGated (kindOf (getD ks i 0)) ≡ true → (getD us i 0 ≡ 0 → ⊥)
-      → Tried (leftOut xs ys ws i) n (getD xs i 0) (getD ys i 0) 1 ws i ws′ seen r → HungAs n ks xs ys us ws i ws′ seen r
+pub data HungAs (ks xs ys us ws : List ℕ) (i : ℕ) : List ℕ → Bool → Type 0 where
+  no-gate : {ws′ : List ℕ} {r : Bool} → isGated (kindOf (getD ks i 0)) ≡ false → ws′ ≡ ws → r ≡ true → HungAs ks xs ys us ws i ws′ r
+  as-drawn : {ws′ : List ℕ} {r : Bool} → isGated (kindOf (getD ks i 0)) ≡ true → getD us i 0 ≡ 0
+      → Tried (leftOut xs ys ws i) (getD ys i 0) (getD xs i 0) 0 ws i ws′ r → HungAs ks xs ys us ws i ws′ r
+  as-turned : {ws′ : List ℕ} {r : Bool} → isGated (kindOf (getD ks i 0)) ≡ true → (getD us i 0 ≡ 0 → ⊥)
+      → Tried (leftOut xs ys ws i) (getD xs i 0) (getD ys i 0) 1 ws i ws′ r → HungAs ks xs ys us ws i ws′ r
 
 -- What trying to part from us upwards at reach i does: nothing if it is no gate; if it is turned already it is usable either way; else it is tried turned.
-pub data PartedAt (n : ℕ) (ks xs ys us ws : List ℕ) (i : ℕ) : List ℕ → List ℕ → Bool → Type 0 where
-  passed : {ws′ seen : List ℕ} {r : Bool} → isGated (kindOf (getD ks i 0)) ≡ false → ws′ ≡ ws → r ≡ false → PartedAt n ks xs ys us ws i ws′ seen r
-  freed : {ws′ seen : List ℕ} {r : Bool} → isGated (kindOf (getD ks i 0)) ≡ true → (getD us i 0 ≡ 0 → ⊥) → ws′ ≡ set ws i 2 → r ≡ false
-      → PartedAt n ks xs ys us ws i ws′ seen r
-  tried : {ws′ seen : List ℕ} {r : Bool} → isGated (kindOf (getD ks i 0)) ≡ true → getD us i 0 ≡ 0
-      → Tried (leftOut xs ys ws i) n (getD xs i 0) (getD ys i 0) 1 ws i ws′ seen r → PartedAt n ks xs ys us ws i ws′ seen r
+pub data PartedAt (ks xs ys us ws : List ℕ) (i : ℕ) : List ℕ → Bool → Type 0 where
+  passed : {ws′ : List ℕ} {r : Bool} → isGated (kindOf (getD ks i 0)) ≡ false → ws′ ≡ ws → r ≡ false → PartedAt ks xs ys us ws i ws′ r
+  freed : {ws′ : List ℕ} {r : Bool} → isGated (kindOf (getD ks i 0)) ≡ true → (getD us i 0 ≡ 0 → ⊥) → ws′ ≡ set ws i 2 → r ≡ false
+      → PartedAt ks xs ys us ws i ws′ r
+  tried : {ws′ : List ℕ} {r : Bool} → isGated (kindOf (getD ks i 0)) ≡ true → getD us i 0 ≡ 0
+      → Tried (leftOut xs ys ws i) (getD xs i 0) (getD ys i 0) 1 ws i ws′ r → PartedAt ks xs ys us ws i ws′ r

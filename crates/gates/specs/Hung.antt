@@ -11,22 +11,17 @@ use Rattle.network.specs.Hangings.{Arc, reached}
 use Rattle.network.specs.Marks.{bit}
 use Rattle.search.specs.Ends.{arcsOf}
 
--- Whether u leads to v along A; where it does not, seen holds what is reached from u.
-pub record Leads (A : List Arc) (n u v : ℕ) (seen : List ℕ) (r : Bool) : Type 0 where
-  pub found : r ≡ reached A u v
-  pub noted : r ≡ false → (w : ℕ) → w < n → getD seen w 0 ≡ bit (reached A u w)
-
 -- What the table passes with reach i left out.
 abbrev pub leftOut : List ℕ → List ℕ → List ℕ → ℕ → List Arc
 leftOut xs ys ws i = arcsOf xs ys (set ws i 3)
 
--- Reach i got the way x if u leads to v along A; otherwise it is usable either way, and seen holds what is reached from u.
-pub data Tried (A : List Arc) (n u v x : ℕ) (ws : List ℕ) (i : ℕ) : List ℕ → List ℕ → Bool → Type 0 where
-  hung : {ws′ seen : List ℕ} {r : Bool} → reached A u v ≡ true → ws′ ≡ set ws i x → r ≡ true → Tried A n u v x ws i ws′ seen r
-  lost : {ws′ seen : List ℕ} {r : Bool} → reached A u v ≡ false → ws′ ≡ set ws i 2 → r ≡ false
-      → ((w : ℕ) → w < n → getD seen w 0 ≡ bit (reached A u w)) → Tried A n u v x ws i ws′ seen r
+-- Reach i got the way x if u leads to v along A; otherwise it is usable either way.
+pub data Tried (A : List Arc) (u v x : ℕ) (ws : List ℕ) (i : ℕ) : List ℕ → Bool → Type 0 where
+  hung : {ws′ : List ℕ} {r : Bool} → reached A u v ≡ true → ws′ ≡ set ws i x → r ≡ true → Tried A u v x ws i ws′ r
+  lost : {ws′ : List ℕ} {r : Bool} → reached A u v ≡ false → ws′ ≡ set ws i 2 → r ≡ false → Tried A u v x ws i ws′ r
 
--- Reach i, if it is a gate, hung as drawn if its end B leads to A without it, else turned if A leads to B; else usable either way.
+-- Reach i, if it is a gate, hung as drawn if its end B leads to A without it, else turned if A leads to B. Otherwise
+-- seen holds what its end A leads to without it.
 pub data HungGate (n : ℕ) (ks xs ys ws : List ℕ) (i : ℕ) : List ℕ → List ℕ → Bool → Type 0 where
   no-gate : {ws′ seen : List ℕ} {r : Bool} → isGated (kindOf (getD ks i 0)) ≡ false → ws′ ≡ ws → r ≡ true → HungGate n ks xs ys ws i ws′ seen r
   drawn : {ws′ seen : List ℕ} {r : Bool} → isGated (kindOf (getD ks i 0)) ≡ true → reached (leftOut xs ys ws i) (getD ys i 0) (getD xs i 0) ≡ true

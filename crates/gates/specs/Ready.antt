@@ -1,31 +1,26 @@
 -- A table ready to be searched, and what single searches find.
 -- Assumes nothing.
-use Prim.Native.Nat.{ℕ, zero, suc, _≤_, _<_}
+use Prim.Native.Nat.{ℕ, _≤_, _<_}
 use mathlib.Core.Path.{_≡_}
 use mathlib.Core.Bool.{Bool, true, false}
 use mathlib.Core.List.{List}
 use lib.ListN.{length, getD}
 use Rattle.network.specs.Lists.{range}
+use Rattle.network.specs.Networks.{maxBasins}
 use Rattle.network.specs.Hangings.{Arc, reached}
 use Rattle.network.specs.Plans.{reachesAll}
 use Rattle.network.specs.Marks.{bit}
 use Rattle.search.specs.Chains.{Index, Table}
 
--- A table of n basins, one at least and fewer than 65,535, with ends xs and ys, a way for each reach, an index of its half-edges, and room for a search.
+-- A table of n basins, one at least and no more than the limit, with ends xs and ys, a way for each reach, an index of its half-edges, and room for a search.
 pub record Ready (n : ℕ) (xs ys ws head next seen queue : List ℕ) : Type 0 where
   pub some-basin : 0 < n
-  pub few-basins : n < 65535
+  pub few-basins : n ≤ maxBasins
   pub table : Table n xs ys
   pub ways-full : length ws ≡ length xs
   pub index : Index n xs ys head next
   pub seen-room : n ≤ length seen
   pub queue-room : length seen ≤ length queue
-
--- The way against the arrows.
-abbrev pub flipWay : ℕ → ℕ
-flipWay zero = 1
-flipWay (suc zero) = 0
-flipWay (suc (suc w)) = suc (suc w)
 
 -- r is the lowest basin whose byte is 0, or n.
 pub record FirstUnseen (n : ℕ) (seen : List ℕ) (r : ℕ) : Type 0 where

@@ -6,10 +6,11 @@ ghost use mathlib.Core.List.{map};
 ghost use Prim.Native.Nat.{_≤_, _<_};
 ghost use lib.ListN.{length, getD, set};
 ghost use Rattle.network.specs.Networks.{Accepted};
+ghost use Rattle.network.specs.Hangings.{reached};
 ghost use Rattle.tables.specs.Rows.{netOf};
-ghost use Rattle.search.specs.Ends.{arcsOf};
-ghost use Rattle.gates.specs.Ready.{Ready, flipWay, FirstUnseen, Missed, Weakest};
-ghost use Rattle.gates.specs.Hung.{Leads, leftOut, Tried, HungGate, Settled};
+ghost use Rattle.search.specs.Ends.{arcsOf, flipWay};
+ghost use Rattle.gates.specs.Ready.{Ready, FirstUnseen, Missed, Weakest};
+ghost use Rattle.gates.specs.Hung.{leftOut, Tried, HungGate, Settled};
 ghost use Rattle.gates.specs.Greedy.{Begun, NoneLone, Greedy, Completed};
 ghost use Rattle.gates.specs.Follows.{Under, upTo, Whole, WholeBelow, Followed, TurnedBack, HungAs, PartedAt};
 use search::NONE;
@@ -111,9 +112,9 @@ fn leads_back(
 ) -> bool
     requires { ⌜ Ready n (now a) (now b) (now ways) (now head) (now next) (now seen) (now queue) ⌝ }
     requires { ⌜ i < length (now a) ⌝ }
-    ensures { λ r. ⌜ Leads (arcsOf (now (a .entry)) (now (b .entry)) (now (ways .entry))) n (getD (now (b .entry)) i 0) (getD (now (a .entry)) i 0) (now (seen .exit)) r ⌝ }
+    ensures { λ r. ⌜ r ≡ reached (arcsOf (now (a .entry)) (now (b .entry)) (now (ways .entry))) (getD (now (b .entry)) i 0) (getD (now (a .entry)) i 0) ⌝ }
 {
-    search::search(n, a, b, ways, head, next, b[i], a[i], seen, queue)
+    search::leads(n, a, b, ways, head, next, b[i], a[i], seen, queue)
 }
 
 // Whether end A of reach i leads to its end B: then it can be hung turned without loss.
@@ -130,12 +131,12 @@ fn leads_on(
 ) -> bool
     requires { ⌜ Ready n (now a) (now b) (now ways) (now head) (now next) (now seen) (now queue) ⌝ }
     requires { ⌜ i < length (now a) ⌝ }
-    ensures { λ r. ⌜ Leads (arcsOf (now (a .entry)) (now (b .entry)) (now (ways .entry))) n (getD (now (a .entry)) i 0) (getD (now (b .entry)) i 0) (now (seen .exit)) r ⌝ }
+    ensures { λ r. ⌜ r ≡ reached (arcsOf (now (a .entry)) (now (b .entry)) (now (ways .entry))) (getD (now (a .entry)) i 0) (getD (now (b .entry)) i 0) ⌝ }
 {
-    search::search(n, a, b, ways, head, next, a[i], b[i], seen, queue)
+    search::leads(n, a, b, ways, head, next, a[i], b[i], seen, queue)
 }
 
-// Hangs reach i as drawn if that loses nothing; otherwise it is usable either way, and seen holds what its end B leads to without it.
+// Hangs reach i as drawn if that loses nothing; otherwise it is usable either way. Says whether it could.
 fn try_drawn(
     n: usize,
     a: &[u16],
@@ -149,8 +150,8 @@ fn try_drawn(
 ) -> bool
     requires { ⌜ Ready n (now a) (now b) (now ways) (now head) (now next) (now seen) (now queue) ⌝ }
     requires { ⌜ i < length (now a) ⌝ }
-    ensures { λ r. ⌜ Tried (leftOut (now (a .entry)) (now (b .entry)) (now (ways .entry)) i) n (getD (now (b .entry)) i 0) (getD (now (a .entry)) i 0) 0
-        (now (ways .entry)) i (now (ways .exit)) (now (seen .exit)) r ⌝ }
+    ensures { λ r. ⌜ Tried (leftOut (now (a .entry)) (now (b .entry)) (now (ways .entry)) i) (getD (now (b .entry)) i 0) (getD (now (a .entry)) i 0) 0
+        (now (ways .entry)) i (now (ways .exit)) r ⌝ }
 {
     ways[i] = 3;
     if leads_back(n, a, b, ways, head, next, i, seen, queue) {
@@ -161,7 +162,7 @@ fn try_drawn(
     false
 }
 
-// Hangs reach i turned if that loses nothing; otherwise it is usable either way, and seen holds what its end A leads to without it.
+// Hangs reach i turned if that loses nothing; otherwise it is usable either way. Says whether it could.
 fn try_turned(
     n: usize,
     a: &[u16],
@@ -175,8 +176,8 @@ fn try_turned(
 ) -> bool
     requires { ⌜ Ready n (now a) (now b) (now ways) (now head) (now next) (now seen) (now queue) ⌝ }
     requires { ⌜ i < length (now a) ⌝ }
-    ensures { λ r. ⌜ Tried (leftOut (now (a .entry)) (now (b .entry)) (now (ways .entry)) i) n (getD (now (a .entry)) i 0) (getD (now (b .entry)) i 0) 1
-        (now (ways .entry)) i (now (ways .exit)) (now (seen .exit)) r ⌝ }
+    ensures { λ r. ⌜ Tried (leftOut (now (a .entry)) (now (b .entry)) (now (ways .entry)) i) (getD (now (a .entry)) i 0) (getD (now (b .entry)) i 0) 1
+        (now (ways .entry)) i (now (ways .exit)) r ⌝ }
 {
     ways[i] = 3;
     if leads_on(n, a, b, ways, head, next, i, seen, queue) {
@@ -187,7 +188,8 @@ fn try_turned(
     false
 }
 
-// Hangs reach i, if it is a gate, as drawn where that loses nothing, else turned where that does not. Says whether it could.
+// Hangs reach i, if it is a gate, as drawn where that loses nothing, else turned where that does not. Says whether it could; if not, seen holds
+// what its end A leads to without it.
 fn hang_gate(
     n: usize,
     kinds: &[u8],
@@ -211,7 +213,12 @@ fn hang_gate(
     if try_drawn(n, a, b, ways, head, next, i, seen, queue) {
         return true;
     }
-    try_turned(n, a, b, ways, head, next, i, seen, queue)
+    if try_turned(n, a, b, ways, head, next, i, seen, queue) {
+        return true;
+    }
+    ways[i] = 3;
+    search::search(n, a, b, ways, head, next, a[i], NONE, seen, queue);
+    false
 }
 
 // Hangs the gates from reach `from` on, one after the other. Returns the number of reaches, or the first gate that can be hung neither way.
@@ -318,7 +325,7 @@ fn hang_as(
     requires { ⌜ length (now kinds) ≡ length (now a) ⌝ }
     requires { ⌜ length (now under) ≡ length (now a) ⌝ }
     requires { ⌜ i < length (now a) ⌝ }
-    ensures { λ r. ⌜ HungAs n (now (kinds .entry)) (now (a .entry)) (now (b .entry)) (now (under .entry)) (now (ways .entry)) i (now (ways .exit)) (now (seen .exit)) r ⌝ }
+    ensures { λ r. ⌜ HungAs (now (kinds .entry)) (now (a .entry)) (now (b .entry)) (now (under .entry)) (now (ways .entry)) i (now (ways .exit)) r ⌝ }
 {
     if kinds[i] != 0 {
         return true;
@@ -379,7 +386,7 @@ fn part_at(
     requires { ⌜ length (now kinds) ≡ length (now a) ⌝ }
     requires { ⌜ length (now under) ≡ length (now a) ⌝ }
     requires { ⌜ i < length (now a) ⌝ }
-    ensures { λ r. ⌜ PartedAt n (now (kinds .entry)) (now (a .entry)) (now (b .entry)) (now (under .entry)) (now (ways .entry)) i (now (ways .exit)) (now (seen .exit)) r ⌝ }
+    ensures { λ r. ⌜ PartedAt (now (kinds .entry)) (now (a .entry)) (now (b .entry)) (now (under .entry)) (now (ways .entry)) i (now (ways .exit)) r ⌝ }
 {
     if kinds[i] != 0 {
         return false;

@@ -1,7 +1,7 @@
 -- The search as a whole: its loop's invariant, how it begins, a turn, and what holds at the end.
 -- Assumes nothing.
 use Prim.Native.Nat.{ℕ, _+_, _≤_, _<_}
-use mathlib.Core.Path.{_≡_, refl, sym, _∙_}
+use mathlib.Core.Path.{_≡_, refl, sym, subst, _∙_}
 use mathlib.Core.Bool.{Bool, true, false, _&&_, true≢false}
 use mathlib.Core.Logic.{_⊎_, inl, inr, ⊎-elim}
 use mathlib.Core.List.{List, _++_}
@@ -16,7 +16,7 @@ use Rattle.network.specs.Hangings.{Arc, Walk, stay, step, reached}
 use Rattle.network.specs.Marks.{bit}
 use Rattle.network.proofs.Bools.{and-left, and-right, and-make, clash, same-test}
 use Rattle.network.proofs.Walks.{walk-trans, walk-arc, walk-reached, reached-walk}
-use Rattle.search.specs.Searches.{Seen, Next, Visited, first, again, Grown, stay as none-more, more, Scanned, Searched}
+use Rattle.search.specs.Searches.{Seen, Next, Visited, first, again, Grown, stay as none-more, more, Scanned, Searched, Meets, meeting, apart}
 use Rattle.search.proofs.Counts.{unseen-le, unseen-set}
 use Rattle.search.proofs.Visits.{Room, Waits, Grew, marked-news, visited-grew, visited-seen, grown-grew}
 
@@ -69,10 +69,10 @@ pub record Searching (A : List Arc) (n start : ℕ) (seen queue : List ℕ) (at 
 
 -- after the marks are cleared, nothing is seen
 module _ (n : ℕ) (d : List ℕ) (long : n ≤ length d) where
-  cleared-length : length (replicate n 0 ++ drop n d) ≡ length d
+  pub cleared-length : length (replicate n 0 ++ drop n d) ≡ length d
   cleared-length = simp (length-append, length-replicate, length-drop) (omega arith)
 
-  cleared : (v : ℕ) → v < n → getD (replicate n 0 ++ drop n d) v 0 ≡ 0
+  pub cleared : (v : ℕ) → v < n → getD (replicate n 0 ++ drop n d) v 0 ≡ 0
   cleared v l = List·getD-append (replicate n 0) (drop n d) 0 v (rw length-replicate l) ∙ getD-replicate n v 0 0 l
 
 module _ {A : List Arc} {n start : ℕ} where
@@ -162,3 +162,45 @@ module _ {A : List Arc} {n start : ℕ} where
       mark v h true t d = rw t (one v (inside (reached-walk A start v t) b (s .started)))
       mark v h false t (yes x) = clash (walk-reached (s .sound .walked v h x)) t
       mark v h false t (no x) = rw t (omega arith)
+
+-- ---- two searches, from both ends
+
+-- what the first visit changes, and what a turn changes
+module _ {n start : ℕ} where
+  pub begins-grew : (seen₀ : List ℕ) {queue₀ seen queue : List ℕ} {tail : ℕ} → n ≤ length seen₀ → length seen₀ ≤ length queue₀ → start < n
+      → Visited start (replicate n 0 ++ drop n seen₀) queue₀ 0 seen queue tail → Grew (replicate n 0 ++ drop n seen₀) queue₀ 0 seen queue tail
+  begins-grew seen₀ long room b v =
+      let same = cleared-length n seen₀ long in
+      visited-grew (omega arith) (omega (arith, same, unseen-le (replicate n 0 ++ drop n seen₀))) v
+
+pub scans-grew : {A : List Arc} {n start : ℕ} {seen queue seen′ queue′ : List ℕ} {at tail tail′ : ℕ} → ((u w : ℕ) → Next A u w → w < n)
+    → Searching A n start seen queue at tail → Scanned A (getD queue at 0) seen queue tail seen′ queue′ tail′ → Grew seen queue tail seen′ queue′ tail′
+scans-grew {queue} {at} f s c = grown-grew (λ w m. omega (arith, f (getD queue at 0) w m, s .sound .long)) (s .sound .room) (c .grown)
+
+-- where what is newly queued is not seen by the other search, what is newly seen is not
+pub newly-apart : {seen₀ queue₀ seen queue other : List ℕ} {f tail : ℕ} {r : Bool} → Grew seen₀ queue₀ f seen queue tail → Meets queue f tail other r → r ≡ false
+    → (v : ℕ) → getD seen₀ v 0 ≡ 0 → Seen seen v → getD other v 0 ≡ 0
+newly-apart g (meeting _ _ _ _ e) n v z x = clash e n
+newly-apart {other} g (apart h _) n v z x =
+    ⊎-elim (λ y. absurd (omega (arith, y, z))) (λ w. subst (λ (u : ℕ). getD other u 0 ≡ 0) (w .here) (h (w .place) (w .from) (w .below))) (g .news v x)
+
+-- and what the other search sees stays unseen
+pub unmet : {seen₀ queue₀ seen queue other : List ℕ} {f tail : ℕ} {r : Bool} → Grew seen₀ queue₀ f seen queue tail → Meets queue f tail other r → r ≡ false
+    → (v : ℕ) → getD seen₀ v 0 ≡ 0 → Seen other v → getD seen v 0 ≡ 0
+unmet {seen} g m n v z y = at (decLt 0 (getD seen v 0))
+  where
+    at : Dec (0 < getD seen v 0) → getD seen v 0 ≡ 0
+    at (yes x) = absurd (omega (arith, newly-apart g m n v z x, y))
+    at (no x) = omega arith
+
+-- a basin in the queue of the one is seen by the other: the ends are joined through it
+pub joins : {A B : List Arc} {n start goal tail uptail f : ℕ} {seen queue upseen upqueue : List ℕ} {r : Bool} → ((u v : ℕ) → reached B u v ≡ reached A v u)
+    → Sound A n start seen queue tail → Sound B n goal upseen upqueue uptail → Meets queue f tail upseen r → r ≡ true → reached A start goal ≡ true
+joins {A} {goal} {queue} against s t (meeting k _ b x _) e =
+    walk-reached (walk-trans (s .walks k b) (reached-walk A (getD queue k 0) goal (sym (against goal (getD queue k 0)) ∙ walk-reached (t .walked (getD queue k 0) (s .basins k b) x))))
+joins against s t (apart _ n) e = clash e n
+
+-- the queue is empty, and the goal is not seen: it is not reached
+pub shut : {A : List Arc} {n start at tail : ℕ} {seen queue : List ℕ} (goal : ℕ) → ((u w : ℕ) → Next A u w → w < n) → start < n → goal < n → tail ≤ at
+    → Searching A n start seen queue at tail → getD seen goal 0 ≡ 0 → false ≡ reached A start goal
+shut goal f b g l s z = ends goal false f b l s (rw (lt-ltb _ _ g, z)) .found

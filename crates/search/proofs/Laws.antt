@@ -1,7 +1,7 @@
 -- Laws for callers: the arcs of a table and those of its lists of ends, and a search against the arrows.
 -- Assumes nothing.
 use Prim.Native.Nat.{ℕ, zero, suc}
-use mathlib.Core.Path.{_≡_, refl, sym, ap}
+use mathlib.Core.Path.{_≡_, refl, sym, ap, _∙_}
 use mathlib.Core.Bool.{true}
 use mathlib.Core.Logic.{⊎-elim}
 use mathlib.Core.List.{List, [], _∷_, _++_, map, List·Memᴰ, List·Memᴰ·head, List·Memᴰ·tail, List·Memᴰ·not-nil, List·Memᴰ·eq-of-singleton, List·Memᴰ·cases-cons, List·Memᴰ·append-cases, Memᴰ·append-left, Memᴰ·append-right}
@@ -9,8 +9,8 @@ use native.Mathlib.Omega.{arith}
 use Rattle.network.specs.declared.Reach.{Reach}
 use Rattle.network.specs.Hangings.{Arc, arc, passing, arcs, Walk, stay, step, reached}
 use Rattle.network.proofs.Bools.{same-test}
-use Rattle.network.proofs.Walks.{walk-trans, walk-arc, walk-reached, reached-walk}
-use Rattle.search.specs.Ends.{arcsOf}
+use Rattle.network.proofs.Walks.{Within, walk-trans, walk-arc, walk-reached, reached-walk, reached-same}
+use Rattle.search.specs.Ends.{arcsOf, flipWay}
 use Rattle.search.specs.Chains.{Table}
 use Rattle.search.specs.Searches.{Next}
 
@@ -55,3 +55,36 @@ reached-back xs ys ws u v e = walk-reached (walk-turned (next-turned xs ys ws) (
 pub reached-turned : (xs ys ws : List ℕ) (u v : ℕ) → reached (arcsOf ys xs ws) u v ≡ reached (arcsOf xs ys ws) v u
 reached-turned xs ys ws u v =
     same-test (reached (arcsOf ys xs ws) u v) (reached (arcsOf xs ys ws) v u) (reached-back ys xs ws u v) (reached-back xs ys ws v u)
+
+-- ---- against the arrows
+
+flip-in : (w a b : ℕ) → Within (passing (flipWay w) a b) (passing w b a)
+flip-in zero a b y m = m
+flip-in (suc zero) a b y m = m
+flip-in (suc (suc zero)) a b y m = ⊎-elim (λ e. List·Memᴰ·tail (List·Memᴰ·head e)) (λ m′. ⊎-elim (λ e. List·Memᴰ·head e) (λ n. absurd (List·Memᴰ·not-nil n)) (List·Memᴰ·cases-cons m′)) (List·Memᴰ·cases-cons m)
+flip-in (suc (suc (suc w))) a b y m = m
+
+flip-out : (w a b : ℕ) → Within (passing w b a) (passing (flipWay w) a b)
+flip-out zero a b y m = m
+flip-out (suc zero) a b y m = m
+flip-out (suc (suc zero)) a b y m = ⊎-elim (λ e. List·Memᴰ·tail (List·Memᴰ·head e)) (λ m′. ⊎-elim (λ e. List·Memᴰ·head e) (λ n. absurd (List·Memᴰ·not-nil n)) (List·Memᴰ·cases-cons m′)) (List·Memᴰ·cases-cons m)
+flip-out (suc (suc (suc w))) a b y m = m
+
+append-within : {A B A′ B′ : List Arc} → Within A A′ → Within B B′ → Within (A ++ B) (A′ ++ B′)
+append-within {A} {B} {A′} {B′} f g y m = ⊎-elim (λ p. Memᴰ·append-left B′ (f y p)) (λ q. Memᴰ·append-right A′ (g y q)) (List·Memᴰ·append-cases A m)
+
+flips-in : (xs ys ws : List ℕ) → Within (arcsOf xs ys (map flipWay ws)) (arcsOf ys xs ws)
+flips-in [] ys ws y m = absurd (List·Memᴰ·not-nil m)
+flips-in (a ∷ xs) [] ws y m = absurd (List·Memᴰ·not-nil m)
+flips-in (a ∷ xs) (b ∷ ys) [] y m = absurd (List·Memᴰ·not-nil m)
+flips-in (a ∷ xs) (b ∷ ys) (w ∷ ws) y m = append-within (flip-in w a b) (flips-in xs ys ws) y m
+
+flips-out : (xs ys ws : List ℕ) → Within (arcsOf ys xs ws) (arcsOf xs ys (map flipWay ws))
+flips-out [] [] ws y m = absurd (List·Memᴰ·not-nil m)
+flips-out [] (b ∷ ys) ws y m = absurd (List·Memᴰ·not-nil m)
+flips-out (a ∷ xs) [] ws y m = absurd (List·Memᴰ·not-nil m)
+flips-out (a ∷ xs) (b ∷ ys) [] y m = absurd (List·Memᴰ·not-nil m)
+flips-out (a ∷ xs) (b ∷ ys) (w ∷ ws) y m = append-within (flip-out w a b) (flips-out xs ys ws) y m
+
+pub reached-flipped : (xs ys ws : List ℕ) (u v : ℕ) → reached (arcsOf xs ys (map flipWay ws)) u v ≡ reached (arcsOf xs ys ws) v u
+reached-flipped xs ys ws u v = reached-same (arcsOf xs ys (map flipWay ws)) (arcsOf ys xs ws) u v (flips-in xs ys ws) (flips-out xs ys ws) ∙ reached-turned xs ys ws u v

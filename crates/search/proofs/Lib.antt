@@ -1,5 +1,6 @@
 -- The laws of the search's definitions.
 pub mod Laws
+pub mod Sides
 pub mod Fills
 pub mod Halves
 pub mod Links

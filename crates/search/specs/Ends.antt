@@ -1,8 +1,8 @@
 -- A reach table as two lists of ends, its half-edges, and what it passes.
 -- Assumes nothing.
 use Prim.Native.Nat.{ℕ, zero, suc, _*_, _/_, _%_}
-use mathlib.Core.Bool.{Bool, _||_}
-use mathlib.Core.List.{List, [], _∷_, _++_}
+use mathlib.Core.Bool.{Bool, true, false, _||_}
+use mathlib.Core.List.{List, [], _∷_, _++_, map}
 use lib.ListN.{length, getD}
 use lib.Dec.{eqb}
 use Rattle.network.specs.Hangings.{Arc, passing}
@@ -13,6 +13,17 @@ arcsOf [] ys ws = []
 arcsOf (a ∷ xs) [] ws = []
 arcsOf (a ∷ xs) (b ∷ ys) [] = []
 arcsOf (a ∷ xs) (b ∷ ys) (w ∷ ws) = passing w a b ++ arcsOf xs ys ws
+
+-- The way against the arrows.
+abbrev pub flipWay : ℕ → ℕ
+flipWay zero = 1
+flipWay (suc zero) = 0
+flipWay (suc (suc w)) = suc (suc w)
+
+-- The ways as they are or, if so asked, each against the arrows.
+abbrev pub sided : Bool → List ℕ → List ℕ
+sided false ws = ws
+sided true ws = map flipWay ws
 
 -- Reach i has the half-edge 2 i at its end A, and 2 i + 1 at its end B.
 abbrev pub halves : List ℕ → ℕ

@@ -2,7 +2,7 @@
 -- Assumes nothing.
 use Prim.Native.Nat.{ℕ, zero, suc, _+_, _≤_, _<_}
 use mathlib.Core.Path.{_≡_}
-use mathlib.Core.Bool.{Bool, false}
+use mathlib.Core.Bool.{Bool, true, false}
 use mathlib.Core.List.{List, [], _∷_, List·Memᴰ}
 use lib.ListN.{length, getD, set}
 use Rattle.network.specs.Hangings.{Arc, arc, reached}
@@ -64,3 +64,12 @@ pub record Searched (A : List Arc) (n start goal : ℕ) (seen : List ℕ) (r : B
   pub found : r ≡ reached A start goal
   pub outside : n ≤ goal → r ≡ false
   pub whole : r ≡ false → (v : ℕ) → v < n → getD seen v 0 ≡ bit (reached A start v)
+
+-- What stands in a queue at the places below t is a basin below n.
+abbrev pub Queued : List ℕ → ℕ → ℕ → Type 0
+Queued queue t n = (k : ℕ) → k < t → getD queue k 0 < n
+
+-- Whether a basin that stands in a queue at a place from f on and below t is seen.
+pub data Meets (queue : List ℕ) (f t : ℕ) (seen : List ℕ) : Bool → Type 0 where
+  meeting : {r : Bool} (k : ℕ) → f ≤ k → k < t → Seen seen (getD queue k 0) → r ≡ true → Meets queue f t seen r
+  apart : {r : Bool} → ((k : ℕ) → f ≤ k → k < t → getD seen (getD queue k 0) 0 ≡ 0) → r ≡ false → Meets queue f t seen r

@@ -7,7 +7,7 @@ use mathlib.Core.Path.{_≡_, refl, sym, ap, _∙_}
 use mathlib.Core.List.{List, map}
 use lib.ListN.{length, getD, set, length-set, length-map, List·getD-map}
 use lib.Seq.{getD-set-same, getD-set-other, ext-getD}
-use Rattle.gates.specs.Ready.{flipWay}
+use Rattle.search.specs.Ends.{flipWay}
 use Rattle.gates.proofs.flip.Statement.{statement}
 use Rattle.gates.proofs.flip.Tie as tie
 

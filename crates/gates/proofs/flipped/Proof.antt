@@ -3,7 +3,7 @@
 use Prim.Native.Nat.{ℕ, zero, suc}
 use mathlib.Core.Path.{_≡_, refl}
 use borrow.Author.Needs.{needs}
-use Rattle.gates.specs.Ready.{flipWay}
+use Rattle.search.specs.Ends.{flipWay}
 use Rattle.gates.proofs.flipped.Statement.{statement}
 use Rattle.gates.proofs.flipped.Tie as tie
 

@@ -1,10 +1,11 @@
 -- `gates::hang_gate` meets its contract: as drawn, else turned.
 -- Assumes nothing.
 use native.Mathlib.Omega.{arith}
-use mathlib.Core.Path.{refl}
+use mathlib.Core.Path.{refl, _∙_}
+use lib.ListN.{length-set}
 use borrow.Author.Needs.{needs}
 use Rattle.gates.specs.Hung.{no-gate}
-use Rattle.gates.proofs.Readies.{ready-ways, ready-notes, kind-gate, kind-plain, gate-drawn, gate-turned}
+use Rattle.gates.proofs.Readies.{searchable, ready-ways, ready-notes, kind-gate, kind-plain, gate-drawn, gate-turned, gate-stuck}
 use Rattle.gates.proofs.hang_gate.Statement.{statement}
 use Rattle.gates.proofs.hang_gate.Tie as tie
 
@@ -48,10 +49,64 @@ same-length-6 c = search needs
 
 returns-3 : tie.Need-returns-3
 returns-3 c =
-    let s = c .before .before .before .before .before .before .before .before .before .before .before .before .before .before .before .before .before .before .before .before .before .before .before .before .before .before .before .before .before .before .before in
-    gate-turned (s .args .kinds .now) (s .args .ways .now) (s .args .i) (kind-gate _ ((c .before .before .before .before .before .before .before .before .before .before .before .before .before .before .before .before .before .before .before .before .before) .if1 .left)) ((c .before .before .before .before .before .before .before .before .before .before .before .before .before .before .before .before .before) .try-drawn .ensures) ((c .before .before .before .before .before .before .before .before .before .before) .if2 .left) ((c .before .before .before .before .before .before) .try-turned .ensures)
+    let s = c .before .before .before .before .before .before .before .before .before .before .before .before .before .before .before .before .before .before .before .before .before .before .before .before .before .before .before .before .before .before .before .before in
+    gate-turned (s .args .kinds .now) (s .args .ways .now) (s .args .i) (kind-gate _ ((c .before .before .before .before .before .before .before .before .before .before .before .before .before .before .before .before .before .before .before .before .before .before) .if1 .left)) ((c .before .before .before .before .before .before .before .before .before .before .before .before .before .before .before .before .before .before) .try-drawn .ensures) ((c .before .before .before .before .before .before .before .before .before .before .before) .if2 .left) ((c .before .before .before .before .before .before .before) .try-turned .ensures) (c .if3 .taken)
+
+slice-write-ways : tie.Need-slice-write-ways
+slice-write-ways c =
+    let s = c .before .before .before .before .before .before .before .before .before .before .before .before .before .before .before .before .before .before .before .before .before .before .before .before .before .before .before .before .before .before .before .before in
+    omega (arith, (c .before .before .before .before .before .before .before) .try-turned .kept .1 .1 .1 .0, (c .before .before .before .before .before .before .before .before .before .before .before .before .before .before .before .before .before .before) .try-drawn .kept .1 .1 .1 .0, s .pre .0 .ways-full, s .pre .1 .1)
+
+mul-search : tie.Need-mul-search
+mul-search c = omega (arith, (c .before .before .before .before .before .before .before .before .before .before .before .before .before .before .before .before .before .before .before .before .before .before .before .before .before .before .before .before .before .before .before .before .before) .pre .1 .1, (c .before .before .before .before .before .before .before .before .before .before .before .before .before .before .before .before .before .before .before .before .before .before .before .before .before .before .before .before .before .before .before .before .before) .pre .0 .table .few)
+
+shared-slice-read-search : tie.Need-shared-slice-read-search
+shared-slice-read-search c = omega (arith, (c .before .before .before .before .before .before .before .before .before .before .before .before .before .before .before .before .before .before .before .before .before .before .before .before .before .before .before .before .before .before .before .before .before .before) .pre .1 .1)
+
+search-requires : tie.Need-search-requires
+search-requires c κs =
+    let s = c .before .before .before .before .before .before .before .before .before .before .before .before .before .before .before .before .before .before .before .before .before .before .before .before .before .before .before .before .before .before .before .before .before .before .before .before in
+    let k = (c .before .before .before .before .before .before .before .before .before .before .before .before .before .before .before .before .before .before .before .before .before .before) .try-drawn .kept in
+    let m = (c .before .before .before .before .before .before .before .before .before .before .before) .try-turned .kept in
+    searchable _ (ready-ways _ (ready-notes _ _ (s .pre .0) (m .1 .1 .1 .1 .1 .1 .1 .0 ∙ k .1 .1 .1 .1 .1 .1 .1 .0) (m .1 .1 .1 .1 .1 .1 .1 .1 .0 ∙ k .1 .1 .1 .1 .1 .1 .1 .1 .0)) (simp length-set (m .1 .1 .1 .0 ∙ k .1 .1 .1 .0)))
+    (s .pre .0 .table .ends-a (s .args .i) (s .pre .1 .1))
+
+same-length-7 : tie.Need-same-length-7
+same-length-7 c = simp length-set ((c .before .before .before .before .before .before .before .before .before .before .before .before .before .before .before .before) .try-turned .kept .1 .1 .1 .0 ∙ (c .before .before .before .before .before .before .before .before .before .before .before .before .before .before .before .before .before .before .before .before .before .before .before .before .before .before .before) .try-drawn .kept .1 .1 .1 .0)
+
+same-length-8 : tie.Need-same-length-8
+same-length-8 c = search needs
+
+same-length-9 : tie.Need-same-length-9
+same-length-9 c = search needs
+
+returns-4 : tie.Need-returns-4
+returns-4 c =
+    let s = c .before .before .before .before .before .before .before .before .before .before .before .before .before .before .before .before .before .before .before .before .before .before .before .before .before .before .before .before .before .before .before .before .before .before .before .before .before .before .before .before .before in
+    gate-stuck (s .args .kinds .now) (s .args .ways .now) (s .args .i) (kind-gate _ ((c .before .before .before .before .before .before .before .before .before .before .before .before .before .before .before .before .before .before .before .before .before .before .before .before .before .before .before .before .before .before .before) .if1 .left)) ((c .before .before .before .before .before .before .before .before .before .before .before .before .before .before .before .before .before .before .before .before .before .before .before .before .before .before .before) .try-drawn .ensures) ((c .before .before .before .before .before .before .before .before .before .before .before .before .before .before .before .before .before .before .before .before) .if2 .left) ((c .before .before .before .before .before .before .before .before .before .before .before .before .before .before .before .before) .try-turned .ensures) ((c .before .before .before .before .before .before .before .before .before) .if3 .left)
+    (omega (arith, s .pre .0 .few-basins)) ((c .before .before .before .before) .search .ensures)
 
 pub hang-gate-spec : {M : Type 1} → statement M
 hang-gate-spec =
     tie.close
-    (tie.spec shared-slice-read-if1 returns try-drawn-requires same-length same-length-2 same-length-3 returns-2 try-turned-requires same-length-4 same-length-5 same-length-6 returns-3)
+    (tie.spec
+    shared-slice-read-if1
+    returns
+    try-drawn-requires
+    same-length
+    same-length-2
+    same-length-3
+    returns-2
+    try-turned-requires
+    same-length-4
+    same-length-5
+    same-length-6
+    returns-3
+    slice-write-ways
+    mul-search
+    shared-slice-read-search
+    search-requires
+    same-length-7
+    same-length-8
+    same-length-9
+    returns-4)

@@ -2,26 +2,26 @@
 -- Assumes nothing.
 use native.Mathlib.Omega.{arith}
 use borrow.Author.Needs.{needs}
-use Rattle.gates.proofs.Readies.{searchable, searched-leads}
+use Rattle.gates.proofs.Readies.{searchable}
 use Rattle.gates.proofs.leads_back.Statement.{statement}
 use Rattle.gates.proofs.leads_back.Tie as tie
 
-mul-search : tie.Need-mul-search
-mul-search c = search needs
+mul-leads : tie.Need-mul-leads
+mul-leads c = search needs
 
-shared-slice-read-search : tie.Need-shared-slice-read-search
-shared-slice-read-search c = omega arith
+shared-slice-read-leads : tie.Need-shared-slice-read-leads
+shared-slice-read-leads c = omega arith
 
-mul-search-2 : tie.Need-mul-search-2
-mul-search-2 c = search needs
+mul-leads-2 : tie.Need-mul-leads-2
+mul-leads-2 c = search needs
 
-shared-slice-read-search-2 : tie.Need-shared-slice-read-search-2
-shared-slice-read-search-2 c = omega arith
+shared-slice-read-leads-2 : tie.Need-shared-slice-read-leads-2
+shared-slice-read-leads-2 c = omega arith
 
-search-requires : tie.Need-search-requires
-search-requires c κs =
+leads-requires : tie.Need-leads-requires
+leads-requires c κs =
     let start = c .before .before .before .before .before .before .before .before .before .before .before in
-    searchable _ (start .pre .0) (start .pre .0 .table .ends-b (start .args .i) (start .pre .1))
+    (searchable _ (start .pre .0) (start .pre .0 .table .ends-b (start .args .i) (start .pre .1)), (start .pre .0 .table .ends-a (start .args .i) (omega (arith, start .pre .1, start .pre .0 .table .paired)), start .pre .0 .few-basins))
 
 same-length : tie.Need-same-length
 same-length c = search needs
@@ -30,7 +30,7 @@ same-length-2 : tie.Need-same-length-2
 same-length-2 c = search needs
 
 returns : tie.Need-returns
-returns c = searched-leads (c .before .before .before .before .search .ensures)
+returns c = c .before .before .before .before .leads .ensures
 
 pub leads-back-spec : {M : Type 1} → statement M
-leads-back-spec = tie.close (tie.spec mul-search shared-slice-read-search mul-search-2 shared-slice-read-search-2 search-requires same-length same-length-2 returns)
+leads-back-spec = tie.close (tie.spec mul-leads shared-slice-read-leads mul-leads-2 shared-slice-read-leads-2 leads-requires same-length same-length-2 returns)

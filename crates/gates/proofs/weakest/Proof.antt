@@ -7,8 +7,10 @@ use mathlib.Core.List.{List, map}
 use lib.ListN.{length, length-map}
 use borrow.Author.Needs.{needs}
 use Rattle.search.specs.Ends.{arcsOf}
-use Rattle.gates.specs.Ready.{Missed, Weakest, flipWay}
-use Rattle.gates.proofs.Readies.{ready-ways, ready-notes, reached-flipped, weakest-0, weakest-back}
+use Rattle.gates.specs.Ready.{Missed, Weakest}
+use Rattle.search.specs.Ends.{flipWay}
+use Rattle.gates.proofs.Readies.{ready-ways, ready-notes, weakest-0, weakest-back}
+use Rattle.search.proofs.Laws.{reached-flipped}
 use Rattle.gates.proofs.weakest.Statement.{statement}
 use Rattle.gates.proofs.weakest.Tie as tie
 use Rattle.gates.proofs.weakest.Lts as lts

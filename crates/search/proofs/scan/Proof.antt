@@ -6,21 +6,22 @@ use native.Mathlib.Omega.{arith}
 use mathlib.Core.Path.{sym, _∙_}
 use mathlib.Core.Logic.{⊎-elim}
 use lib.ListN.{length, getD}
-use Rattle.search.specs.Ends.{halves, otherOf}
+use Rattle.search.specs.Ends.{halves, sided, otherOf}
 use Rattle.search.specs.Searches.{stay}
 use Rattle.search.proofs.Halves.{end-below}
 use Rattle.search.proofs.Laws.{table-turned}
+use Rattle.search.proofs.Sides.{length-sided}
 use Rattle.search.proofs.Visits.{grew-none}
 use Rattle.search.proofs.Scans.{Scanning, Current, current, falls, turn-past, turn-through, renamed, scanned}
 use Rattle.search.proofs.scan.Statement.{statement}
 use Rattle.search.proofs.scan.Tie as tie
 
 abbrev Inv-loop : tie.InvT-loop
-Inv-loop a b ways head next seen₀ queue₀ at tail end₀ h₀ seen queue end h =
-    Scanning a b ways (getD queue₀ at 0) seen₀ queue₀ tail seen queue end h
+Inv-loop a b ways head next seen₀ queue₀ at tail against end₀ h₀ seen queue end h =
+    Scanning a b (sided against ways) (getD queue₀ at 0) seen₀ queue₀ tail seen queue end h
 
 abbrev μ-loop : tie.MeasureT-loop
-μ-loop a b ways head next seen₀ queue₀ at tail end₀ h₀ seen queue end h = (h + 1) % 65536
+μ-loop a b ways head next seen₀ queue₀ at tail against end₀ h₀ seen queue end h = (h + 1) % 65536
 
 -- the function's entry
 abbrev entry : tie.At-loop Inv-loop μ-loop → tie.Start Inv-loop μ-loop
@@ -99,7 +100,7 @@ loop-again c =
     let before = start .pre .index .nexts (t .before .loop .h) (omega (arith, here t .below)) in
     ⊎-elim
     (λ w. renamed (w .9) (w .10) (w .11)
-    (turn-through (t .before .loop .inv) (here t) before (start .pre .table .paired) (start .pre .ways-room) (sym passes ∙ w .0 .taken) (w .1 .ensures) (leads-in t) (w .4 .ensures)))
+    (turn-through (t .before .loop .inv) (here t) before (start .pre .table .paired) (omega (arith, start .pre .ways-room, length-sided (start .args .against) (start .args .ways .now))) (sym passes ∙ w .0 .taken) (w .1 .ensures) (leads-in t) (w .4 .ensures)))
     (λ w. renamed (w .1) (w .2) (w .3) (turn-past (t .before .loop .inv) (here t) before (sym passes ∙ w .0 .left)))
     (c .before .if1 .came)
 

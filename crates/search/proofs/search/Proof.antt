@@ -7,7 +7,6 @@ use native.Mathlib.Omega.{arith}
 use lib.ListN.{length}
 use Rattle.search.specs.Ends.{arcsOf}
 use Rattle.search.specs.Searches.{Next}
-use Rattle.search.proofs.Counts.{unseen-le}
 use Rattle.search.proofs.Halves.{arc-below}
 use Rattle.search.proofs.Fronts.{Searching, begins, scans, meets, ends}
 use Rattle.search.proofs.search.Statement.{statement}
@@ -22,7 +21,7 @@ abbrev μ-loop : tie.MeasureT-loop
 
 -- the function's entry
 abbrev entry : tie.At-loop Inv-loop μ-loop → tie.Start Inv-loop μ-loop
-entry c = c .before .before .before .before .before .before .before .before .before .before .before .before .before .before .before .before .before .before .before
+entry c = c .before .before .before .before .before .before .before .before .before .before .before .before .before .before .before
 
 -- every arc leads to a basin
 leads-in : (c : tie.Start Inv-loop μ-loop) (u w : ℕ) → Next (arcsOf (c .args .a .now) (c .args .b .now) (c .args .ways .now)) u w → w < c .args .n
@@ -30,24 +29,20 @@ leads-in c u w m = arc-below (c .args .a .now) (c .args .b .now) (c .args .ways 
 
 -- the two slices keep their lengths
 seen-kept : (c : tie.At-loop Inv-loop μ-loop) → length (c .loop .seen) ≡ length (entry c .args .seen .now)
-seen-kept c = c .loop .inv .1 ∙ c .before .before .before .before .before .visit .kept .1 .0 ∙ c .before .before .before .before .before .before .before .before .before .before .clear .kept .1 .0
+seen-kept c = c .loop .inv .1 ∙ c .before .before .before .before .before .begin .kept .1 .1 .0
 
 queue-kept : (c : tie.At-loop Inv-loop μ-loop) → length (c .loop .queue) ≡ length (entry c .args .queue .now)
-queue-kept c = c .loop .inv .2 ∙ c .before .before .before .before .before .visit .kept .1 .1 .0
+queue-kept c = c .loop .inv .2 ∙ c .before .before .before .before .before .begin .kept .1 .1 .1 .0
 
-clear-requires : tie.Need-clear-requires Inv-loop μ-loop
-clear-requires c κs = omega arith
-
-visit-requires : tie.Need-visit-requires Inv-loop μ-loop
-visit-requires c κs =
-    let cleared = c .before .before .before .before .clear in
-    omega (arith, cleared .kept .1 .0, unseen-le (cleared .last .1 .0))
+begin-requires : tie.Need-begin-requires Inv-loop μ-loop
+begin-requires c κs =
+    let start = c .before .before .before .before .before .before .before .before .before in
+    (start .pre .starts, (start .pre .seen-room, start .pre .queue-room))
 
 loop-holds : tie.Need-loop-holds Inv-loop μ-loop
 loop-holds c =
-    let start = c .before .before .before .before .before .before .before .before .before .before .before .before .before .before .before .before .before .before in
-    let cleared = c .before .before .before .before .before .before .before .before .before .clear .ensures in
-    (begins (start .args .seen .now) (start .pre .seen-room) (start .pre .queue-room) (start .pre .starts) cleared (c .before .before .before .before .visit .ensures), refl, refl)
+    let start = c .before .before .before .before .before .before .before .before .before .before .before .before .before .before in
+    (begins (start .args .seen .now) (start .pre .seen-room) (start .pre .queue-room) (start .pre .starts) refl (c .before .before .before .before .begin .ensures), refl, refl)
 
 met-requires : tie.Need-met-requires Inv-loop μ-loop
 met-requires c κs = omega (arith, c .before .before .loop .inv .0 .sound .long)
@@ -117,8 +112,7 @@ search-spec =
     (tie.spec
     Inv-loop
     μ-loop
-    clear-requires
-    visit-requires
+    begin-requires
     loop-holds
     met-requires
     same-length
