@@ -1,11 +1,12 @@
 -- The state after the line of a plan, from a step in working memory that stands at it.
 -- Assumes nothing.
-use Prim.Native.Nat.{ℕ, zero, suc, _≤_}
+use Prim.Native.Nat.{ℕ, zero, suc, _≤_, _<_}
 use native.Mathlib.Omega.{arith}
 use mathlib.Core.Path.{_≡_, refl, sym, ap, subst, subst⁻¹, _∙_}
 use mathlib.Core.Bool.{Bool, true, false, true≢false}
 use mathlib.Core.List.{List, _++_}
 use lib.ListN.{length, take, drop}
+use lib.Seq.{take-take}
 use Rattle.network.specs.declared.Refusal.the-variants.{LastPlan}
 use Rattle.network.specs.Networks.{Network, maxBasins, maxReaches}
 use Rattle.network.specs.Settings.{settingFault}
@@ -19,7 +20,8 @@ use Rattle.tables.specs.Rows.{netOf, gatesIn, waysRow, bytesRow}
 use Rattle.tables.proofs.Laws.{row-gates}
 use Rattle.gates.specs.Ready.{Ready}
 use Rattle.planner.specs.Seeks.{AtPlan}
-use Rattle.runs.specs.Advances.{Advanced, moved, at-last, Spare, Primed, elsewhere, at-plan}
+use Rattle.runs.specs.Advances.{gatesBefore, PartsAt, Advanced, moved, at-last, Spare, Primed, elsewhere, at-plan}
+use Rattle.runs.proofs.Rewrites.{gates-split}
 use Rattle.runs.proofs.Advances.{spare-ready}
 use Rattle.listing.specs.declared.Due.{Due}
 use Rattle.listing.specs.declared.Due.the-variants as D
@@ -41,8 +43,15 @@ module _ (l : Lister) (ks xs ys ws : List ℕ) (left g : ℕ) (held : g ≡ gate
   gates-are : (q : List ℕ) → isPlan N q ≡ true → length q ≡ gatesIn ks
   gates-are q e = setting-length N q (plan-setting N q e) ∙ row-gates ks xs ys (p .level .ends-a) (p .level .ends-b) 0
 
-  pub gates-room : gatesIn ks ≤ maxReaches
-  gates-room = omega (arith, gates-fit N (p .level .accepted), row-gates ks xs ys (p .level .ends-a) (p .level .ends-b) 0)
+  pub gates-held : g ≡ gatesIn ks
+  gates-held = omega (arith, held, gates-fit N (p .level .accepted), row-gates ks xs ys (p .level .ends-a) (p .level .ends-b) 0)
+
+  pub gates-room : g ≤ maxReaches
+  gates-room = omega (arith, held)
+
+  -- the bytes before the gate at which the next plan parts stand in the state
+  pub front-stands : {q : List ℕ} {r : ℕ} → PartsAt ks s q r → take (gatesBefore ks r) (l .setting) ≡ take (gatesBefore ks r) q
+  front-stands {q} {r} d = sym (d .same ∙ take-take (gatesBefore ks r) g (l .setting) (omega (arith, gates-held, gates-split ks r)))
 
   -- the reply of next, with room enough
   replies : nextReply N s maxReaches markBytes ≡ nextAnswer N s
@@ -65,7 +74,7 @@ module _ (l : Lister) (ks xs ys ws : List ℕ) (left g : ℕ) (held : g ≡ gate
   step-last e = lines-after ended e refl refl (reply-pending N (l .setting) (refused LastPlan) (λ q f. absurd (true≢false cc)) left ended refl refl refl)
 
   module _ {ws′ bytes : List ℕ} {d : Due} (due : d ≡ planDue left) (e : nextAnswer N s ≡ plan (bytesRow ks ws′)) (is : isPlan N (bytesRow ks ws′) ≡ true) (hung : ws′ ≡ waysRow ks (bytesRow ks ws′))
-      (put : bytes ≡ bytesRow ks ws′ ++ drop (gatesIn ks) (l .setting)) where
+      (put : bytes ≡ bytesRow ks ws′ ++ drop g (l .setting)) where
     abbrev q : List ℕ
     q = bytesRow ks ws′
 
@@ -79,13 +88,13 @@ module _ (l : Lister) (ks xs ys ws : List ℕ) (left g : ℕ) (held : g ≡ gate
     step-next =
         lines-after after e refl refl
         (reply-pending N (l .setting) (plan q) (λ t f. record { table = p .level .accepted; is-plan = subst (λ (v : List ℕ). isPlan N v ≡ true) (plan-one f) is }) left after due refl
-        (put ∙ ap (λ (k : ℕ). q ++ drop k (l .setting)) (sym (gates-are q is))))
+        (put ∙ ap (λ (k : ℕ). q ++ drop k (l .setting)) (gates-held ∙ sym (gates-are q is))))
       where
         plan-one : {v t : List ℕ} → plan v ≡ plan t → v ≡ t
         plan-one f = cc
 
     in-hand : take g bytes ≡ q
-    in-hand = ap (take g) put ∙ ap (λ (k : ℕ). take k (q ++ drop (gatesIn ks) (l .setting))) held ∙ plan-held N q given (drop (gatesIn ks) (l .setting))
+    in-hand = ap (take g) put ∙ ap (λ (k : ℕ). take k (q ++ drop g (l .setting))) held ∙ plan-held N q given (drop g (l .setting))
 
     pub step-stands : Standing (l .basins) ks xs ys d (take g bytes) ws′
     step-stands = subst⁻¹ (λ (x : Due). Standing (l .basins) ks xs ys x (take g bytes) ws′) due (stands left)
@@ -96,18 +105,19 @@ module _ (l : Lister) (ks xs ys ws : List ℕ) (left g : ℕ) (held : g ≡ gate
 
 -- ---- what a step says
 
-pub was-last : {N : Network} {ks s ws′ : List ℕ} {r : Bool} → Advanced N ks s ws′ r → r ≡ false → nextAnswer N s ≡ refused LastPlan
-was-last (moved y e is hung) n = clash y n
+pub was-last : {N : Network} {ks s ws′ : List ℕ} {r : ℕ} → Advanced N ks s ws′ r → length ks ≤ r → nextAnswer N s ≡ refused LastPlan
+was-last (moved d e is hung) n = absurd (omega (arith, d .below))
 was-last (at-last y e) n = e
 
-pub record Next (N : Network) (ks s ws′ : List ℕ) : Type 0 where
+pub record Next (N : Network) (ks s ws′ : List ℕ) (r : ℕ) : Type 0 where
+  pub parts : PartsAt ks s (bytesRow ks ws′) r
   pub is-next : nextAnswer N s ≡ plan (bytesRow ks ws′)
   pub is-plan : isPlan N (bytesRow ks ws′) ≡ true
   pub hung : ws′ ≡ waysRow ks (bytesRow ks ws′)
 
-pub was-next : {N : Network} {ks s ws′ : List ℕ} {r : Bool} → Advanced N ks s ws′ r → r ≡ true → Next N ks s ws′
-was-next (moved y e is hung) t = record { is-next = e; is-plan = is; hung = hung }
-was-next (at-last y e) t = clash t y
+pub was-next : {N : Network} {ks s ws′ : List ℕ} {r : ℕ} → Advanced N ks s ws′ r → r < length ks → Next N ks s ws′ r
+was-next (moved d e is hung) t = record { parts = d; is-next = e; is-plan = is; hung = hung }
+was-next (at-last y e) t = absurd (omega arith)
 
 -- ---- working memory that is kept
 

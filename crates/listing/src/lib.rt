@@ -284,7 +284,7 @@ fn asked(l: Lister, left: usize, g: usize, kinds: &[u8], a: &[u16], b: &[u16]) -
     }
 }
 
-// The same in working memory that stands at the plan in hand, and then at the plan after it.
+// The same in working memory that stands at the plan in hand, and then at the plan after it. The bytes before the gate at which that one parts stand.
 fn stepped(
     l: Lister,
     left: usize,
@@ -309,7 +309,7 @@ fn stepped(
     let basins = l.basins;
     let setting = l.setting;
     let n = basins as usize;
-    let later = runs::advance(
+    let r = runs::advance(
         n,
         kinds,
         a,
@@ -322,7 +322,7 @@ fn stepped(
         seen,
         queue,
     );
-    if !later {
+    if r >= a.len() {
         return Lister {
             basins,
             due: Due::End,
@@ -331,7 +331,7 @@ fn stepped(
         };
     }
     let mut plan = l.setting;
-    tables::gather(kinds, ways, &mut plan);
+    runs::rewrite(kinds, ways, r, g, &mut plan);
     let due = due_plan(left);
     Lister {
         basins,

@@ -1,2 +1,3 @@
 -- What a step from plan to plan rests on.
+pub mod Rewrites
 pub mod Advances

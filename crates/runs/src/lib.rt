@@ -2,11 +2,13 @@
 // half-edges are kept from plan to plan, so that a step searches only where it turns a gate.
 // These functions are for the calls above; what they require those have checked.
 ghost use mathlib.Core.Path.{_≡_};
-ghost use lib.ListN.{length};
-ghost use Rattle.tables.specs.Rows.{netOf};
+ghost use mathlib.Core.List.{_++_};
+ghost use Prim.Native.Nat.{_≤_};
+ghost use lib.ListN.{length, take, drop};
+ghost use Rattle.tables.specs.Rows.{netOf, gatesIn, bytesRow};
 ghost use Rattle.gates.specs.Ready.{Ready};
 ghost use Rattle.planner.specs.Seeks.{AtPlan};
-ghost use Rattle.runs.specs.Advances.{Advanced, Spare, Primed};
+ghost use Rattle.runs.specs.Advances.{gatesBefore, Advanced, Spare, Primed};
 use planner::CheckAnswer;
 
 // Copies a row.
@@ -52,7 +54,8 @@ pub fn prime(
     }
 }
 
-// From a plan, whose ways stand in `ways`, to the next: its ways stand there then. Says whether there is one.
+// From a plan, whose ways stand in `ways`, to the next: its ways stand there then.
+// Returns the number of the gate at which the next parts from the plan, or the number of reaches if no plan is later.
 pub fn advance(
     n: usize,
     kinds: &[u8],
@@ -65,14 +68,14 @@ pub fn advance(
     next: &[u16],
     seen: &mut [u8],
     queue: &mut [u16],
-) -> bool
+) -> usize
     requires { ⌜ Ready n (now a) (now b) (now ways) (now head) (now next) (now seen) (now queue) ⌝ }
     requires { ⌜ AtPlan n (now kinds) (now a) (now b) (now setting) (now ways) ⌝ }
     requires { ⌜ length (now under) ≡ length (now ways) ⌝ }
     ensures { λ r. ⌜ Advanced (netOf n (now (kinds .entry)) (now (a .entry)) (now (b .entry))) (now (kinds .entry)) (now (setting .entry)) (now (ways .exit)) r ⌝ }
 {
     copy_row(ways, under);
-    let r = gates::turn_back(
+    let at = gates::turn_back(
         n,
         kinds,
         a,
@@ -85,9 +88,23 @@ pub fn advance(
         seen,
         queue,
     );
-    if r < a.len() {
-        gates::complete(n, kinds, a, b, ways, head, next, r + 1, seen, queue);
-        return true;
+    if at < a.len() {
+        gates::complete(n, kinds, a, b, ways, head, next, at + 1, seen, queue);
+        return at;
     }
-    false
+    at
+}
+
+// Puts the bytes of the gates from reach r on into a plan in which those of the gates before it stand. The reaches have g gates.
+pub fn rewrite(kinds: &[u8], ways: &[u8], r: usize, g: usize, plan: &mut [u8])
+    requires { ⌜ length (now ways) ≡ length (now kinds) ⌝ }
+    requires { ⌜ r ≤ length (now kinds) ⌝ }
+    requires { ⌜ g ≡ gatesIn (now kinds) ⌝ }
+    requires { ⌜ g ≤ length (now plan) ⌝ }
+    requires { ⌜ take (gatesBefore (now kinds) r) (now plan) ≡ take (gatesBefore (now kinds) r) (bytesRow (now kinds) (now ways)) ⌝ }
+    ensures { λ _. ⌜ now (plan .exit) ≡ bytesRow (now (kinds .entry)) (now (ways .entry)) ++ drop g (now (plan .entry)) ⌝ }
+{
+    let rest = &kinds[r..];
+    let k = tables::count_gates(rest);
+    tables::gather(rest, &ways[r..], &mut plan[g - k..]);
 }

@@ -4,9 +4,8 @@ use native.Mathlib.Omega.{arith}
 use mathlib.Core.Path.{refl, sym, _∙_}
 use lib.Seq.{length-take-le}
 use borrow.Author.Needs.{needs}
-use borrow.Author.Tests.{not-true, not-false}
 use Rattle.listing.proofs.Sizes.{lister-size}
-use Rattle.listing.proofs.Steps.{gates-room, step-last, step-next, step-stands, was-last, was-next}
+use Rattle.listing.proofs.Steps.{gates-held, gates-room, front-stands, step-last, step-next, step-stands, was-last, was-next}
 use Rattle.listing.proofs.stepped.Statement.{statement}
 use Rattle.listing.proofs.stepped.Tie as tie
 
@@ -38,18 +37,29 @@ returns : tie.Need-returns
 returns c =
     let s = c .before .before .before .before .before .before .before .before .before .before .before .before .before .before .before .before .before .before .before .before .before .before .before .before .before in (
       step-last (s .args .l) (s .args .kinds .now) (s .args .a .now) (s .args .b .now) (s .args .ways .now) (s .args .left) (s .args .g) (s .pre .0) (s .pre .1 .1 .0)
-          (was-last (c .before .before .before .before .before .before .before .before .before .advance .ensures) (not-true _ (c .if1 .taken))),
+          (was-last (c .before .before .before .before .before .before .before .before .before .advance .ensures) (omega (arith, c .if1 .taken, s .pre .1 .1 .0 .level .ends-a))),
       tt,
     )
 
-slice-aggregate-gather : tie.Need-slice-aggregate-gather
-slice-aggregate-gather c = let s = c .before .before .before .before .before .before .before .before .before .before .before .before .before .before .before .before .before .before .before .before .before .before .before .before .before .before .before .before in sym (lister-size (s .args .l) (s .good .0))
+slice-aggregate-rewrite : tie.Need-slice-aggregate-rewrite
+slice-aggregate-rewrite c = let s = c .before .before .before .before .before .before .before .before .before .before .before .before .before .before .before .before .before .before .before .before .before .before .before .before .before .before .before .before in sym (lister-size (s .args .l) (s .good .0))
 
-gather-requires : tie.Need-gather-requires
-gather-requires c κs =
-    let s = c .before .before .before .before .before .before .before .before .before .before .before .before .before .before .before .before .before .before .before .before .before .before .before .before .before .before .before .before in (
-      c .before .before .before .before .before .before .before .before .before .before .before .before .advance .kept .1 .1 .1 .1 .1 .1 .0 ∙ s .pre .1 .0 .ways-full ∙ s .pre .1 .1 .0 .level .ends-a,
-      omega (arith, gates-room (s .args .l) (s .args .kinds .now) (s .args .a .now) (s .args .b .now) (s .args .ways .now) (s .args .left) (s .args .g) (s .pre .0) (s .pre .1 .1 .0), lister-size (s .args .l) (s .good .0)),
+rewrite-requires : tie.Need-rewrite-requires
+rewrite-requires c κs =
+    let s = c .before .before .before .before .before .before .before .before .before .before .before .before .before .before .before .before .before .before .before .before .before .before .before .before .before .before .before .before in
+    let t = c .before .before .before .before .before .before .before .before .before .before .before .before .advance in
+    let m = was-next (t .ensures) (omega (arith, c .before .before .before .if1 .left, s .pre .1 .1 .0 .level .ends-a)) in (
+      t .kept .1 .1 .1 .1 .1 .1 .0 ∙ s .pre .1 .0 .ways-full ∙ s .pre .1 .1 .0 .level .ends-a,
+      (
+        omega (arith, m .parts .below),
+        (
+          gates-held (s .args .l) (s .args .kinds .now) (s .args .a .now) (s .args .b .now) (s .args .ways .now) (s .args .left) (s .args .g) (s .pre .0) (s .pre .1 .1 .0),
+          (
+            omega (arith, gates-room (s .args .l) (s .args .kinds .now) (s .args .a .now) (s .args .b .now) (s .args .ways .now) (s .args .left) (s .args .g) (s .pre .0) (s .pre .1 .1 .0), lister-size (s .args .l) (s .good .0)),
+            front-stands (s .args .l) (s .args .kinds .now) (s .args .a .now) (s .args .b .now) (s .args .ways .now) (s .args .left) (s .args .g) (s .pre .0) (s .pre .1 .1 .0) (m .parts),
+          ),
+        ),
+      ),
     )
 
 due-plan-requires : tie.Need-due-plan-requires
@@ -70,11 +80,11 @@ same-length-8 c = search needs
 returns-2 : tie.Need-returns-2
 returns-2 c =
     let s = c .before .before .before .before .before .before .before .before .before .before .before .before .before .before .before .before .before .before .before .before .before .before .before .before .before .before .before .before .before .before .before in
-    let m = was-next (c .before .before .before .before .before .before .before .before .before .before .before .before .before .before .before .advance .ensures) (not-false _ (c .before .before .before .before .before .before .if1 .left)) in (
+    let m = was-next (c .before .before .before .before .before .before .before .before .before .before .before .before .before .before .before .advance .ensures) (omega (arith, c .before .before .before .before .before .before .if1 .left, s .pre .1 .1 .0 .level .ends-a)) in (
       step-next (s .args .l) (s .args .kinds .now) (s .args .a .now) (s .args .b .now) (s .args .ways .now) (s .args .left) (s .args .g) (s .pre .0) (s .pre .1 .1 .0)
-          (c .due-plan .ensures) (m .is-next) (m .is-plan) (m .hung) (c .before .before .gather .ensures),
+          (c .due-plan .ensures) (m .is-next) (m .is-plan) (m .hung) (c .before .before .rewrite .ensures),
       step-stands (s .args .l) (s .args .kinds .now) (s .args .a .now) (s .args .b .now) (s .args .ways .now) (s .args .left) (s .args .g) (s .pre .0) (s .pre .1 .1 .0)
-          (c .due-plan .ensures) (m .is-next) (m .is-plan) (m .hung) (c .before .before .gather .ensures),
+          (c .due-plan .ensures) (m .is-next) (m .is-plan) (m .hung) (c .before .before .rewrite .ensures),
     )
 
 pub stepped-spec : {M : Type 1} → statement M
@@ -90,8 +100,8 @@ stepped-spec =
     same-length-3
     same-length-4
     returns
-    slice-aggregate-gather
-    gather-requires
+    slice-aggregate-rewrite
+    rewrite-requires
     due-plan-requires
     same-length-5
     same-length-6

@@ -7,7 +7,7 @@ use Rattle.gates.proofs.Readies.{ready-ways, ready-notes}
 use Rattle.planner.specs.Seeks.{AtPlan}
 use Rattle.planner.proofs.Seeks.{none-lone, row-begun, plan-partable, plan-next, plan-last}
 use Rattle.runs.specs.Advances.{at-last}
-use Rattle.runs.proofs.Advances.{step-on}
+use Rattle.runs.proofs.Advances.{parted, step-on, not-parted}
 use Rattle.runs.proofs.advance.Statement.{statement}
 use Rattle.runs.proofs.advance.Tie as tie
 
@@ -56,8 +56,12 @@ returns : tie.Need-returns
 returns c =
     let s = c .before .before .before .before .before .before .before .before .before .before .before .before .before .before .before .before .before .before .before .before .before .before .before .before .before .before .before .before .before .before .before .before .before .before .before .before .before in
     let g = (c .before .before .before .before .before .before) .complete .ensures in
+    let d = copied (c .before .before .before .before .before .before .before .before .before .before .before .before .before .before .before .before .before .before .before .before .before .before .before .before) in
+    let t = (c .before .before .before .before .before .before .before .before .before .before .before .before .before .before .before .before .before) .turn-back .ensures in
+    let l = (c .before .before .before .before .before .before .before .before .before .before) .if1 .taken in
     step-on (s .args .n) (s .args .kinds .now) (s .args .a .now) (s .args .b .now) (s .pre .1 .0 .level)
-    (plan-next (s .args .n) (s .args .kinds .now) (s .args .a .now) (s .args .b .now) (copied (c .before .before .before .before .before .before .before .before .before .before .before .before .before .before .before .before .before .before .before .before .before .before .before .before)) (s .pre .1 .0 .hung) ((c .before .before .before .before .before .before .before .before .before .before .before .before .before .before .before .before .before) .turn-back .ensures) ((c .before .before .before .before .before .before .before .before .before .before) .if1 .taken) g)
+    (parted (s .args .n) (s .args .kinds .now) (s .args .a .now) (s .args .b .now) (s .pre .1 .0 .level) d l t g)
+    (plan-next (s .args .n) (s .args .kinds .now) (s .args .a .now) (s .args .b .now) d (s .pre .1 .0 .hung) t l g)
     g
 
 same-length-5 : tie.Need-same-length-5
@@ -75,7 +79,9 @@ same-length-8 c = search needs
 returns-2 : tie.Need-returns-2
 returns-2 c =
     let s = c .before .before .before .before .before .before .before .before .before .before .before .before .before .before .before .before .before .before .before .before .before .before .before .before .before .before .before in
-    at-last refl (plan-last (s .args .n) (s .args .kinds .now) (s .args .a .now) (s .args .b .now) (copied (c .before .before .before .before .before .before .before .before .before .before .before .before .before .before)) (s .pre .1 .0 .hung) ((c .before .before .before .before .before .before .before) .turn-back .ensures) (λ l. omega (arith, c .if1 .left)))
+    let t = (c .before .before .before .before .before .before .before) .turn-back .ensures in
+    at-last (not-parted (s .args .n) (s .args .kinds .now) (s .args .a .now) (s .args .b .now) (s .pre .1 .0 .level) (omega arith) (λ l. omega (arith, c .if1 .left)) t)
+    (plan-last (s .args .n) (s .args .kinds .now) (s .args .a .now) (s .args .b .now) (copied (c .before .before .before .before .before .before .before .before .before .before .before .before .before .before)) (s .pre .1 .0 .hung) t (λ l. omega (arith, c .if1 .left)))
 
 pub advance-spec : {M : Type 1} → statement M
 advance-spec =
