@@ -13,14 +13,15 @@ use borrow.Author.Tests.{eqb-true, eqb-false}
 use Rattle.network.proofs.Bools.{decide}
 use Rattle.network.specs.Networks.{Network}
 use Rattle.tables.specs.Rows.{netOf}
-use Rattle.listing.specs.declared.Due.{Due}
-use Rattle.listing.specs.declared.Due.the-variants as D
+use Rattle.lines.specs.declared.Due.{Due}
+use Rattle.lines.specs.declared.Due.the-variants as D
+use Rattle.lines.specs.Listings.{line, character, planText}
+use Rattle.lines.specs.Puts.{Put}
+use Rattle.lines.proofs.Puts.{Laid, laid-none, laid-length, laid-end, put-laid, from-on}
 use Rattle.listing.specs.declared.Lister.{Lister}
 use Rattle.listing.specs.declared.Filled.{Filled}
-use Rattle.listing.specs.Listings.{line, character, planText}
-use Rattle.listing.specs.Pending.{lineOf, linesAfter, gatesHeld, planIn, restOf, pendingOf, lentNet, pending, Put, Filling}
+use Rattle.listing.specs.Pending.{lineOf, linesAfter, gatesHeld, planIn, restOf, pendingOf, lentNet, pending, Filling}
 use Rattle.listing.specs.Parts.{Turned}
-use Rattle.listing.proofs.Puts.{Laid, laid-none, laid-length, laid-end, put-laid, from-on}
 
 -- n bytes of what is to be printed in l stand in the buffer; the others are to be printed in the state.
 pub record Printing (l : Lister) (kinds a b out out′ : List ℕ) (state : Lister) (n : ℕ) : Type 0 where

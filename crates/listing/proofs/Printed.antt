@@ -21,7 +21,7 @@ use Rattle.netfile.specs.declared.Place.the-variants.{Head, Inside}
 use Rattle.netfile.specs.Records.{Front, broken, whole, bodyOf, withBody, takeRecord, areBytes}
 use Rattle.netfile.specs.Files.{Reading, refused, read, mayCome, onRecord, atEnd, reachIn, withReach, inside, readReaches, readFile, endKind}
 use Rattle.netfile.proofs.Files.{write-read}
-use Rattle.listing.specs.Listings.{maxBytes, maxPlans, refusalLine, replyLines, readingLines, listing}
+use Rattle.lines.specs.Listings.{maxBytes, maxPlans, refusalLine, replyLines, readingLines, listing}
 use Rattle.listing.specs.Laws.{Printed, one-line, plans}
 use Rattle.listing.proofs.Starts.{bytes-first}
 

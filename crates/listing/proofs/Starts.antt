@@ -29,7 +29,7 @@ use Rattle.netfile.proofs.RoundTrips.{room-kept}
 use Rattle.netfile.proofs.Calls.{answer-refused, Counted, answer-read}
 use Rattle.listing.specs.declared.Lister.{Lister}
 use Rattle.listing.specs.declared.Started.{Started}
-use Rattle.listing.specs.Listings.{maxBytes, maxPlans, replyLines, readingLines, listing}
+use Rattle.lines.specs.Listings.{maxBytes, maxPlans, replyLines, readingLines, listing}
 use Rattle.listing.specs.Pending.{pendingOf, pending, fileRead, Starting}
 use Rattle.listing.specs.Parts.{FirstLine, RefusalLine}
 use Rattle.listing.proofs.States.{first-roomy, refusal-pending}

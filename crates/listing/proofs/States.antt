@@ -23,12 +23,13 @@ use Rattle.network.proofs.Replies.{given-iff, first-given, next-given}
 use Rattle.tables.specs.Rows.{netOf}
 use Rattle.planner.specs.declared.Answer.{Answer}
 use Rattle.planner.specs.Answers.{answerOf, Written}
-use Rattle.listing.specs.declared.Due.{Due}
-use Rattle.listing.specs.declared.Due.the-variants as D
+use Rattle.lines.specs.declared.Due.{Due}
+use Rattle.lines.specs.declared.Due.the-variants as D
+use Rattle.lines.specs.Listings.{maxPlans, line, planText, endText, refusedText, plansFrom, refusalLine, replyLines}
+use Rattle.lines.specs.Dues.{refusalDue, dueOf}
 use Rattle.listing.specs.declared.Lister.{Lister}
-use Rattle.listing.specs.Listings.{maxPlans, line, planText, endText, refusedText, plansFrom, refusalLine, replyLines}
 use Rattle.listing.specs.Pending.{lineOf, linesAfter, gatesHeld, restOf, pendingOf, lentNet}
-use Rattle.listing.specs.Parts.{refusalDue, dueOf, FirstLine, LineAfter, RefusalLine}
+use Rattle.listing.specs.Parts.{FirstLine, LineAfter, RefusalLine}
 
 -- ---- the gates of an accepted table
 

@@ -23,12 +23,13 @@ use Rattle.planner.specs.Seeks.{AtPlan}
 use Rattle.runs.specs.Advances.{gatesBefore, PartsAt, Advanced, moved, at-last, Spare, Primed, elsewhere, at-plan}
 use Rattle.runs.proofs.Rewrites.{gates-split}
 use Rattle.runs.proofs.Advances.{spare-ready}
-use Rattle.listing.specs.declared.Due.{Due}
-use Rattle.listing.specs.declared.Due.the-variants as D
+use Rattle.lines.specs.declared.Due.{Due}
+use Rattle.lines.specs.declared.Due.the-variants as D
 use Rattle.listing.specs.declared.Lister.{Lister}
-use Rattle.listing.specs.Listings.{replyLines}
+use Rattle.lines.specs.Listings.{replyLines}
+use Rattle.lines.specs.Dues.{planDue}
 use Rattle.listing.specs.Pending.{gatesHeld, pendingOf, lentNet}
-use Rattle.listing.specs.Parts.{planDue, LineAfter}
+use Rattle.listing.specs.Parts.{LineAfter}
 use Rattle.listing.specs.Keeping.{Standing, Kept, unknown, kept}
 use Rattle.listing.proofs.States.{GivenPlan, gates-fit, roomy, plan-held, reply-pending}
 

@@ -7,10 +7,10 @@ use mathlib.Core.List.{List, [], _∷_, _++_, append-nil}
 use lib.ListN.{length, drop, length-append, length-drop, length-map}
 use lib.Seq.{length-take-le}
 use Rattle.network.specs.Networks.{Network, maxReaches}
-use Rattle.listing.specs.declared.Due.{Due}
-use Rattle.listing.specs.declared.Due.the-variants as D
+use Rattle.lines.specs.declared.Due.{Due}
+use Rattle.lines.specs.declared.Due.the-variants as D
 use Rattle.listing.specs.declared.Lister.{Lister}
-use Rattle.listing.specs.Listings.{line, planText, refusedText, character}
+use Rattle.lines.specs.Listings.{line, planText, refusedText, character}
 use Rattle.listing.specs.Pending.{lineOf, linesAfter, gatesHeld, planIn, restOf, pendingOf}
 use Rattle.listing.specs.Parts.{LineAfter, planLength, Turned}
 

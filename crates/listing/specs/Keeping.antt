@@ -7,8 +7,8 @@ use mathlib.Core.List.{List}
 use lib.ListN.{length}
 use Rattle.gates.specs.Ready.{Ready}
 use Rattle.planner.specs.Seeks.{AtPlan}
-use Rattle.listing.specs.declared.Due.{Due}
-use Rattle.listing.specs.declared.Due.the-variants as D
+use Rattle.lines.specs.declared.Due.{Due}
+use Rattle.lines.specs.declared.Due.the-variants as D
 
 -- Where the line of a plan is being printed, the ways are those of the plan s.
 abbrev pub Standing : ℕ → List ℕ → List ℕ → List ℕ → Due → List ℕ → List ℕ → Type 0

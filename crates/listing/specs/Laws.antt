@@ -10,7 +10,7 @@ use Rattle.network.specs.Lists.{elem}
 use Rattle.network.specs.Networks.{Network}
 use Rattle.network.specs.Plans.{firstPlan}
 use Rattle.netfile.specs.Files.{read, readFile}
-use Rattle.listing.specs.Listings.{maxBytes, maxPlans, line, refusedText, plansFrom, listing}
+use Rattle.lines.specs.Listings.{maxBytes, maxPlans, line, refusedText, plansFrom, listing}
 
 pub data Printed (file : List ℕ) : Type 0 where
   one-line : (k : ℕ) → elem k (1 ∷ 2 ∷ 3 ∷ 4 ∷ 5 ∷ 6 ∷ 9 ∷ 10 ∷ []) ≡ true → listing file ≡ line (refusedText k) → Printed file

@@ -1,6 +1,4 @@
--- What the lister prints, by document 01's words, and what is still to be printed of it.
-pub mod Listings
-pub mod Examples
+-- What is still to be printed of the lister's text, and what is printed at all.
 pub mod Laws
 pub mod Pending
 pub mod Parts

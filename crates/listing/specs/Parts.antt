@@ -1,40 +1,17 @@
--- The parts of the start and of the filling: which line an answer calls for, and the state that a line leads to.
+-- The parts of the start and of the filling: the state that an answer or a line leads to.
 -- Assumes nothing.
 use Prim.Native.Nat.{ℕ, zero, suc}
 use mathlib.Core.Path.{_≡_}
-use mathlib.Core.Bool.{cond}
 use mathlib.Core.List.{List, []}
-use lib.Dec.{eqb}
 use Rattle.network.specs.Networks.{Network, maxReaches}
 use Rattle.network.specs.Marks.{markBytes}
-use Rattle.network.specs.Replies.{refusalNumber, firstReply}
+use Rattle.network.specs.Replies.{firstReply}
 use Rattle.tables.specs.Rows.{netOf}
-use Rattle.planner.specs.declared.Verdict.{Verdict}
-use Rattle.planner.specs.declared.Verdict.the-variants as Of
-use Rattle.planner.specs.declared.Answer.{Answer}
-use Rattle.planner.specs.declared.Answer.the-variants as A
-use Rattle.listing.specs.declared.Due.{Due}
-use Rattle.listing.specs.declared.Due.the-variants as D
+use Rattle.lines.specs.declared.Due.the-variants as D
+use Rattle.lines.specs.Listings.{maxPlans, replyLines}
+use Rattle.lines.specs.Dues.{refusalDue}
 use Rattle.listing.specs.declared.Lister.{Lister}
-use Rattle.listing.specs.Listings.{maxPlans, replyLines}
 use Rattle.listing.specs.Pending.{linesAfter, planIn, restOf, pendingOf}
-
--- The line that an answer calls for, where so many plans may still be printed.
-abbrev pub planDue : ℕ → Due
-planDue zero = D.More
-planDue (suc n) = D.Plan n
-
-abbrev pub verdictDue : Verdict → ℕ → Due
-verdictDue Of.Plan left = planDue left
-verdictDue (Of.ShutIn f) left = D.Refused 9
-verdictDue (Of.Lone f) left = D.Refused 10
-
-abbrev pub refusalDue : ℕ → Due
-refusalDue r = cond (eqb r 11) D.End (D.Refused r)
-
-abbrev pub dueOf : Answer → ℕ → Due
-dueOf (A.Refused r) left = refusalDue (refusalNumber r)
-dueOf (A.Given reply) left = verdictDue (reply .verdict) left
 
 -- The first line's state, and that after the line of a plan.
 pub record FirstLine (n : ℕ) (kinds a b : List ℕ) (r : Lister) : Type 0 where

@@ -12,12 +12,13 @@ use Rattle.network.specs.Replies.{nextReply}
 use Rattle.tables.specs.Rows.{netOf}
 use Rattle.netfile.specs.Files.{Reading, readFile}
 use Rattle.netfile.specs.Answers.{roomOf, withRoom, reachesRead, Rows}
-use Rattle.listing.specs.declared.Due.{Due}
-use Rattle.listing.specs.declared.Due.the-variants as D
+use Rattle.lines.specs.declared.Due.{Due}
+use Rattle.lines.specs.declared.Due.the-variants as D
+use Rattle.lines.specs.Listings.{maxBytes, line, planText, endText, moreText, refusedText, replyLines, readingLines}
+use Rattle.lines.specs.Puts.{Put}
 use Rattle.listing.specs.declared.Lister.{Lister}
 use Rattle.listing.specs.declared.Started.{Started}
 use Rattle.listing.specs.declared.Filled.{Filled}
-use Rattle.listing.specs.Listings.{maxBytes, line, planText, endText, moreText, refusedText, replyLines, readingLines}
 
 -- The line that is being printed; s is the plan in hand.
 abbrev pub lineOf : Due → List ℕ → List ℕ
@@ -55,11 +56,6 @@ abbrev pub pending : Lister → List ℕ → List ℕ → List ℕ → List ℕ
 pending l kinds a b = pendingOf (lentNet l kinds a b) l
 
 -- ---- the calls
-
--- The first bytes of a text, as many as the buffer holds, stand at its front; "all beyond is untouched".
-pub record Put (text out out′ : List ℕ) (n : ℕ) : Type 0 where
-  pub count : n ≡ min (length text) (length out)
-  pub bytes : out′ ≡ take n text ++ drop n out
 
 -- The start reads the first 8,000 bytes of a file into the rows, and all lines for it are to be printed. Rows too short for its reaches are 7.
 abbrev pub fileRead : List ℕ → List ℕ → List ℕ → List ℕ → Reading

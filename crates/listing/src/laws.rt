@@ -3,8 +3,8 @@ use network::MAX_REACHES;
 ghost use Prim.Native.Nat.{_≤_};
 ghost use Rattle.network.specs.Networks.{maxReaches};
 ghost use Rattle.netfile.specs.Answers.{roomOf};
-ghost use Rattle.listing.specs.Listings.{listing};
-ghost use Rattle.listing.specs.Pending.{Put};
+ghost use Rattle.lines.specs.Listings.{listing};
+ghost use Rattle.lines.specs.Puts.{Put};
 
 // Puts the first bytes of a file's listing into the buffer, as many as it holds, with lent rows of room enough.
 fn list_in(file: &[u8], kinds: &mut [u8], a: &mut [u16], b: &mut [u16], out: &mut [u8]) -> usize

@@ -3,16 +3,22 @@
 // No call for users has a `requires`.
 pub mod laws;
 
+use lines::Due;
+use lines::due_of;
+use lines::due_plan;
+use lines::due_refused;
+use lines::least;
+use lines::put_end;
+use lines::put_more;
+use lines::put_plan;
+use lines::put_refused;
 use marks::MARK_BYTES;
 use netfile::ReadAnswer;
 use network::MAX_BASINS;
 use network::MAX_REACHES;
 use network::Refusal;
-use planner::Answer;
 use planner::HALF_EDGES;
-use planner::Verdict;
 ghost use mathlib.Core.Path.{_≡_};
-ghost use mathlib.Core.List.{map};
 ghost use Prim.Native.Nat.{_≤_, min};
 ghost use lib.ListN.{length, take, drop};
 ghost use Rattle.network.specs.Networks.{maxReaches};
@@ -22,23 +28,15 @@ ghost use Rattle.network.specs.Replies.{refusalNumber};
 ghost use Rattle.gates.specs.Ready.{Ready};
 ghost use Rattle.planner.specs.Rooms.{Space};
 ghost use Rattle.planner.specs.Seeks.{AtPlan};
+ghost use Rattle.lines.specs.Puts.{Put};
 ghost use Rattle.listing.specs.Keeping.{Standing, Kept};
-ghost use Rattle.listing.specs.Listings.{character, planText, line, refusedText};
-ghost use Rattle.listing.specs.Pending.{lineOf, gatesHeld, lentNet, Put, Starting, Filling};
-ghost use Rattle.listing.specs.Parts.{planDue, refusalDue, dueOf, FirstLine, LineAfter, planLength, Turned, RefusalLine};
+ghost use Rattle.listing.specs.Pending.{lineOf, gatesHeld, lentNet, Starting, Filling};
+ghost use Rattle.listing.specs.Parts.{FirstLine, LineAfter, planLength, Turned, RefusalLine};
 
 // The most bytes of a file that are read, and the most plans that are printed.
 pub const MAX_BYTES: usize = 8000;
 
 pub const MAX_PLANS: usize = 1000;
-
-// A line: that of a plan, after which so many plans may still be printed; `more`; `end`; or `refused ` and a number.
-pub enum Due {
-    Plan(usize),
-    More,
-    End,
-    Refused(u8),
-}
 
 // A state of the lister: the basin count, the line that is being printed, how many of its bytes are printed, and the plan in hand.
 pub struct Lister {
@@ -58,163 +56,6 @@ pub struct Started {
 pub struct Filled {
     pub lister: Lister,
     pub count: usize,
-}
-
-// The number of a refusal.
-fn number_of(r: Refusal) -> u8
-    ensures { λ n. ⌜ n ≡ refusalNumber r ⌝ }
-{
-    match r {
-        Refusal::BasinCount => 1,
-        Refusal::TooManyReaches => 2,
-        Refusal::EndOutOfRange => 3,
-        Refusal::Truncated => 4,
-        Refusal::UnknownKind => 5,
-        Refusal::TrailingBytes => 6,
-        Refusal::ShortBuffer => 7,
-        Refusal::BadSetting => 8,
-        Refusal::LastPlan => 11,
-    }
-}
-
-// The smaller of two counts.
-fn least(x: usize, y: usize) -> usize
-    ensures { λ r. ⌜ r ≡ min x y ⌝ }
-{
-    if x < y { x } else { y }
-}
-
-// Puts the first bytes of a text to the front of the buffer, as many as it holds.
-fn put(text: &[u8], out: &mut [u8]) -> usize
-    ensures { λ r. ⌜ Put (now (text .entry)) (now (out .entry)) (now (out .exit)) r ⌝ }
-{
-    let n = least(text.len(), out.len());
-    let mut i = 0;
-    while i < n {
-        out[i] = text[i];
-        i += 1;
-    }
-    n
-}
-
-// The same of a text from a place on.
-fn put_from(text: &[u8], at: usize, out: &mut [u8]) -> usize
-    ensures { λ r. ⌜ Put (drop at (now (text .entry))) (now (out .entry)) (now (out .exit)) r ⌝ }
-{
-    if at < text.len() {
-        put(&text[at..], out)
-    } else {
-        0
-    }
-}
-
-// The character of a gated reach's byte.
-fn digit(x: u8) -> u8
-    ensures { λ r. ⌜ r ≡ character x ⌝ }
-{
-    if x == 0 { b'0' } else { b'1' }
-}
-
-// Puts the characters of the first bytes of a setting, as many as the buffer holds.
-fn put_digits(setting: &[u8], out: &mut [u8]) -> usize
-    ensures { λ r. ⌜ Put (map character (now (setting .entry))) (now (out .entry)) (now (out .exit)) r ⌝ }
-{
-    let n = least(setting.len(), out.len());
-    let mut i = 0;
-    while i < n {
-        out[i] = digit(setting[i]);
-        i += 1;
-    }
-    n
-}
-
-// Puts the line of a plan, from a place on.
-fn put_plan(plan: &[u8], at: usize, out: &mut [u8]) -> usize
-    ensures { λ r. ⌜ Put (drop at (line (planText (now (plan .entry))))) (now (out .entry)) (now (out .exit)) r ⌝ }
-{
-    if plan.len() == 0 {
-        return put_from(b"-\n", at, out);
-    }
-    if plan.len() < at {
-        return 0;
-    }
-    let k = put_digits(&plan[at..], out);
-    if k == out.len() {
-        return k;
-    }
-    out[k] = b'\n';
-    k + 1
-}
-
-// Puts the line of a refusal, from a place on.
-fn put_refused(number: u8, at: usize, out: &mut [u8]) -> usize
-    ensures { λ r. ⌜ Put (drop at (line (refusedText number))) (now (out .entry)) (now (out .exit)) r ⌝ }
-{
-    if number < 10 {
-        let text = [
-            b'r',
-            b'e',
-            b'f',
-            b'u',
-            b's',
-            b'e',
-            b'd',
-            b' ',
-            b'0' + number,
-            b'\n',
-        ];
-        return put_from(&text, at, out);
-    }
-    let text = [
-        b'r',
-        b'e',
-        b'f',
-        b'u',
-        b's',
-        b'e',
-        b'd',
-        b' ',
-        b'0' + number / 10,
-        b'0' + number % 10,
-        b'\n',
-    ];
-    put_from(&text, at, out)
-}
-
-// The line for a refusal: `end` where it says that no plan is later.
-fn due_refused(r: Refusal) -> Due
-    ensures { λ d. ⌜ d ≡ refusalDue (refusalNumber r) ⌝ }
-{
-    let n = number_of(r);
-    if n == 11 { Due::End } else { Due::Refused(n) }
-}
-
-// The line for a plan that is there to be printed, if so many still may be.
-fn due_plan(left: usize) -> Due
-    ensures { λ d. ⌜ d ≡ planDue left ⌝ }
-{
-    if left == 0 {
-        Due::More
-    } else {
-        Due::Plan(left - 1)
-    }
-}
-
-// The line that an answer of first or next calls for.
-fn due_of(answer: Answer, left: usize) -> Due
-    ensures { λ d. ⌜ d ≡ dueOf answer left ⌝ }
-{
-    match answer {
-        Answer::Refused(r) => due_refused(r),
-        Answer::Given(reply) => {
-            let verdict = reply.verdict;
-            match verdict {
-                Verdict::Plan => due_plan(left),
-                Verdict::ShutIn(_) => Due::Refused(9),
-                Verdict::Lone(_) => Due::Refused(10),
-            }
-        }
-    }
 }
 
 // The number of gated reaches of a table, or the reach limit if there are more.
@@ -238,8 +79,8 @@ fn put_line(l: Lister, g: usize, out: &mut [u8]) -> usize
             let setting = l.setting;
             put_plan(&setting[..g], at, out)
         }
-        Due::More => put_from(b"more\n", at, out),
-        Due::End => put_from(b"end\n", at, out),
+        Due::More => put_more(at, out),
+        Due::End => put_end(at, out),
         Due::Refused(n) => put_refused(n, at, out),
     }
 }

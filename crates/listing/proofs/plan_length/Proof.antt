@@ -1,9 +1,17 @@
 -- `listing::plan_length` meets its contract.
 -- Assumes nothing.
-use Rattle.listing.proofs.Dues.{plan-line}
+use Prim.Native.Nat.{ℕ, zero, suc, _+_}
+use native.Mathlib.Omega.{arith}
+use mathlib.Core.Path.{_≡_, refl}
 use borrow.Author.Needs.{needs}
+use Rattle.listing.specs.Parts.{planLength}
 use Rattle.listing.proofs.plan_length.Statement.{statement}
 use Rattle.listing.proofs.plan_length.Tie as tie
+
+-- where a reach is gated
+plan-line : (g : ℕ) → (g ≡ 0 → ⊥) → g + 1 ≡ planLength g
+plan-line zero n = absurd (n refl)
+plan-line (suc g) n = omega arith
 
 add-result : tie.Need-add-result
 add-result c = search needs

@@ -7,7 +7,7 @@ use mathlib.Core.Path.{_≡_, refl, sym, ap, subst, subst⁻¹, _∙_}
 use lib.ListN.{length, take}
 use Rattle.listing.specs.Pending.{gatesHeld}
 use Rattle.listing.specs.Keeping.{Kept}
-use Rattle.listing.proofs.Puts.{laid-length}
+use Rattle.lines.proofs.Puts.{laid-length}
 use Rattle.listing.proofs.Fills.{Printing, print-none, same-net, turned-here, print-turn, print-full, print-laid, place-short, print-more, print-end}
 use Rattle.listing.proofs.print_lines.Statement.{statement}
 use Rattle.listing.proofs.print_lines.Tie as tie

@@ -6,7 +6,7 @@ use lib.ListN.{take, drop}
 use lib.Seq.{length-take-le}
 use Rattle.listing.specs.Pending.{lineOf}
 use Rattle.listing.proofs.Sizes.{lister-size}
-use Rattle.listing.proofs.Puts.{put-same}
+use Rattle.lines.proofs.Puts.{put-same}
 use borrow.Author.Needs.{needs}
 use Rattle.listing.proofs.put_line.Statement.{statement}
 use Rattle.listing.proofs.put_line.Tie as tie
@@ -26,20 +26,14 @@ put-plan-requires c κs = search needs
 enum-told-2 : tie.Need-enum-told-2
 enum-told-2 c = search needs
 
-slice-aggregate-put-from : tie.Need-slice-aggregate-put-from
-slice-aggregate-put-from c = search needs
-
-put-from-requires : tie.Need-put-from-requires
-put-from-requires c κs = search needs
+put-more-requires : tie.Need-put-more-requires
+put-more-requires c κs = search needs
 
 enum-told-3 : tie.Need-enum-told-3
 enum-told-3 c = search needs
 
-slice-aggregate-put-from-2 : tie.Need-slice-aggregate-put-from-2
-slice-aggregate-put-from-2 c = search needs
-
-put-from-requires-2 : tie.Need-put-from-requires-2
-put-from-requires-2 c κs = search needs
+put-end-requires : tie.Need-put-end-requires
+put-end-requires c κs = search needs
 
 enum-known-due : tie.Need-enum-known-due
 enum-known-due c = search needs
@@ -57,13 +51,13 @@ same-length-2 : tie.Need-same-length-2
 same-length-2 c = search needs
 
 returns-2 : tie.Need-returns-2
-returns-2 c = let s = c .before .before .before .before .before .before .before .before .args in put-same (ap (λ d. drop (s .l .at) (lineOf d (take (s .g) (s .l .setting)))) (sym (c .before .before .before .before .before .enum-told2 .given .1))) (c .before .before .put-from .ensures)
+returns-2 c = let s = c .before .before .before .before .before .before .before .args in put-same (ap (λ d. drop (s .l .at) (lineOf d (take (s .g) (s .l .setting)))) (sym (c .before .before .before .before .enum-told2 .given .1))) (c .before .before .put-more .ensures)
 
 same-length-3 : tie.Need-same-length-3
 same-length-3 c = search needs
 
 returns-3 : tie.Need-returns-3
-returns-3 c = let s = c .before .before .before .before .before .before .before .before .args in put-same (ap (λ d. drop (s .l .at) (lineOf d (take (s .g) (s .l .setting)))) (sym (c .before .before .before .before .before .enum-told3 .given .1))) (c .before .before .put-from2 .ensures)
+returns-3 c = let s = c .before .before .before .before .before .before .before .args in put-same (ap (λ d. drop (s .l .at) (lineOf d (take (s .g) (s .l .setting)))) (sym (c .before .before .before .before .enum-told3 .given .1))) (c .before .before .put-end .ensures)
 
 same-length-4 : tie.Need-same-length-4
 same-length-4 c = search needs
@@ -80,11 +74,9 @@ put-line-spec =
     slice-aggregate-put-plan
     put-plan-requires
     enum-told-2
-    slice-aggregate-put-from
-    put-from-requires
+    put-more-requires
     enum-told-3
-    slice-aggregate-put-from-2
-    put-from-requires-2
+    put-end-requires
     enum-known-due
     put-refused-requires
     same-length

@@ -10,7 +10,7 @@ use Rattle.netfile.specs.declared.ReadAnswer.the-variants.{Read}
 use Rattle.netfile.specs.Answers.{ReadCall}
 use Rattle.netfile.proofs.Records.{bytes-make}
 use Rattle.netfile.proofs.RoundTrips.{rows-long}
-use Rattle.listing.specs.Listings.{maxBytes}
+use Rattle.lines.specs.Listings.{maxBytes}
 use Rattle.listing.proofs.Starts.{first-read, bytes-first, start-refused, start-read}
 use borrow.Author.Needs.{needs}
 use Rattle.listing.proofs.start.Statement.{statement}

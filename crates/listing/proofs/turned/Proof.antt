@@ -3,7 +3,7 @@
 use native.Mathlib.Omega.{arith}
 use mathlib.Core.Path.{ap, subst}
 use lib.ListN.{take}
-use Rattle.listing.specs.declared.Due.{Due}
+use Rattle.lines.specs.declared.Due.{Due}
 use Rattle.listing.specs.Pending.{linesAfter, planIn, lentNet}
 use Rattle.listing.specs.Parts.{planLength}
 use Rattle.listing.specs.Keeping.{Kept}

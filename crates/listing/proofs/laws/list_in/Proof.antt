@@ -5,7 +5,7 @@ use mathlib.Core.Path.{sym}
 use lib.ListN.{length}
 use lib.Seq.{length-take-le}
 use Rattle.netfile.proofs.Records.{bytes-make}
-use Rattle.listing.proofs.Puts.{put-same}
+use Rattle.lines.proofs.Puts.{put-same}
 use Rattle.listing.proofs.Starts.{started-long, started-listing}
 use borrow.Author.Needs.{needs}
 use Rattle.listing.proofs.laws.list_in.Statement.{statement}

@@ -1,10 +1,10 @@
--- `listing::put_from` meets its contract.
+-- `lines::put_from` meets its contract.
 -- Assumes nothing.
 use lib.ListN.{drop-of-length-le}
 use borrow.Author.Needs.{needs}
-use Rattle.listing.proofs.Puts.{put-same, put-nothing, from-on}
-use Rattle.listing.proofs.put_from.Statement.{statement}
-use Rattle.listing.proofs.put_from.Tie as tie
+use Rattle.lines.proofs.Puts.{put-same, put-nothing, from-on}
+use Rattle.lines.proofs.put_from.Statement.{statement}
+use Rattle.lines.proofs.put_from.Tie as tie
 
 sub-put : tie.Need-sub-put
 sub-put c = search needs

@@ -1,9 +1,9 @@
--- `listing::due_refused` meets its contract.
+-- `lines::due_refused` meets its contract.
 -- Assumes nothing.
-use Rattle.listing.proofs.Dues.{refusal-end, refusal-other}
+use Rattle.lines.proofs.Dues.{refusal-end, refusal-other}
 use borrow.Author.Needs.{needs}
-use Rattle.listing.proofs.due_refused.Statement.{statement}
-use Rattle.listing.proofs.due_refused.Tie as tie
+use Rattle.lines.proofs.due_refused.Statement.{statement}
+use Rattle.lines.proofs.due_refused.Tie as tie
 
 number-of-requires : tie.Need-number-of-requires
 number-of-requires c κs = search needs

@@ -7,8 +7,8 @@ use mathlib.Core.Path.{_≡_, refl, sym, subst, ap, _∙_}
 use mathlib.Core.List.{List, [], _∷_, _++_, map}
 use lib.ListN.{length, getD, take, drop, set, length-append, length-take, length-drop}
 use lib.Seq.{take-append-le, getD-at, take-all, length-take-le, take-suc, drop-cons, set-at, append-snoc}
-use Rattle.listing.specs.Listings.{character}
-use Rattle.listing.specs.Pending.{Put}
+use Rattle.lines.specs.Listings.{character}
+use Rattle.lines.specs.Puts.{Put}
 
 -- The first i bytes of a text stand over those of old.
 pub record Laid (text old new : List ℕ) (i : ℕ) : Type 0 where

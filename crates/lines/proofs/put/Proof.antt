@@ -1,13 +1,13 @@
--- `listing::put` meets its contract. The loop's invariant: the first i bytes of the text stand at the front of the buffer, and i is at most n. The measure is
+-- `lines::put` meets its contract. The loop's invariant: the first i bytes of the text stand at the front of the buffer, and i is at most n. The measure is
 -- what is left of n.
 -- Assumes nothing.
 use Prim.Native.Nat.{_-_, _≤_}
 use native.Mathlib.Omega.{arith}
 use mathlib.Core.Path.{refl}
 use borrow.Author.Needs.{needs}
-use Rattle.listing.proofs.Puts.{Laid, laid-none, laid-length, laid-more, laid-end}
-use Rattle.listing.proofs.put.Statement.{statement}
-use Rattle.listing.proofs.put.Tie as tie
+use Rattle.lines.proofs.Puts.{Laid, laid-none, laid-length, laid-more, laid-end}
+use Rattle.lines.proofs.put.Statement.{statement}
+use Rattle.lines.proofs.put.Tie as tie
 
 abbrev Inv-loop : tie.InvT-loop
 Inv-loop text out₀ n i₀ out i = (i ≤ n) × Laid text out₀ out i

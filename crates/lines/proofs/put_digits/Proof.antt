@@ -1,4 +1,4 @@
--- `listing::put_digits` meets its contract. The loop's invariant: the first i bytes of the text stand at the front of the buffer, and i is at most n. The measure is
+-- `lines::put_digits` meets its contract. The loop's invariant: the first i bytes of the text stand at the front of the buffer, and i is at most n. The measure is
 -- what is left of n.
 -- Assumes nothing.
 use Prim.Native.Nat.{ℕ, _-_, _≤_, min}
@@ -6,11 +6,11 @@ use native.Mathlib.Omega.{arith}
 use mathlib.Core.Path.{sym, ap, _∙_}
 use mathlib.Core.List.{map}
 use lib.ListN.{length, length-map}
-use Rattle.listing.specs.Listings.{character}
+use Rattle.lines.specs.Listings.{character}
 use borrow.Author.Needs.{needs}
-use Rattle.listing.proofs.Puts.{Laid, laid-none, laid-length, laid-more, laid-end, digit-at}
-use Rattle.listing.proofs.put_digits.Statement.{statement}
-use Rattle.listing.proofs.put_digits.Tie as tie
+use Rattle.lines.proofs.Puts.{Laid, laid-none, laid-length, laid-more, laid-end, digit-at}
+use Rattle.lines.proofs.put_digits.Statement.{statement}
+use Rattle.lines.proofs.put_digits.Tie as tie
 
 abbrev Inv-loop : tie.InvT-loop
 Inv-loop setting out₀ n i₀ out i = (i ≤ n) × Laid (map character setting) out₀ out i

@@ -1,8 +1,8 @@
--- `listing::due_of` meets its contract.
+-- `lines::due_of` meets its contract.
 -- Assumes nothing.
 use borrow.Author.Needs.{needs}
-use Rattle.listing.proofs.due_of.Statement.{statement}
-use Rattle.listing.proofs.due_of.Tie as tie
+use Rattle.lines.proofs.due_of.Statement.{statement}
+use Rattle.lines.proofs.due_of.Tie as tie
 
 enum-known-answer : tie.Need-enum-known-answer
 enum-known-answer c = search needs

@@ -9,8 +9,8 @@ use Rattle.network.specs.Marks.{marksOf}
 use Rattle.network.specs.Replies.{shutInSide, loneSide, shutInFinding, loneFinding, answer, firstAnswer}
 use Rattle.netfile.specs.Records.{bodyOf}
 use Rattle.netfile.specs.Files.{readReaches, readFile}
-use Rattle.listing.specs.Listings.{plansFrom, listing}
-use Rattle.listing.specs.Examples.{examples, limits, case3}
+use Rattle.lines.specs.Listings.{plansFrom, listing}
+use Rattle.lines.specs.Examples.{examples, limits, case3}
 
 pub examples-hold : map (λ e. listing (e .0)) examples ≡ map (λ e. e .1) examples
 unfolding isSetting strongUnder isPlan passable firstPlan nextPlan crossesAlone isLone lowestLone marksOf shutInSide loneSide shutInFinding loneFinding answer firstAnswer bodyOf readReaches readFile plansFrom listing

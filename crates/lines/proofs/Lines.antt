@@ -7,8 +7,8 @@ use mathlib.Core.List.{List, [], _∷_, _++_, map}
 use lib.ListN.{length, take, drop, length-map, length-append, drop-of-length-le}
 use lib.Seq.{drop-append-le}
 use borrow.Author.Tests.{lt-ltb, le-ltb}
-use Rattle.listing.specs.Listings.{line, character, planText, refusedText}
-use Rattle.listing.proofs.Puts.{digits-from, from-on}
+use Rattle.lines.specs.Listings.{line, character, planText, refusedText}
+use Rattle.lines.proofs.Puts.{digits-from, from-on}
 
 -- ---- a plan
 

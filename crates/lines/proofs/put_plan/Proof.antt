@@ -1,12 +1,12 @@
--- `listing::put_plan` meets its contract: the characters and the newline, or as many of them as there is room for.
+-- `lines::put_plan` meets its contract: the characters and the newline, or as many of them as there is room for.
 -- Assumes nothing.
 use mathlib.Core.Path.{ap}
 use lib.ListN.{drop}
-use Rattle.listing.proofs.Puts.{put-same, put-nothing, put-full, put-last}
-use Rattle.listing.proofs.Lines.{plan-dash, plan-past, plan-from}
+use Rattle.lines.proofs.Puts.{put-same, put-nothing, put-full, put-last}
+use Rattle.lines.proofs.Lines.{plan-dash, plan-past, plan-from}
 use borrow.Author.Needs.{needs}
-use Rattle.listing.proofs.put_plan.Statement.{statement}
-use Rattle.listing.proofs.put_plan.Tie as tie
+use Rattle.lines.proofs.put_plan.Statement.{statement}
+use Rattle.lines.proofs.put_plan.Tie as tie
 
 slice-aggregate-put-from : tie.Need-slice-aggregate-put-from
 slice-aggregate-put-from c = search needs

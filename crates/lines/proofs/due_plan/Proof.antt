@@ -1,9 +1,9 @@
--- `listing::due_plan` meets its contract.
+-- `lines::due_plan` meets its contract.
 -- Assumes nothing.
-use Rattle.listing.proofs.Dues.{plan-due}
+use Rattle.lines.proofs.Dues.{plan-due}
 use borrow.Author.Needs.{needs}
-use Rattle.listing.proofs.due_plan.Statement.{statement}
-use Rattle.listing.proofs.due_plan.Tie as tie
+use Rattle.lines.proofs.due_plan.Statement.{statement}
+use Rattle.lines.proofs.due_plan.Tie as tie
 
 sub-t4 : tie.Need-sub-t4
 sub-t4 c = search needs

@@ -1,12 +1,12 @@
--- `listing::put_refused` meets its contract: one digit or two.
+-- `lines::put_refused` meets its contract: one digit or two.
 -- Assumes nothing.
 use mathlib.Core.Path.{ap}
 use lib.ListN.{drop}
-use Rattle.listing.proofs.Puts.{put-same}
-use Rattle.listing.proofs.Lines.{refused-one, refused-two}
+use Rattle.lines.proofs.Puts.{put-same}
+use Rattle.lines.proofs.Lines.{refused-one, refused-two}
 use borrow.Author.Needs.{needs}
-use Rattle.listing.proofs.put_refused.Statement.{statement}
-use Rattle.listing.proofs.put_refused.Tie as tie
+use Rattle.lines.proofs.put_refused.Statement.{statement}
+use Rattle.lines.proofs.put_refused.Tie as tie
 
 add-t7 : tie.Need-add-t7
 add-t7 c = search needs

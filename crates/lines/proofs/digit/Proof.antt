@@ -1,8 +1,8 @@
--- `listing::digit` meets its contract.
+-- `lines::digit` meets its contract.
 -- Assumes nothing.
-use Rattle.listing.proofs.Puts.{character-0, character-other}
-use Rattle.listing.proofs.digit.Statement.{statement}
-use Rattle.listing.proofs.digit.Tie as tie
+use Rattle.lines.proofs.Puts.{character-0, character-other}
+use Rattle.lines.proofs.digit.Statement.{statement}
+use Rattle.lines.proofs.digit.Tie as tie
 
 returns : tie.Need-returns
 returns c = character-0 _ (c .if1 .taken)
