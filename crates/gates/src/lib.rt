@@ -2,43 +2,17 @@
 // one way or the other without loss, and where a setting can be left for a later one.
 // These functions are for the planner; what they require it has checked.
 ghost use mathlib.Core.Path.{_≡_};
-ghost use mathlib.Core.List.{map};
 ghost use Prim.Native.Nat.{_≤_, _<_};
 ghost use lib.ListN.{length, getD, set};
 ghost use Rattle.network.specs.Networks.{Accepted};
 ghost use Rattle.network.specs.Hangings.{reached};
 ghost use Rattle.tables.specs.Rows.{netOf};
-ghost use Rattle.search.specs.Ends.{arcsOf, flipWay};
+ghost use Rattle.search.specs.Ends.{arcsOf, sided};
 ghost use Rattle.gates.specs.Ready.{Ready, FirstUnseen, Missed, Weakest};
 ghost use Rattle.gates.specs.Hung.{leftOut, Tried, HungGate, Settled};
 ghost use Rattle.gates.specs.Greedy.{Begun, NoneLone, Greedy, Completed};
 ghost use Rattle.gates.specs.Follows.{Under, upTo, Whole, WholeBelow, Followed, TurnedBack, HungAs, PartedAt};
 use search::NONE;
-
-// The way against the arrows.
-fn flipped(way: u8) -> u8
-    ensures { λ r. ⌜ r ≡ flipWay way ⌝ }
-{
-    if way == 0 {
-        1
-    } else if way == 1 {
-        0
-    } else {
-        way
-    }
-}
-
-// The way against the arrows of each reach.
-fn flip(ways: &[u8], back: &mut [u8])
-    requires { ⌜ length (now back) ≡ length (now ways) ⌝ }
-    ensures { λ _. ⌜ now (back .exit) ≡ map flipWay (now (ways .entry)) ⌝ }
-{
-    let mut i = 0;
-    while i < ways.len() {
-        back[i] = flipped(ways[i]);
-        i += 1;
-    }
-}
 
 // The lowest basin whose byte is 0, or n if there is none.
 fn first_unseen(n: usize, seen: &[u8]) -> usize
@@ -55,7 +29,7 @@ fn first_unseen(n: usize, seen: &[u8]) -> usize
     n
 }
 
-// The lowest basin that is not reached from start, or n if all are.
+// The lowest basin that is not reached from start along the arrows or, if so asked, against them; or n if all are.
 pub fn missed(
     n: usize,
     a: &[u16],
@@ -64,14 +38,15 @@ pub fn missed(
     head: &[u16],
     next: &[u16],
     start: u16,
+    against: bool,
     seen: &mut [u8],
     queue: &mut [u16],
 ) -> usize
     requires { ⌜ Ready n (now a) (now b) (now ways) (now head) (now next) (now seen) (now queue) ⌝ }
     requires { ⌜ start < n ⌝ }
-    ensures { λ r. ⌜ Missed (arcsOf (now (a .entry)) (now (b .entry)) (now (ways .entry))) n start (now (seen .exit)) r ⌝ }
+    ensures { λ r. ⌜ Missed (arcsOf (now (a .entry)) (now (b .entry)) (sided against (now (ways .entry)))) n start (now (seen .exit)) r ⌝ }
 {
-    search::search(n, a, b, ways, head, next, start, NONE, seen, queue);
+    search::search(n, a, b, ways, head, next, start, NONE, against, seen, queue);
     first_unseen(n, seen)
 }
 
@@ -81,21 +56,18 @@ pub fn weakest(
     a: &[u16],
     b: &[u16],
     ways: &[u8],
-    back: &mut [u8],
     head: &[u16],
     next: &[u16],
     seen: &mut [u8],
     queue: &mut [u16],
 ) -> usize
     requires { ⌜ Ready n (now a) (now b) (now ways) (now head) (now next) (now seen) (now queue) ⌝ }
-    requires { ⌜ length (now back) ≡ length (now ways) ⌝ }
     ensures { λ r. ⌜ Weakest (arcsOf (now (a .entry)) (now (b .entry)) (now (ways .entry))) n r ⌝ }
 {
-    if missed(n, a, b, ways, head, next, 0, seen, queue) < n {
+    if missed(n, a, b, ways, head, next, 0, false, seen, queue) < n {
         return 0;
     }
-    flip(ways, back);
-    missed(n, a, b, back, head, next, 0, seen, queue)
+    missed(n, a, b, ways, head, next, 0, true, seen, queue)
 }
 
 // Whether end B of reach i leads to its end A: then it can be hung as drawn without loss.
@@ -217,7 +189,7 @@ fn hang_gate(
         return true;
     }
     ways[i] = 3;
-    search::search(n, a, b, ways, head, next, a[i], NONE, seen, queue);
+    search::search(n, a, b, ways, head, next, a[i], NONE, false, seen, queue);
     false
 }
 

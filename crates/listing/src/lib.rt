@@ -381,7 +381,8 @@ fn fill_in(
     seen: &mut [u8],
     queue: &mut [u16],
 ) -> Filled
-    requires { ⌜ Space (now ways) (now under) (now head) (now next) (now seen) (now queue) ⌝ }
+    requires { ⌜ Space (now ways) (now head) (now next) (now seen) (now queue) ⌝ }
+    requires { ⌜ length (now under) ≡ maxReaches ⌝ }
     ensures { λ r. ⌜ Filling l (now (kinds .entry)) (now (a .entry)) (now (b .entry)) (now (out .entry)) (now (out .exit)) r ⌝ }
 {
     let g = gates_held(kinds, a, b);

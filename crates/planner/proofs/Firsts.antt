@@ -58,7 +58,7 @@ strong-weakest n A r w = go (decLt r n)
         ∙ sym (eq-eqb r n (omega (arith, w .bound)))
 
 -- the two searches of the check
-pub under-weakest : {n r : ℕ} {ks xs ys ws ws′ back head next seen queue : List ℕ} → Room n ks xs ys ws back head next seen queue → (s : List ℕ) → ws′ ≡ waysRow ks s → Weakest (arcsOf xs ys ws′) n r → eqb r n ≡ strongUnder (netOf n ks xs ys) s
+pub under-weakest : {n r : ℕ} {ks xs ys ws ws′ head next seen queue : List ℕ} → Room n ks xs ys ws head next seen queue → (s : List ℕ) → ws′ ≡ waysRow ks s → Weakest (arcsOf xs ys ws′) n r → eqb r n ≡ strongUnder (netOf n ks xs ys) s
 under-weakest {n} {r} {ks} {xs} {ys} room s e w =
     sym (room-under room s ∙ strong-weakest n (arcsOf xs ys (waysRow ks s)) r (subst (λ (v : List ℕ). Weakest (arcsOf xs ys v) n r) e w))
 

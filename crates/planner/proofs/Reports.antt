@@ -37,8 +37,8 @@ use Rattle.planner.proofs.Firsts.{first-outcome}
 pub level-few : {n : ℕ} {ks xs ys : List ℕ} → Level n ks xs ys → length ks ≤ maxReaches
 level-few {n} {ks} {xs} {ys} l = omega (arith, (accepted (netOf n ks xs ys) (l .accepted)) .few-reaches, row-length ks xs ys (l .ends-a) (l .ends-b))
 
-pub level-room : {n : ℕ} {ks xs ys ws back head next seen queue : List ℕ} → Level n ks xs ys → Space ws back head next seen queue → Room n ks xs ys (take (length ks) ws) (take (length ks) back) head next seen queue
-level-room {n} {ks} {xs} {ys} {ws} {back} l s =
+pub level-room : {n : ℕ} {ks xs ys ws head next seen queue : List ℕ} → Level n ks xs ys → Space ws head next seen queue → Room n ks xs ys (take (length ks) ws) head next seen queue
+level-room {n} {ks} {xs} {ys} {ws} l s =
     let facts = accepted (netOf n ks xs ys) (l .accepted) in
     let few = level-few l in
     record {
@@ -46,7 +46,6 @@ level-room {n} {ks} {xs} {ys} {ws} {back} l s =
       ends-a = l .ends-a;
       ends-b = l .ends-b;
       ways-room = length-take-le (length ks) ws (omega (arith, s .ways-space));
-      back-room = length-take-le (length ks) back (omega (arith, s .back-space));
       head-room = omega (arith, facts .few-basins, s .head-space);
       next-room = omega (arith, s .next-space, l .ends-a);
       seen-room = omega (arith, facts .few-basins, s .seen-space);

@@ -20,7 +20,7 @@ use Rattle.gates.specs.Ready.{Ready}
 use Rattle.gates.proofs.Rows.{row-arcs, row-below}
 use Rattle.planner.specs.Rooms.{Room}
 
-module _ {n : ℕ} {ks xs ys ws back head next seen queue : List ℕ} (r : Room n ks xs ys ws back head next seen queue) where
+module _ {n : ℕ} {ks xs ys ws head next seen queue : List ℕ} (r : Room n ks xs ys ws head next seen queue) where
   pub room-table : Table n xs ys
   room-table =
       let facts = accepted (netOf n ks xs ys) (r .accepted) in

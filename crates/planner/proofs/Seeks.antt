@@ -242,19 +242,18 @@ module _ (n : ℕ) (ks xs ys : List ℕ) where
                 (rw add-one (none-stopped N s fit r (stop .below) (subst (λ (v : List ℕ). Broken N (upTo N v (suc r))) is (stop .broken))));
           }
 
-  module _ {ws back head next seen queue : List ℕ} where
-    room-level : Room n ks xs ys ws back head next seen queue → Level n ks xs ys
+  module _ {ws head next seen queue : List ℕ} where
+    room-level : Room n ks xs ys ws head next seen queue → Level n ks xs ys
     room-level r = record { accepted = r .accepted; ends-a = r .ends-a; ends-b = r .ends-b }
 
     -- the working memory keeps its lengths
-    pub room-kept : {back′ head′ next′ seen′ queue′ : List ℕ} → Room n ks xs ys ws back head next seen queue → length back′ ≡ length back → length head′ ≡ length head → length next′ ≡ length next → length seen′ ≡ length seen → length queue′ ≡ length queue → Room n ks xs ys ws back′ head′ next′ seen′ queue′
-    room-kept r b h x e q =
+    pub room-kept : {head′ next′ seen′ queue′ : List ℕ} → Room n ks xs ys ws head next seen queue → length head′ ≡ length head → length next′ ≡ length next → length seen′ ≡ length seen → length queue′ ≡ length queue → Room n ks xs ys ws head′ next′ seen′ queue′
+    room-kept r h x e q =
         record {
           accepted = r .accepted;
           ends-a = r .ends-a;
           ends-b = r .ends-b;
           ways-room = r .ways-room;
-          back-room = b ∙ r .back-room;
           head-room = omega (arith, r .head-room);
           next-room = omega (arith, r .next-room);
           seen-room = omega (arith, r .seen-room);
@@ -262,7 +261,7 @@ module _ (n : ℕ) (ks xs ys : List ℕ) where
         }
 
     -- a first plan was found, and the gates are free again
-    pub other-followable : {us ws₁ ws′ seen′ : List ℕ} {f : Found} → OtherThanPlan n ks xs ys us ws back head next seen queue → f ≡ Hung → FirstFound N ws₁ seen′ f → ws′ ≡ waysRow ks [] → Followable n ks xs ys us ws′
+    pub other-followable : {us ws₁ ws′ seen′ : List ℕ} {f : Found} → OtherThanPlan n ks xs ys us ws head next seen queue → f ≡ Hung → FirstFound N ws₁ seen′ f → ws′ ≡ waysRow ks [] → Followable n ks xs ys us ws′
     other-followable p same d e =
         record {
           seeking = record { level = room-level (p .room); under = p .under };
@@ -272,7 +271,7 @@ module _ (n : ℕ) (ks xs ys : List ℕ) where
         }
 
     -- the setting is a plan if with its ways all basins reach all
-    module _ {s us us′ : List ℕ} {r : ℕ} (p : Seekable n ks xs ys s us ws back head next seen queue) (e : us′ ≡ waysRow ks s) (w : Weakest (arcsOf xs ys us′) n r) where
+    module _ {s us us′ : List ℕ} {r : ℕ} (p : Seekable n ks xs ys s us ws head next seen queue) (e : us′ ≡ waysRow ks s) (w : Weakest (arcsOf xs ys us′) n r) where
       strong : eqb r n ≡ strongUnder N s
       strong = under-weakest (p .room) s e w
 
@@ -280,7 +279,7 @@ module _ (n : ℕ) (ks xs ys : List ℕ) where
       unfolding isPlan
       seek-plan same = record { level = room-level (p .room); is-plan = and-make (p .fits) (sym strong ∙ eq-eqb r n same); hung = e }
 
-      pub seek-other : (r ≡ n → ⊥) → {back′ head′ next′ seen′ queue′ : List ℕ} → Room n ks xs ys ws back′ head′ next′ seen′ queue′ → OtherThanPlan n ks xs ys us′ ws back′ head′ next′ seen′ queue′
+      pub seek-other : (r ≡ n → ⊥) → {head′ next′ seen′ queue′ : List ℕ} → Room n ks xs ys ws head′ next′ seen′ queue′ → OtherThanPlan n ks xs ys us′ ws head′ next′ seen′ queue′
       unfolding strongUnder
       seek-other differ room =
           record {

@@ -25,21 +25,19 @@ pub record Lent (n : ℕ) (ks xs ys plan marks : List ℕ) : Type 0 where
   pub marks-room : markBytes ≤ length marks
 
 -- Working memory for the largest table.
-pub record Space (ws back head next seen queue : List ℕ) : Type 0 where
+pub record Space (ws head next seen queue : List ℕ) : Type 0 where
   pub ways-space : length ws ≡ maxReaches
-  pub back-space : length back ≡ maxReaches
   pub head-space : length head ≡ maxBasins
   pub next-space : length next ≡ 2 * maxReaches
   pub seen-space : length seen ≡ maxBasins
   pub queue-space : length queue ≡ maxBasins
 
 -- The rows with the working memory that they need.
-pub record Room (n : ℕ) (ks xs ys ws back head next seen queue : List ℕ) : Type 0 where
+pub record Room (n : ℕ) (ks xs ys ws head next seen queue : List ℕ) : Type 0 where
   pub accepted : Accepted (netOf n ks xs ys)
   pub ends-a : length xs ≡ length ks
   pub ends-b : length ys ≡ length ks
   pub ways-room : length ws ≡ length ks
-  pub back-room : length back ≡ length ks
   pub head-room : n ≤ length head
   pub next-room : halves xs ≤ length next
   pub seen-room : n ≤ length seen

@@ -42,8 +42,8 @@ pub record Followable (n : ℕ) (ks xs ys us ws : List ℕ) : Type 0 where
   pub broken : Broken (netOf n ks xs ys) us
 
 -- The same of a network that may have no plan, with working memory.
-pub record OtherThanPlan (n : ℕ) (ks xs ys us ws back head next seen queue : List ℕ) : Type 0 where
-  pub room : Room n ks xs ys ws back head next seen queue
+pub record OtherThanPlan (n : ℕ) (ks xs ys us ws head next seen queue : List ℕ) : Type 0 where
+  pub room : Room n ks xs ys ws head next seen queue
   pub under : Under (netOf n ks xs ys) us
   pub broken : Broken (netOf n ks xs ys) us
 
@@ -54,8 +54,8 @@ pub record AtPlan (n : ℕ) (ks xs ys s us : List ℕ) : Type 0 where
   pub hung : us ≡ waysRow ks s
 
 -- A setting and working memory, with room for its ways.
-pub record Seekable (n : ℕ) (ks xs ys s us ws back head next seen queue : List ℕ) : Type 0 where
-  pub room : Room n ks xs ys ws back head next seen queue
+pub record Seekable (n : ℕ) (ks xs ys s us ws head next seen queue : List ℕ) : Type 0 where
+  pub room : Room n ks xs ys ws head next seen queue
   pub under-room : length us ≡ length ks
   pub fits : isSetting (netOf n ks xs ys) s ≡ true
 

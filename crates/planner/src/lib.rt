@@ -93,17 +93,16 @@ fn strong_under(
     b: &[u16],
     setting: &[u8],
     ways: &mut [u8],
-    back: &mut [u8],
     head: &mut [u16],
     next: &mut [u16],
     seen: &mut [u8],
     queue: &mut [u16],
 ) -> bool
-    requires { ⌜ Room n (now kinds) (now a) (now b) (now ways) (now back) (now head) (now next) (now seen) (now queue) ⌝ }
+    requires { ⌜ Room n (now kinds) (now a) (now b) (now ways) (now head) (now next) (now seen) (now queue) ⌝ }
     ensures { λ r. ⌜ r ≡ strongUnder (netOf n (now (kinds .entry)) (now (a .entry)) (now (b .entry))) (now (setting .entry)) ⌝ }
 {
     prepare(n, kinds, a, b, setting, ways, head, next);
-    gates::weakest(n, a, b, ways, back, head, next, seen, queue) == n
+    gates::weakest(n, a, b, ways, head, next, seen, queue) == n
 }
 
 // Hangs all gates of a passable network, none of which is hung yet.
@@ -137,19 +136,18 @@ fn find_first(
     a: &[u16],
     b: &[u16],
     ways: &mut [u8],
-    back: &mut [u8],
     head: &mut [u16],
     next: &mut [u16],
     seen: &mut [u8],
     queue: &mut [u16],
 ) -> Found
-    requires { ⌜ Room n (now kinds) (now a) (now b) (now ways) (now back) (now head) (now next) (now seen) (now queue) ⌝ }
+    requires { ⌜ Room n (now kinds) (now a) (now b) (now ways) (now head) (now next) (now seen) (now queue) ⌝ }
     ensures { λ r. ⌜ FirstFound (netOf n (now (kinds .entry)) (now (a .entry)) (now (b .entry))) (now (ways .exit)) (now (seen .exit)) r ⌝ }
 {
     prepare(n, kinds, a, b, &[], ways, head, next);
-    let u = gates::weakest(n, a, b, ways, back, head, next, seen, queue);
+    let u = gates::weakest(n, a, b, ways, head, next, seen, queue);
     if u < n {
-        gates::missed(n, a, b, ways, head, next, u as u16, seen, queue);
+        gates::missed(n, a, b, ways, head, next, u as u16, false, seen, queue);
         return Found::Shut;
     }
     hang_all(n, kinds, a, b, ways, head, next, seen, queue)
@@ -248,16 +246,15 @@ fn next_of_other(
     b: &[u16],
     under: &[u8],
     ways: &mut [u8],
-    back: &mut [u8],
     head: &mut [u16],
     next: &mut [u16],
     seen: &mut [u8],
     queue: &mut [u16],
 ) -> Sought
-    requires { ⌜ OtherThanPlan n (now kinds) (now a) (now b) (now under) (now ways) (now back) (now head) (now next) (now seen) (now queue) ⌝ }
+    requires { ⌜ OtherThanPlan n (now kinds) (now a) (now b) (now under) (now ways) (now head) (now next) (now seen) (now queue) ⌝ }
     ensures { λ r. ⌜ NextAfter (netOf n (now (kinds .entry)) (now (a .entry)) (now (b .entry))) (now (under .entry)) (now (ways .exit)) (now (seen .exit)) r ⌝ }
 {
-    match find_first(n, kinds, a, b, ways, back, head, next, seen, queue) {
+    match find_first(n, kinds, a, b, ways, head, next, seen, queue) {
         Found::Shut => Sought::At(Found::Shut),
         Found::Stuck(r) => Sought::At(Found::Stuck(r)),
         Found::Hung => {
@@ -276,17 +273,16 @@ fn find_next(
     setting: &[u8],
     under: &mut [u8],
     ways: &mut [u8],
-    back: &mut [u8],
     head: &mut [u16],
     next: &mut [u16],
     seen: &mut [u8],
     queue: &mut [u16],
 ) -> Sought
-    requires { ⌜ Seekable n (now kinds) (now a) (now b) (now setting) (now under) (now ways) (now back) (now head) (now next) (now seen) (now queue) ⌝ }
+    requires { ⌜ Seekable n (now kinds) (now a) (now b) (now setting) (now under) (now ways) (now head) (now next) (now seen) (now queue) ⌝ }
     ensures { λ r. ⌜ NextFound (netOf n (now (kinds .entry)) (now (a .entry)) (now (b .entry))) (now (setting .entry)) (now (ways .exit)) (now (seen .exit)) r ⌝ }
 {
     prepare(n, kinds, a, b, setting, under, head, next);
-    if gates::weakest(n, a, b, under, back, head, next, seen, queue) == n {
+    if gates::weakest(n, a, b, under, head, next, seen, queue) == n {
         next_of_plan(
             n,
             kinds,
@@ -301,7 +297,7 @@ fn find_next(
             queue,
         )
     } else {
-        next_of_other(n, kinds, a, b, under, ways, back, head, next, seen, queue)
+        next_of_other(n, kinds, a, b, under, ways, head, next, seen, queue)
     }
 }
 
@@ -372,30 +368,18 @@ fn first_in(
     plan: &mut [u8],
     marks: &mut [u8],
     ways: &mut [u8],
-    back: &mut [u8],
     head: &mut [u16],
     next: &mut [u16],
     seen: &mut [u8],
     queue: &mut [u16],
 ) -> Reply
     requires { ⌜ Lent n (now kinds) (now a) (now b) (now plan) (now marks) ⌝ }
-    requires { ⌜ Space (now ways) (now back) (now head) (now next) (now seen) (now queue) ⌝ }
+    requires { ⌜ Space (now ways) (now head) (now next) (now seen) (now queue) ⌝ }
     ensures { λ r. ⌜ Written (firstAnswer (netOf n (now (kinds .entry)) (now (a .entry)) (now (b .entry)))) (now (plan .entry)) (now (marks .entry)) (now (plan .exit)) (now (marks .exit)) (Answer.Given r) ⌝ }
 {
     let m = kinds.len();
     let hung = &mut ways[..m];
-    let found = find_first(
-        n,
-        kinds,
-        a,
-        b,
-        hung,
-        &mut back[..m],
-        head,
-        next,
-        seen,
-        queue,
-    );
+    let found = find_first(n, kinds, a, b, hung, head, next, seen, queue);
     report(found, n, kinds, hung, seen, plan, marks)
 }
 
@@ -412,7 +396,6 @@ fn first_accepted(
     ensures { λ r. ⌜ Written (firstAnswer (netOf n (now (kinds .entry)) (now (a .entry)) (now (b .entry)))) (now (plan .entry)) (now (marks .entry)) (now (plan .exit)) (now (marks .exit)) (Answer.Given r) ⌝ }
 {
     let mut ways = [0u8; MAX_REACHES];
-    let mut back = [0u8; MAX_REACHES];
     let mut head = [0u16; MAX_BASINS];
     let mut next = [0u16; HALF_EDGES];
     let mut seen = [0u8; MAX_BASINS];
@@ -425,7 +408,6 @@ fn first_accepted(
         plan,
         marks,
         &mut ways,
-        &mut back,
         &mut head,
         &mut next,
         &mut seen,
@@ -441,14 +423,13 @@ fn check_in(
     b: &[u16],
     setting: &[u8],
     ways: &mut [u8],
-    back: &mut [u8],
     head: &mut [u16],
     next: &mut [u16],
     seen: &mut [u8],
     queue: &mut [u16],
 ) -> bool
     requires { ⌜ Level n (now kinds) (now a) (now b) ⌝ }
-    requires { ⌜ Space (now ways) (now back) (now head) (now next) (now seen) (now queue) ⌝ }
+    requires { ⌜ Space (now ways) (now head) (now next) (now seen) (now queue) ⌝ }
     ensures { λ r. ⌜ r ≡ strongUnder (netOf n (now (kinds .entry)) (now (a .entry)) (now (b .entry))) (now (setting .entry)) ⌝ }
 {
     let m = kinds.len();
@@ -459,7 +440,6 @@ fn check_in(
         b,
         setting,
         &mut ways[..m],
-        &mut back[..m],
         head,
         next,
         seen,
@@ -473,7 +453,6 @@ fn check_accepted(n: usize, kinds: &[u8], a: &[u16], b: &[u16], setting: &[u8]) 
     ensures { λ r. ⌜ r ≡ strongUnder (netOf n (now (kinds .entry)) (now (a .entry)) (now (b .entry))) (now (setting .entry)) ⌝ }
 {
     let mut ways = [0u8; MAX_REACHES];
-    let mut back = [0u8; MAX_REACHES];
     let mut head = [0u16; MAX_BASINS];
     let mut next = [0u16; HALF_EDGES];
     let mut seen = [0u8; MAX_BASINS];
@@ -485,7 +464,6 @@ fn check_accepted(n: usize, kinds: &[u8], a: &[u16], b: &[u16], setting: &[u8]) 
         b,
         setting,
         &mut ways,
-        &mut back,
         &mut head,
         &mut next,
         &mut seen,
@@ -572,7 +550,6 @@ fn next_in(
     marks: &mut [u8],
     under: &mut [u8],
     ways: &mut [u8],
-    back: &mut [u8],
     head: &mut [u16],
     next: &mut [u16],
     seen: &mut [u8],
@@ -580,7 +557,7 @@ fn next_in(
 ) -> Answer
     requires { ⌜ Lent n (now kinds) (now a) (now b) (now plan) (now marks) ⌝ }
     requires { ⌜ isSetting (netOf n (now kinds) (now a) (now b)) (now setting) ≡ true ⌝ }
-    requires { ⌜ Space (now ways) (now back) (now head) (now next) (now seen) (now queue) ⌝ }
+    requires { ⌜ Space (now ways) (now head) (now next) (now seen) (now queue) ⌝ }
     requires { ⌜ length (now under) ≡ maxReaches ⌝ }
     ensures { λ r. ⌜ Written (nextAnswer (netOf n (now (kinds .entry)) (now (a .entry)) (now (b .entry))) (now (setting .entry))) (now (plan .entry)) (now (marks .entry)) (now (plan .exit)) (now (marks .exit)) r ⌝ }
 {
@@ -594,7 +571,6 @@ fn next_in(
         setting,
         &mut under[..m],
         hung,
-        &mut back[..m],
         head,
         next,
         seen,
@@ -622,7 +598,6 @@ fn next_accepted(
 {
     let mut under = [0u8; MAX_REACHES];
     let mut ways = [0u8; MAX_REACHES];
-    let mut back = [0u8; MAX_REACHES];
     let mut head = [0u16; MAX_BASINS];
     let mut next = [0u16; HALF_EDGES];
     let mut seen = [0u8; MAX_BASINS];
@@ -637,7 +612,6 @@ fn next_accepted(
         marks,
         &mut under,
         &mut ways,
-        &mut back,
         &mut head,
         &mut next,
         &mut seen,

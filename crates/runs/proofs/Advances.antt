@@ -132,14 +132,13 @@ module _ {n : ℕ} {ks xs ys ws head next : List ℕ} (v : Level n ks xs ys) (z 
   pub spare-ways : length ws ≡ length ks
   spare-ways = omega (arith, z .ways-spare, accepted (netOf n ks xs ys) (v .accepted) .few-reaches, row-length ks xs ys (v .ends-a) (v .ends-b))
 
-  room : {seen queue : List ℕ} → n ≤ length seen → length seen ≤ length queue → Room n ks xs ys ws ws head next seen queue
+  room : {seen queue : List ℕ} → n ≤ length seen → length seen ≤ length queue → Room n ks xs ys ws head next seen queue
   room h k =
       record {
         accepted = v .accepted;
         ends-a = v .ends-a;
         ends-b = v .ends-b;
         ways-room = spare-ways;
-        back-room = spare-ways;
         head-room = omega (arith, z .head-spare, accepted (netOf n ks xs ys) (v .accepted) .few-basins);
         next-room = omega (arith, z .next-spare, accepted (netOf n ks xs ys) (v .accepted) .few-reaches, row-length ks xs ys (v .ends-a) (v .ends-b), v .ends-a);
         seen-room = h;

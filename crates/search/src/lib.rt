@@ -150,7 +150,8 @@ fn scan(
     end
 }
 
-// Whether the goal is reached from start. Where it is not, seen holds 1 at each basin reached and 0 at each other.
+// Whether the goal is reached from start along the arrows or, if so asked, against them. Where it is not, seen holds 1 at each basin reached and 0 at
+// each other.
 pub fn search(
     n: usize,
     a: &[u16],
@@ -160,11 +161,12 @@ pub fn search(
     next: &[u16],
     start: u16,
     goal: u16,
+    against: bool,
     seen: &mut [u8],
     queue: &mut [u16],
 ) -> bool
     requires { ⌜ Searchable n (now a) (now b) (now ways) (now head) (now next) start (now seen) (now queue) ⌝ }
-    ensures { λ r. ⌜ Searched (arcsOf (now (a .entry)) (now (b .entry)) (now (ways .entry))) n start goal (now (seen .exit)) r ⌝ }
+    ensures { λ r. ⌜ Searched (arcsOf (now (a .entry)) (now (b .entry)) (sided against (now (ways .entry)))) n start goal (now (seen .exit)) r ⌝ }
 {
     let mut tail = begin(n, start, seen, queue);
     let mut at = 0;
@@ -172,7 +174,7 @@ pub fn search(
         if met(n, goal, seen) {
             return true;
         }
-        tail = scan(a, b, ways, head, next, seen, queue, at, tail, false);
+        tail = scan(a, b, ways, head, next, seen, queue, at, tail, against);
         at += 1;
     }
     met(n, goal, seen)

@@ -2,25 +2,23 @@
 -- Assumes nothing.
 use Prim.Native.Nat.{ℕ, _<_}
 use native.Mathlib.Omega.{arith}
-use mathlib.Core.Path.{_≡_, refl, sym, ap, subst, _∙_}
-use mathlib.Core.List.{List, map}
-use lib.ListN.{length, length-map}
+use mathlib.Core.Path.{_≡_, subst}
+use mathlib.Core.Bool.{true, false}
+use mathlib.Core.List.{List}
 use borrow.Author.Needs.{needs}
-use Rattle.search.specs.Ends.{arcsOf}
+use Rattle.search.specs.Ends.{arcsOf, sided}
 use Rattle.gates.specs.Ready.{Missed, Weakest}
-use Rattle.search.specs.Ends.{flipWay}
-use Rattle.gates.proofs.Readies.{ready-ways, ready-notes, weakest-0, weakest-back}
+use Rattle.gates.proofs.Readies.{ready-notes, weakest-0, weakest-back}
 use Rattle.search.proofs.Laws.{reached-flipped}
 use Rattle.gates.proofs.weakest.Statement.{statement}
 use Rattle.gates.proofs.weakest.Tie as tie
 use Rattle.gates.proofs.weakest.Lts as lts
 
 -- all basins are reached from basin 0, and r is the lowest that does not lead to it
-back : (n : ℕ) (xs ys ws : List ℕ) {r r′ : ℕ} {bs seen seen′ : List ℕ} → 0 < n → (r < n → ⊥) → bs ≡ map flipWay ws → Missed (arcsOf xs ys ws) n 0 seen r → Missed (arcsOf xs ys bs) n 0 seen′ r′ → Weakest (arcsOf xs ys ws) n r′
-back n xs ys ws {r} {r′} {bs} {seen} {seen′} pos not-below e m k =
+back : (n : ℕ) (xs ys ws : List ℕ) {r r′ : ℕ} {seen seen′ : List ℕ} → 0 < n → (r < n → ⊥) → Missed (arcsOf xs ys (sided false ws)) n 0 seen r → Missed (arcsOf xs ys (sided true ws)) n 0 seen′ r′ → Weakest (arcsOf xs ys ws) n r′
+back n xs ys ws {r} {seen} pos not-below m k =
     let all : r ≡ n = omega (arith, m .bound) in
-    weakest-back pos (subst (λ (x : ℕ). Missed (arcsOf xs ys ws) n 0 seen x) all m) (reached-flipped xs ys ws)
-    (subst (λ (v : List ℕ). Missed (arcsOf xs ys v) n 0 seen′ r′) e k)
+    weakest-back pos (subst (λ (x : ℕ). Missed (arcsOf xs ys ws) n 0 seen x) all m) (reached-flipped xs ys ws) k
 
 missed-requires : tie.Need-missed-requires
 missed-requires c κs = search needs
@@ -34,14 +32,11 @@ same-length-2 c = search needs
 returns : tie.Need-returns
 returns c = weakest-0 ((c .before .before .before .before .before) .missed .ensures) (c .if1 .taken)
 
-flip-requires : tie.Need-flip-requires
-flip-requires c κs = search needs
-
 missed-requires-2 : tie.Need-missed-requires-2
 missed-requires-2 c κs =
-    let s = c .before .before .before .before .before .before .before .before .before .before .before .before .before .before .before .before .before .before .before .before .before .before .before in
-    let k = (c .before .before .before .before .before .before .before .before .before .before .before .before) .missed .kept in
-    (ready-notes _ _ (ready-ways _ (s .pre .0) ((c .before .before .before .before .before) .flip .kept .1 .0 ∙ s .pre .1)) (k .1 .1 .1 .1 .1 .1 .1 .0) (k .1 .1 .1 .1 .1 .1 .1 .1 .0), s .pre .0 .some-basin)
+    let s = c .before .before .before .before .before .before .before .before .before .before .before .before .before .before .before .before .before in
+    let k = (c .before .before .before .before .before .before .before) .missed .kept in
+    (ready-notes _ _ (s .pre) (k .1 .1 .1 .1 .1 .1 .1 .1 .0) (k .1 .1 .1 .1 .1 .1 .1 .1 .1 .0), s .pre .some-basin)
 
 same-length-3 : tie.Need-same-length-3
 same-length-3 c = search needs
@@ -49,13 +44,10 @@ same-length-3 c = search needs
 same-length-4 : tie.Need-same-length-4
 same-length-4 c = search needs
 
-same-length-5 : tie.Need-same-length-5
-same-length-5 c = search needs
-
 returns-2 : tie.Need-returns-2
 returns-2 c =
-    let s = c .before .before .before .before .before .before .before .before .before .before .before .before .before .before .before .before .before .before .before .before .before .before .before .before .before .before .before .before in
-    back (s .args .n) (s .args .a .now) (s .args .b .now) (s .args .ways .now) (s .pre .0 .some-basin) (λ l. omega (arith, (c .before .before .before .before .before .before .before .before .before .before .before .before) .if1 .left)) ((c .before .before .before .before .before .before .before .before .before .before) .flip .ensures) ((c .before .before .before .before .before .before .before .before .before .before .before .before .before .before .before .before .before) .missed .ensures) ((c .before .before .before .before) .missed2 .ensures)
+    let s = c .before .before .before .before .before .before .before .before .before .before .before .before .before .before .before .before .before .before .before .before .before .before in
+    back (s .args .n) (s .args .a .now) (s .args .b .now) (s .args .ways .now) (s .pre .some-basin) (λ l. omega (arith, (c .before .before .before .before .before .before .before) .if1 .left)) ((c .before .before .before .before .before .before .before .before .before .before .before .before) .missed .ensures) ((c .before .before .before .before) .missed2 .ensures)
 
 pub weakest-spec : {M : Type 1} → statement M
-weakest-spec = tie.close (tie.spec missed-requires same-length same-length-2 returns flip-requires missed-requires-2 same-length-3 same-length-4 same-length-5 returns-2)
+weakest-spec = tie.close (tie.spec missed-requires same-length same-length-2 returns missed-requires-2 same-length-3 same-length-4 returns-2)

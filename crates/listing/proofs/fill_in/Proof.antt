@@ -29,9 +29,9 @@ spare : (c : tie.After-hung) → let s = start c .args in Spare (s .kinds .now) 
 spare c =
     let s = start c in
     record {
-      ways-spare = cut (c .before .before .least .result) (s .args .ways .now) (s .pre .ways-space) (few c) ∙ c .before .before .least .ensures;
-      head-spare = s .pre .head-space;
-      next-spare = s .pre .next-space;
+      ways-spare = cut (c .before .before .least .result) (s .args .ways .now) (s .pre .0 .ways-space) (few c) ∙ c .before .before .least .ensures;
+      head-spare = s .pre .0 .head-space;
+      next-spare = s .pre .0 .next-space;
     }
 
 gates-held-requires : tie.Need-gates-held-requires
@@ -41,10 +41,10 @@ least-requires : tie.Need-least-requires
 least-requires c κs = search needs
 
 slice-relend-prefix-hung : tie.Need-slice-relend-prefix-hung
-slice-relend-prefix-hung c = omega (arith, c .before .least .ensures, c .before .before .before .before .before .before .before .before .before .before .before .before .before .pre .ways-space)
+slice-relend-prefix-hung c = omega (arith, c .before .least .ensures, c .before .before .before .before .before .before .before .before .before .before .before .before .before .pre .0 .ways-space)
 
 slice-aggregate-hung : tie.Need-slice-aggregate-hung
-slice-aggregate-hung c = let s = start c in sym (cut (c .before .before .least .result) (s .args .ways .now) (s .pre .ways-space) (few c))
+slice-aggregate-hung c = let s = start c in sym (cut (c .before .before .least .result) (s .args .ways .now) (s .pre .0 .ways-space) (few c))
 
 array-share-prefix-setting : tie.Need-array-share-prefix-setting
 array-share-prefix-setting c = let s = start c in omega (arith, c .before .before .before .gates-held .ensures, lister-size (s .args .l) (s .good .0))
@@ -56,10 +56,10 @@ prime-requires : tie.Need-prime-requires
 prime-requires c κs = spare (c .before .before .before .before)
 
 slice-relend-prefix-print-lines : tie.Need-slice-relend-prefix-print-lines
-slice-relend-prefix-print-lines c = let h = c .before .before .before .before .before .before .before .before .before .before .before .before in omega (arith, few h, start h .pre .back-space)
+slice-relend-prefix-print-lines c = let h = c .before .before .before .before .before .before .before .before .before .before .before .before in omega (arith, few h, start h .pre .1)
 
 slice-aggregate-print-lines : tie.Need-slice-aggregate-print-lines
-slice-aggregate-print-lines c = let h = c .before .before .before .before .before .before .before .before .before .before .before .before .before in let s = start h in sym (cut (h .before .before .least .result) (s .args .under .now) (s .pre .back-space) (few h))
+slice-aggregate-print-lines c = let h = c .before .before .before .before .before .before .before .before .before .before .before .before .before in let s = start h in sym (cut (h .before .before .least .result) (s .args .under .now) (s .pre .1) (few h))
 
 print-lines-requires : tie.Need-print-lines-requires
 print-lines-requires c κs =
@@ -69,7 +69,7 @@ print-lines-requires c κs =
     let t = c .before .before .before .before .before .before .before .before .before .before .before .before .prime in
     let long = t .kept .1 .1 .1 .1 .1 .0 in (
       c .before .before .before .before .before .before .before .before .before .before .before .before .before .before .before .before .before .before .before .before .gates-held .ensures,
-      primed-kept (s .args .l .due) (spare h) long (cut m (s .args .under .now) (s .pre .back-space) (few h) ∙ sym (long ∙ cut m (s .args .ways .now) (s .pre .ways-space) (few h))) (s .pre .seen-space) (s .pre .queue-space) (t .ensures),
+      primed-kept (s .args .l .due) (spare h) long (cut m (s .args .under .now) (s .pre .1) (few h) ∙ sym (long ∙ cut m (s .args .ways .now) (s .pre .0 .ways-space) (few h))) (s .pre .0 .seen-space) (s .pre .0 .queue-space) (t .ensures),
     )
 
 same-length : tie.Need-same-length

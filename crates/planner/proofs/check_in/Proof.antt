@@ -9,19 +9,13 @@ use Rattle.planner.proofs.check_in.Statement.{statement}
 use Rattle.planner.proofs.check_in.Tie as tie
 
 slice-relend-prefix-strong-under : tie.Need-slice-relend-prefix-strong-under
-slice-relend-prefix-strong-under c = omega (arith, level-few ((c .before .before .before .before .before .before .before .before .before .before) .pre .0), (c .before .before .before .before .before .before .before .before .before .before) .pre .1 .ways-space)
+slice-relend-prefix-strong-under c = omega (arith, level-few ((c .before .before .before .before .before .before .before .before .before) .pre .0), (c .before .before .before .before .before .before .before .before .before) .pre .1 .ways-space)
 
 slice-aggregate-strong-under : tie.Need-slice-aggregate-strong-under
-slice-aggregate-strong-under c = let s = (c .before .before .before .before .before .before .before .before .before .before .before) in sym (length-take-le _ (s .args .ways .now) (omega (arith, level-few (s .pre .0), s .pre .1 .ways-space)))
-
-slice-relend-prefix-strong-under-2 : tie.Need-slice-relend-prefix-strong-under-2
-slice-relend-prefix-strong-under-2 c = omega (arith, level-few ((c .before .before .before .before .before .before .before .before .before .before .before) .pre .0), (c .before .before .before .before .before .before .before .before .before .before .before) .pre .1 .back-space)
-
-slice-aggregate-strong-under-2 : tie.Need-slice-aggregate-strong-under-2
-slice-aggregate-strong-under-2 c = let s = (c .before .before .before .before .before .before .before .before .before .before .before .before) in sym (length-take-le _ (s .args .back .now) (omega (arith, level-few (s .pre .0), s .pre .1 .back-space)))
+slice-aggregate-strong-under c = let s = (c .before .before .before .before .before .before .before .before .before .before) in sym (length-take-le _ (s .args .ways .now) (omega (arith, level-few (s .pre .0), s .pre .1 .ways-space)))
 
 strong-under-requires : tie.Need-strong-under-requires
-strong-under-requires c κs = let s = (c .before .before .before .before .before .before .before .before .before .before .before .before .before .before .before .before) in level-room (s .pre .0) (s .pre .1)
+strong-under-requires c κs = let s = (c .before .before .before .before .before .before .before .before .before .before .before .before .before .before) in level-room (s .pre .0) (s .pre .1)
 
 same-length : tie.Need-same-length
 same-length c = search needs
@@ -38,9 +32,6 @@ same-length-4 c = search needs
 same-length-5 : tie.Need-same-length-5
 same-length-5 c = search needs
 
-same-length-6 : tie.Need-same-length-6
-same-length-6 c = search needs
-
 returns : tie.Need-returns
 returns c = search needs
 
@@ -50,13 +41,10 @@ check-in-spec =
     (tie.spec
     slice-relend-prefix-strong-under
     slice-aggregate-strong-under
-    slice-relend-prefix-strong-under-2
-    slice-aggregate-strong-under-2
     strong-under-requires
     same-length
     same-length-2
     same-length-3
     same-length-4
     same-length-5
-    same-length-6
     returns)

@@ -1,7 +1,7 @@
 -- `planner::find_first` meets its contract: shut in where some basin does not reach all, else as the gates can be hung.
 -- Assumes nothing.
 use native.Mathlib.Omega.{arith}
-use mathlib.Core.Path.{refl, sym, _∙_}
+use mathlib.Core.Path.{refl}
 use Rattle.network.proofs.Networks.{accepted}
 use Rattle.tables.specs.Rows.{netOf}
 use Rattle.planner.proofs.Rooms.{room-index, room-ready}
@@ -14,21 +14,21 @@ slice-aggregate-prepare : tie.Need-slice-aggregate-prepare
 slice-aggregate-prepare c = search needs
 
 prepare-requires : tie.Need-prepare-requires
-prepare-requires c κs = let s = (c .before .before .before .before .before .before .before .before .before .before .before .before .before) in record { ways-room = s .pre .ways-room; indexable = room-index (s .pre) refl refl }
+prepare-requires c κs = let s = (c .before .before .before .before .before .before .before .before .before .before .before .before) in record { ways-room = s .pre .ways-room; indexable = room-index (s .pre) refl refl }
 
 weakest-requires : tie.Need-weakest-requires
-weakest-requires c κs = let s = (c .before .before .before .before .before .before .before .before .before .before .before .before .before .before .before .before .before .before .before .before .before .before .before .before .before .before) in
-    let p = (c .before .before .before .before .before .before .before .before .before .before .before .before) .prepare in
-    (room-ready (s .pre) (p .kept .1 .1 .1 .1 .1 .0) (p .ensures .index) refl refl, s .pre .back-room ∙ sym (p .kept .1 .1 .1 .1 .1 .0 ∙ s .pre .ways-room))
+weakest-requires c κs = let s = (c .before .before .before .before .before .before .before .before .before .before .before .before .before .before .before .before .before .before .before .before .before .before .before .before) in
+    let p = (c .before .before .before .before .before .before .before .before .before .before .before) .prepare in
+    room-ready (s .pre) (p .kept .1 .1 .1 .1 .1 .0) (p .ensures .index) refl refl
 
 cast-missed : tie.Need-cast-missed
-cast-missed c = omega (arith, (c .before .before .before) .if1 .taken, (accepted (netOf ((c .before .before .before .before .before .before .before .before .before .before .before .before .before .before .before .before .before .before .before .before .before .before .before .before .before .before .before .before .before .before .before .before .before .before .before .before .before) .args .n) ((c .before .before .before .before .before .before .before .before .before .before .before .before .before .before .before .before .before .before .before .before .before .before .before .before .before .before .before .before .before .before .before .before .before .before .before .before .before) .args .kinds .now) ((c .before .before .before .before .before .before .before .before .before .before .before .before .before .before .before .before .before .before .before .before .before .before .before .before .before .before .before .before .before .before .before .before .before .before .before .before .before) .args .a .now) ((c .before .before .before .before .before .before .before .before .before .before .before .before .before .before .before .before .before .before .before .before .before .before .before .before .before .before .before .before .before .before .before .before .before .before .before .before .before) .args .b .now)) ((c .before .before .before .before .before .before .before .before .before .before .before .before .before .before .before .before .before .before .before .before .before .before .before .before .before .before .before .before .before .before .before .before .before .before .before .before .before) .pre .accepted)) .few-basins)
+cast-missed c = omega (arith, (c .before .before .before) .if1 .taken, (accepted (netOf ((c .before .before .before .before .before .before .before .before .before .before .before .before .before .before .before .before .before .before .before .before .before .before .before .before .before .before .before .before .before .before .before .before .before) .args .n) ((c .before .before .before .before .before .before .before .before .before .before .before .before .before .before .before .before .before .before .before .before .before .before .before .before .before .before .before .before .before .before .before .before .before) .args .kinds .now) ((c .before .before .before .before .before .before .before .before .before .before .before .before .before .before .before .before .before .before .before .before .before .before .before .before .before .before .before .before .before .before .before .before .before) .args .a .now) ((c .before .before .before .before .before .before .before .before .before .before .before .before .before .before .before .before .before .before .before .before .before .before .before .before .before .before .before .before .before .before .before .before .before) .args .b .now)) ((c .before .before .before .before .before .before .before .before .before .before .before .before .before .before .before .before .before .before .before .before .before .before .before .before .before .before .before .before .before .before .before .before .before) .pre .accepted)) .few-basins)
 
 missed-requires : tie.Need-missed-requires
-missed-requires c κs = let s = (c .before .before .before .before .before .before .before .before .before .before .before .before .before .before .before .before .before .before .before .before .before .before .before .before .before .before .before .before .before .before .before .before .before .before .before .before .before .before .before) in
-    let p = (c .before .before .before .before .before .before .before .before .before .before .before .before .before .before .before .before .before .before .before .before .before .before .before .before .before) .prepare in
-    let w = (c .before .before .before .before .before .before .before .before .before .before .before .before) .weakest .kept in
-    (room-ready (s .pre) (p .kept .1 .1 .1 .1 .1 .0) (p .ensures .index) (w .1 .1 .1 .1 .1 .1 .1 .0) (w .1 .1 .1 .1 .1 .1 .1 .1 .0), (c .before .before .before .before .before) .if1 .taken)
+missed-requires c κs = let s = (c .before .before .before .before .before .before .before .before .before .before .before .before .before .before .before .before .before .before .before .before .before .before .before .before .before .before .before .before .before .before .before .before .before .before .before) in
+    let p = (c .before .before .before .before .before .before .before .before .before .before .before .before .before .before .before .before .before .before .before .before .before .before) .prepare in
+    let w = (c .before .before .before .before .before .before .before .before .before .before) .weakest .kept in
+    (room-ready (s .pre) (p .kept .1 .1 .1 .1 .1 .0) (p .ensures .index) (w .1 .1 .1 .1 .1 .1 .0) (w .1 .1 .1 .1 .1 .1 .1 .0), (c .before .before .before .before .before) .if1 .taken)
 
 same-length : tie.Need-same-length
 same-length c = search needs
@@ -45,21 +45,21 @@ same-length-4 c = search needs
 same-length-5 : tie.Need-same-length-5
 same-length-5 c = search needs
 
-same-length-6 : tie.Need-same-length-6
-same-length-6 c = search needs
-
 returns : tie.Need-returns
-returns c = let s = (c .before .before .before .before .before .before .before .before .before .before .before .before .before .before .before .before .before .before .before .before .before .before .before .before .before .before .before .before .before .before .before .before .before .before .before .before .before .before .before .before .before .before .before .before) in
-    let p = (c .before .before .before .before .before .before .before .before .before .before .before .before .before .before .before .before .before .before .before .before .before .before .before .before .before .before .before .before .before .before) .prepare in
-    row-shut (s .args .n) (s .args .kinds .now) (s .args .a .now) (s .args .b .now) (s .pre .ends-a) (s .pre .ends-b) (s .pre .accepted) (p .ensures .hung) _ ((c .before .before .before .before .before .before .before .before .before .before .before .before .before .before .before .before .before) .weakest .ensures) ((c .before .before .before .before .before .before .before .before .before .before) .if1 .taken) ((c .before .before .before .before) .missed .ensures)
+returns c = let s = (c .before .before .before .before .before .before .before .before .before .before .before .before .before .before .before .before .before .before .before .before .before .before .before .before .before .before .before .before .before .before .before .before .before .before .before .before .before .before .before .before) in
+    let p = (c .before .before .before .before .before .before .before .before .before .before .before .before .before .before .before .before .before .before .before .before .before .before .before .before .before .before .before) .prepare in
+    row-shut (s .args .n) (s .args .kinds .now) (s .args .a .now) (s .args .b .now) (s .pre .ends-a) (s .pre .ends-b) (s .pre .accepted) (p .ensures .hung) _ ((c .before .before .before .before .before .before .before .before .before .before .before .before .before .before .before) .weakest .ensures) ((c .before .before .before .before .before .before .before .before .before .before) .if1 .taken) ((c .before .before .before .before) .missed .ensures)
 
 hang-all-requires : tie.Need-hang-all-requires
-hang-all-requires c κs = let s = (c .before .before .before .before .before .before .before .before .before .before .before .before .before .before .before .before .before .before .before .before .before .before .before .before .before .before .before .before .before .before .before .before .before .before .before .before .before .before .before) in
-    let p = (c .before .before .before .before .before .before .before .before .before .before .before .before .before .before .before .before .before .before .before .before .before .before .before .before .before) .prepare in
-    let w = (c .before .before .before .before .before .before .before .before .before .before .before .before) .weakest in (
-      room-ready (s .pre) (p .kept .1 .1 .1 .1 .1 .0) (p .ensures .index) (w .kept .1 .1 .1 .1 .1 .1 .1 .0) (w .kept .1 .1 .1 .1 .1 .1 .1 .1 .0),
+hang-all-requires c κs = let s = (c .before .before .before .before .before .before .before .before .before .before .before .before .before .before .before .before .before .before .before .before .before .before .before .before .before .before .before .before .before .before .before .before .before .before .before) in
+    let p = (c .before .before .before .before .before .before .before .before .before .before .before .before .before .before .before .before .before .before .before .before .before .before) .prepare in
+    let w = (c .before .before .before .before .before .before .before .before .before .before) .weakest in (
+      room-ready (s .pre) (p .kept .1 .1 .1 .1 .1 .0) (p .ensures .index) (w .kept .1 .1 .1 .1 .1 .1 .0) (w .kept .1 .1 .1 .1 .1 .1 .1 .0),
       row-passable (s .args .n) (s .args .kinds .now) (s .args .a .now) (s .args .b .now) (s .pre .ends-a) (s .pre .ends-b) (s .pre .accepted) (p .ensures .hung) (w .ensures) (λ l. omega (arith, (c .before .before .before .before .before) .if1 .left)),
     )
+
+same-length-6 : tie.Need-same-length-6
+same-length-6 c = search needs
 
 same-length-7 : tie.Need-same-length-7
 same-length-7 c = search needs
@@ -72,12 +72,6 @@ same-length-9 c = search needs
 
 same-length-10 : tie.Need-same-length-10
 same-length-10 c = search needs
-
-same-length-11 : tie.Need-same-length-11
-same-length-11 c = search needs
-
-same-length-12 : tie.Need-same-length-12
-same-length-12 c = search needs
 
 returns-2 : tie.Need-returns-2
 returns-2 c = search needs
@@ -96,13 +90,11 @@ find-first-spec =
     same-length-3
     same-length-4
     same-length-5
-    same-length-6
     returns
     hang-all-requires
+    same-length-6
     same-length-7
     same-length-8
     same-length-9
     same-length-10
-    same-length-11
-    same-length-12
     returns-2)

@@ -23,11 +23,8 @@ slice-aggregate-next-in-5 c = search needs
 slice-aggregate-next-in-6 : tie.Need-slice-aggregate-next-in-6
 slice-aggregate-next-in-6 c = search needs
 
-slice-aggregate-next-in-7 : tie.Need-slice-aggregate-next-in-7
-slice-aggregate-next-in-7 c = search needs
-
 next-in-requires : tie.Need-next-in-requires
-next-in-requires c κs = let s = (c .before .before .before .before .before .before .before .before .before .before .before .before .before .before .before) in (s .pre .0, (s .pre .1, (record { ways-space = refl; back-space = refl; head-space = refl; next-space = refl; seen-space = refl; queue-space = refl }, refl)))
+next-in-requires c κs = let s = (c .before .before .before .before .before .before .before .before .before .before .before .before .before .before) in (s .pre .0, (s .pre .1, (record { ways-space = refl; head-space = refl; next-space = refl; seen-space = refl; queue-space = refl }, refl)))
 
 same-length : tie.Need-same-length
 same-length c = search needs
@@ -48,7 +45,6 @@ next-accepted-spec =
     slice-aggregate-next-in-4
     slice-aggregate-next-in-5
     slice-aggregate-next-in-6
-    slice-aggregate-next-in-7
     next-in-requires
     same-length
     same-length-2

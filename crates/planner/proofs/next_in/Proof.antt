@@ -12,25 +12,19 @@ use Rattle.planner.proofs.next_in.Statement.{statement}
 use Rattle.planner.proofs.next_in.Tie as tie
 
 slice-relend-prefix-hung : tie.Need-slice-relend-prefix-hung
-slice-relend-prefix-hung c = let s = (c .before .before .before .before .before .before .before .before .before .before .before .before .before) in omega (arith, level-few (s .pre .0 .level), s .pre .1 .1 .0 .ways-space)
+slice-relend-prefix-hung c = let s = (c .before .before .before .before .before .before .before .before .before .before .before .before) in omega (arith, level-few (s .pre .0 .level), s .pre .1 .1 .0 .ways-space)
 
 slice-aggregate-hung : tie.Need-slice-aggregate-hung
-slice-aggregate-hung c = let s = (c .before .before .before .before .before .before .before .before .before .before .before .before .before .before) in sym (length-take-le _ (s .args .ways .now) (omega (arith, level-few (s .pre .0 .level), s .pre .1 .1 .0 .ways-space)))
+slice-aggregate-hung c = let s = (c .before .before .before .before .before .before .before .before .before .before .before .before .before) in sym (length-take-le _ (s .args .ways .now) (omega (arith, level-few (s .pre .0 .level), s .pre .1 .1 .0 .ways-space)))
 
 slice-relend-prefix-find-next : tie.Need-slice-relend-prefix-find-next
-slice-relend-prefix-find-next c = let s = (c .before .before .before .before .before .before .before .before .before .before .before .before .before .before) in omega (arith, level-few (s .pre .0 .level), s .pre .1 .1 .1)
+slice-relend-prefix-find-next c = let s = (c .before .before .before .before .before .before .before .before .before .before .before .before .before) in omega (arith, level-few (s .pre .0 .level), s .pre .1 .1 .1)
 
 slice-aggregate-find-next : tie.Need-slice-aggregate-find-next
-slice-aggregate-find-next c = let s = (c .before .before .before .before .before .before .before .before .before .before .before .before .before .before .before) in sym (length-take-le _ (s .args .under .now) (omega (arith, level-few (s .pre .0 .level), s .pre .1 .1 .1)))
-
-slice-relend-prefix-find-next-2 : tie.Need-slice-relend-prefix-find-next-2
-slice-relend-prefix-find-next-2 c = let s = (c .before .before .before .before .before .before .before .before .before .before .before .before .before .before .before .before) in omega (arith, level-few (s .pre .0 .level), s .pre .1 .1 .0 .back-space)
-
-slice-aggregate-find-next-2 : tie.Need-slice-aggregate-find-next-2
-slice-aggregate-find-next-2 c = let s = (c .before .before .before .before .before .before .before .before .before .before .before .before .before .before .before .before .before) in sym (length-take-le _ (s .args .back .now) (omega (arith, level-few (s .pre .0 .level), s .pre .1 .1 .0 .back-space)))
+slice-aggregate-find-next c = let s = (c .before .before .before .before .before .before .before .before .before .before .before .before .before .before) in sym (length-take-le _ (s .args .under .now) (omega (arith, level-few (s .pre .0 .level), s .pre .1 .1 .1)))
 
 find-next-requires : tie.Need-find-next-requires
-find-next-requires c κs = let s = (c .before .before .before .before .before .before .before .before .before .before .before .before .before .before .before .before .before .before .before .before .before) in
+find-next-requires c κs = let s = (c .before .before .before .before .before .before .before .before .before .before .before .before .before .before .before .before .before .before .before) in
     record {
       room = level-room (s .pre .0 .level) (s .pre .1 .1 .0);
       under-room = length-take-le _ (s .args .under .now) (omega (arith, level-few (s .pre .0 .level), s .pre .1 .1 .1));
@@ -44,14 +38,14 @@ enum-known-sought : tie.Need-enum-known-sought
 enum-known-sought c = search needs
 
 report-requires : tie.Need-report-requires
-report-requires c κs = let s = (c .before .before .before .before .before .before .before .before .before .before .before .before .before .before .before .before .before .before .before .before .before .before .before .before .before .before .before .before .before .before .before .before .before .before .before .before .before .before .before .before .before .before .before) in
-    let f = (c .before .before .before .before .before .before .before .before .before .before .before .before .before .before .before .before .before .before .before .before .before) .find-next in
+report-requires c κs = let s = (c .before .before .before .before .before .before .before .before .before .before .before .before .before .before .before .before .before .before .before .before .before .before .before .before .before .before .before .before .before .before .before .before .before .before .before .before .before .before .before) in
+    let f = (c .before .before .before .before .before .before .before .before .before .before .before .before .before .before .before .before .before .before .before) .find-next in
     let l = s .pre .0 .level in
     let facts = accepted (netOf (s .args .n) (s .args .kinds .now) (s .args .a .now) (s .args .b .now)) (l .accepted) in
     record {
       ways-room = f .kept .1 .1 .1 .1 .1 .1 .0 ∙ (level-room l (s .pre .1 .1 .0)) .ways-room;
       some-basin = facts .some-basin;
-      seen-room = omega (arith, facts .few-basins, s .pre .1 .1 .0 .seen-space, f .kept .1 .1 .1 .1 .1 .1 .1 .1 .1 .1 .0);
+      seen-room = omega (arith, facts .few-basins, s .pre .1 .1 .0 .seen-space, f .kept .1 .1 .1 .1 .1 .1 .1 .1 .1 .0);
       plan-room = s .pre .0 .plan-room;
       marks-room = s .pre .0 .marks-room;
       reach-fits = (next-at ((c .before .before .before .before .before) .sought .given .1) (f .ensures)) .fits;
@@ -75,11 +69,11 @@ same-length-5 c = search needs
 same-length-6 : tie.Need-same-length-6
 same-length-6 c = search needs
 
+returns : tie.Need-returns
+returns c = refused-written (next-last ((c .before .before) .enum-told .given .1) ((c .before .before .before .before .before .before .before .before .before .before .before .before .before .before .before .before) .find-next .ensures))
+
 same-length-7 : tie.Need-same-length-7
 same-length-7 c = search needs
-
-returns : tie.Need-returns
-returns c = refused-written (next-last ((c .before .before) .enum-told .given .1) ((c .before .before .before .before .before .before .before .before .before .before .before .before .before .before .before .before .before .before) .find-next .ensures))
 
 same-length-8 : tie.Need-same-length-8
 same-length-8 c = search needs
@@ -102,15 +96,9 @@ same-length-13 c = search needs
 same-length-14 : tie.Need-same-length-14
 same-length-14 c = search needs
 
-same-length-15 : tie.Need-same-length-15
-same-length-15 c = search needs
-
-same-length-16 : tie.Need-same-length-16
-same-length-16 c = search needs
-
 returns-2 : tie.Need-returns-2
-returns-2 c = let s = (c .before .before .before .before .before .before .before .before .before .before .before .before .before .before .before .before .before .before .before .before .before .before .before .before .before .before .before .before .before .before .before .before .before .before .before .before .before .before .before .before .before .before .before .before .before .before .before .before .before .before) in
-    let f = (c .before .before .before .before .before .before .before .before .before .before .before .before .before .before .before .before .before .before .before .before .before .before .before .before .before .before .before .before) .find-next in
+returns-2 c = let s = (c .before .before .before .before .before .before .before .before .before .before .before .before .before .before .before .before .before .before .before .before .before .before .before .before .before .before .before .before .before .before .before .before .before .before .before .before .before .before .before .before .before .before .before .before .before .before) in
+    let f = (c .before .before .before .before .before .before .before .before .before .before .before .before .before .before .before .before .before .before .before .before .before .before .before .before .before .before) .find-next in
     let l = s .pre .0 .level in
     next-written l (f .kept .1 .1 .1 .1 .1 .1 .0 ∙ (level-room l (s .pre .1 .1 .0)) .ways-room) (next-at ((c .before .before .before .before .before .before .before .before .before .before .before .before) .sought .given .1) (f .ensures)) ((c .before .before .before .before .before .before) .report .ensures)
 
@@ -122,8 +110,6 @@ next-in-spec =
     slice-aggregate-hung
     slice-relend-prefix-find-next
     slice-aggregate-find-next
-    slice-relend-prefix-find-next-2
-    slice-aggregate-find-next-2
     find-next-requires
     enum-told
     enum-known-sought
@@ -134,8 +120,8 @@ next-in-spec =
     same-length-4
     same-length-5
     same-length-6
-    same-length-7
     returns
+    same-length-7
     same-length-8
     same-length-9
     same-length-10
@@ -143,6 +129,4 @@ next-in-spec =
     same-length-12
     same-length-13
     same-length-14
-    same-length-15
-    same-length-16
     returns-2)

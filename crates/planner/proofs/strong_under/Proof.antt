@@ -1,6 +1,6 @@
 -- `planner::strong_under` meets its contract: two searches.
 -- Assumes nothing.
-use mathlib.Core.Path.{refl, sym, _∙_}
+use mathlib.Core.Path.{refl}
 use Rattle.planner.proofs.Rooms.{room-index, room-ready}
 use Rattle.planner.proofs.Firsts.{under-weakest}
 use borrow.Author.Needs.{needs}
@@ -8,12 +8,12 @@ use Rattle.planner.proofs.strong_under.Statement.{statement}
 use Rattle.planner.proofs.strong_under.Tie as tie
 
 prepare-requires : tie.Need-prepare-requires
-prepare-requires c κs = let s = (c .before .before .before .before .before .before .before .before .before .before .before .before .before) in record { ways-room = s .pre .ways-room; indexable = room-index (s .pre) refl refl }
+prepare-requires c κs = let s = (c .before .before .before .before .before .before .before .before .before .before .before .before) in record { ways-room = s .pre .ways-room; indexable = room-index (s .pre) refl refl }
 
 weakest-requires : tie.Need-weakest-requires
-weakest-requires c κs = let s = (c .before .before .before .before .before .before .before .before .before .before .before .before .before .before .before .before .before .before .before .before .before .before .before .before .before .before) in
-    let p = (c .before .before .before .before .before .before .before .before .before .before .before .before) .prepare in
-    (room-ready (s .pre) (p .kept .1 .1 .1 .1 .1 .0) (p .ensures .index) refl refl, s .pre .back-room ∙ sym (p .kept .1 .1 .1 .1 .1 .0 ∙ s .pre .ways-room))
+weakest-requires c κs = let s = (c .before .before .before .before .before .before .before .before .before .before .before .before .before .before .before .before .before .before .before .before .before .before .before .before) in
+    let p = (c .before .before .before .before .before .before .before .before .before .before .before) .prepare in
+    room-ready (s .pre) (p .kept .1 .1 .1 .1 .1 .0) (p .ensures .index) refl refl
 
 same-length : tie.Need-same-length
 same-length c = search needs
@@ -30,13 +30,10 @@ same-length-4 c = search needs
 same-length-5 : tie.Need-same-length-5
 same-length-5 c = search needs
 
-same-length-6 : tie.Need-same-length-6
-same-length-6 c = search needs
-
 returns : tie.Need-returns
-returns c = let s = (c .before .before .before .before .before .before .before .before .before .before .before .before .before .before .before .before .before .before .before .before .before .before .before .before .before .before .before .before .before .before .before .before .before) in
-    let p = (c .before .before .before .before .before .before .before .before .before .before .before .before .before .before .before .before .before .before .before) .prepare in
-    under-weakest (s .pre) (s .args .setting .now) (p .ensures .hung) ((c .before .before .before .before .before .before) .weakest .ensures)
+returns c = let s = (c .before .before .before .before .before .before .before .before .before .before .before .before .before .before .before .before .before .before .before .before .before .before .before .before .before .before .before .before .before) in
+    let p = (c .before .before .before .before .before .before .before .before .before .before .before .before .before .before .before .before) .prepare in
+    under-weakest (s .pre) (s .args .setting .now) (p .ensures .hung) ((c .before .before .before .before) .weakest .ensures)
 
 pub strong-under-spec : {M : Type 1} → statement M
 strong-under-spec =
@@ -49,5 +46,4 @@ strong-under-spec =
     same-length-3
     same-length-4
     same-length-5
-    same-length-6
     returns)

@@ -5,7 +5,7 @@ use Prim.Native.Nat.{ℕ, _-_, _<_}
 use mathlib.Core.Path.{_≡_, refl, sym, _∙_}
 use native.Mathlib.Omega.{arith}
 use lib.ListN.{length}
-use Rattle.search.specs.Ends.{arcsOf}
+use Rattle.search.specs.Ends.{arcsOf, sided}
 use Rattle.search.specs.Searches.{Next}
 use Rattle.search.proofs.Halves.{arc-below}
 use Rattle.search.proofs.Fronts.{Searching, begins, scans, meets, ends}
@@ -13,19 +13,19 @@ use Rattle.search.proofs.search.Statement.{statement}
 use Rattle.search.proofs.search.Tie as tie
 
 abbrev Inv-loop : tie.InvT-loop
-Inv-loop n a b ways head next start goal seen₀ queue₀ tail₀ at₀ seen queue tail at =
-    Searching (arcsOf a b ways) n start seen queue at tail × (length seen ≡ length seen₀) × (length queue ≡ length queue₀)
+Inv-loop n a b ways head next start goal against seen₀ queue₀ tail₀ at₀ seen queue tail at =
+    Searching (arcsOf a b (sided against ways)) n start seen queue at tail × (length seen ≡ length seen₀) × (length queue ≡ length queue₀)
 
 abbrev μ-loop : tie.MeasureT-loop
-μ-loop n a b ways head next start goal seen₀ queue₀ tail₀ at₀ seen queue tail at = length queue₀ - at
+μ-loop n a b ways head next start goal against seen₀ queue₀ tail₀ at₀ seen queue tail at = length queue₀ - at
 
 -- the function's entry
 abbrev entry : tie.At-loop Inv-loop μ-loop → tie.Start Inv-loop μ-loop
 entry c = c .before .before .before .before .before .before .before .before .before .before .before .before .before .before .before
 
 -- every arc leads to a basin
-leads-in : (c : tie.Start Inv-loop μ-loop) (u w : ℕ) → Next (arcsOf (c .args .a .now) (c .args .b .now) (c .args .ways .now)) u w → w < c .args .n
-leads-in c u w m = arc-below (c .args .a .now) (c .args .b .now) (c .args .ways .now) (c .args .n) u w (c .pre .table) m
+leads-in : (c : tie.Start Inv-loop μ-loop) (u w : ℕ) → Next (arcsOf (c .args .a .now) (c .args .b .now) (sided (c .args .against) (c .args .ways .now))) u w → w < c .args .n
+leads-in c u w m = arc-below (c .args .a .now) (c .args .b .now) (sided (c .args .against) (c .args .ways .now)) (c .args .n) u w (c .pre .table) m
 
 -- the two slices keep their lengths
 seen-kept : (c : tie.At-loop Inv-loop μ-loop) → length (c .loop .seen) ≡ length (entry c .args .seen .now)
