@@ -18,7 +18,7 @@ use Rattle.network.proofs.Bools.{fails, clash}
 use Rattle.network.proofs.Finds.{every-at, every-make, range-has, range-in}
 use Rattle.network.proofs.Walks.{Within, walk-trans, walk-reached, reached-walk, reached-same}
 use Rattle.search.specs.Ends.{arcsOf}
-use Rattle.search.specs.Searches.{Searchable, Searched}
+use Rattle.search.specs.Searches.{Searchable, Noted}
 use Rattle.gates.specs.Ready.{Ready, FirstUnseen, Missed, Weakest}
 use Rattle.gates.specs.Hung.{leftOut, Tried, hung, lost, HungGate, drawn, turned, stuck, Settled, as-it-was, as-drawn, as-turned}
 
@@ -94,16 +94,16 @@ module _ (ks : List ℕ) {xs ys : List ℕ} (ws : List ℕ) (i : ℕ) (g : isGat
       from (lost p e q) = clash z q
 
   -- neither did, and a whole search without the reach notes what its end A leads to
-  pub gate-stuck : {n goal : ℕ} {ws₂ ws′ seen : List ℕ} {r₂ found : Bool} → Tried (leftOut xs ys ws i) (getD ys i 0) (getD xs i 0) 0 ws i ws₁ r₁ → r₁ ≡ false
-      → Tried (leftOut xs ys ws₁ i) (getD xs i 0) (getD ys i 0) 1 ws₁ i ws₂ r₂ → r₂ ≡ false → n ≤ goal
-      → Searched (arcsOf xs ys (set ws₂ i 3)) n (getD xs i 0) goal seen found → HungGate n ks xs ys ws i ws′ seen false
-  gate-stuck {n} {goal} {ws₂} {ws′} {seen} {r₂} {found} t y u z far s = from (tried-same xs ys ws₁ ws i (freed-same xs ys ws i t y) u)
+  pub gate-stuck : {n : ℕ} {ws₂ ws′ seen : List ℕ} {r₂ : Bool} → Tried (leftOut xs ys ws i) (getD ys i 0) (getD xs i 0) 0 ws i ws₁ r₁ → r₁ ≡ false
+      → Tried (leftOut xs ys ws₁ i) (getD xs i 0) (getD ys i 0) 1 ws₁ i ws₂ r₂ → r₂ ≡ false
+      → Noted (arcsOf xs ys (set ws₂ i 3)) n (getD xs i 0) seen → HungGate n ks xs ys ws i ws′ seen false
+  gate-stuck {n} {ws₂} {ws′} {seen} {r₂} t y u z s = from (tried-same xs ys ws₁ ws i (freed-same xs ys ws i t y) u)
     where
       from : Tried (leftOut xs ys ws i) (getD xs i 0) (getD ys i 0) 1 ws i ws₂ r₂ → HungGate n ks xs ys ws i ws′ seen false
       from (hung p e q) = clash q z
       from (lost p e q) =
           stuck g (not-led xs ys ws i t y) p refl
-          (subst (λ (l : List ℕ). (v : ℕ) → v < n → getD seen v 0 ≡ bit (reached (arcsOf xs ys l) (getD xs i 0) v)) (ap (λ (v : List ℕ). set v i 3) e ∙ set-set ws i 2 3) (s .whole (s .outside far)))
+          (subst (λ (l : List ℕ). (v : ℕ) → v < n → getD seen v 0 ≡ bit (reached (arcsOf xs ys l) (getD xs i 0) v)) (ap (λ (v : List ℕ). set v i 3) e ∙ set-set ws i 2 3) s)
 
 -- ---- all basins
 
@@ -115,10 +115,9 @@ bit-above : (b : Bool) → 0 < bit b → b ≡ true
 bit-above true e = refl
 bit-above false e = absurd (omega arith)
 
--- a search with no goal notes all that is reached, and its lowest 0 is the lowest basin missed
-pub missed-first : {A : List Arc} {n start goal : ℕ} {seen : List ℕ} {r : ℕ} {found : Bool} → n ≤ goal → Searched A n start goal seen found → FirstUnseen n seen r → Missed A n start seen r
-missed-first {A} {n} {start} {goal} {seen} {r} far s f =
-    let noted : (v : ℕ) → v < n → getD seen v 0 ≡ bit (reached A start v) = s .whole (s .outside far) in
+-- the lowest 0 of what a search notes is the lowest basin missed
+pub missed-first : {A : List Arc} {n start : ℕ} {seen : List ℕ} {r : ℕ} → Noted A n start seen → FirstUnseen n seen r → Missed A n start seen r
+missed-first {A} {n} {start} {seen} {r} noted f =
     record {
       bound = f .bound;
       lower = λ v l. bit-above (reached A start v) (subst (λ (x : ℕ). 0 < x) (noted v (omega (arith, f .bound))) (f .lower v l));

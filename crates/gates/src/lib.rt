@@ -12,7 +12,6 @@ ghost use Rattle.gates.specs.Ready.{Ready, FirstUnseen, Missed, Weakest}
 ghost use Rattle.gates.specs.Hung.{leftOut, Tried, HungGate, Settled};
 ghost use Rattle.gates.specs.Greedy.{Begun, NoneLone, Greedy, Completed};
 ghost use Rattle.gates.specs.Follows.{Under, upTo, Whole, WholeBelow, Followed, TurnedBack, HungAs, PartedAt};
-use search::NONE;
 
 // The lowest basin whose byte is 0, or n if there is none.
 fn first_unseen(n: usize, seen: &[u8]) -> usize
@@ -46,7 +45,7 @@ pub fn missed(
     requires { ⌜ start < n ⌝ }
     ensures { λ r. ⌜ Missed (arcsOf (now (a .entry)) (now (b .entry)) (sided against (now (ways .entry)))) n start (now (seen .exit)) r ⌝ }
 {
-    search::search(n, a, b, ways, head, next, start, NONE, against, seen, queue);
+    search::search(n, a, b, ways, head, next, start, against, seen, queue);
     first_unseen(n, seen)
 }
 
@@ -189,7 +188,7 @@ fn hang_gate(
         return true;
     }
     ways[i] = 3;
-    search::search(n, a, b, ways, head, next, a[i], NONE, false, seen, queue);
+    search::search(n, a, b, ways, head, next, a[i], false, seen, queue);
     false
 }
 

@@ -16,7 +16,7 @@ use Rattle.network.specs.Hangings.{Arc, Walk, stay, step, reached}
 use Rattle.network.specs.Marks.{bit}
 use Rattle.network.proofs.Bools.{and-left, and-right, and-make, clash, same-test}
 use Rattle.network.proofs.Walks.{walk-trans, walk-arc, walk-reached, reached-walk}
-use Rattle.search.specs.Searches.{Seen, Next, Visited, first, again, Grown, stay as none-more, more, Scanned, Searched, Meets, meeting, apart}
+use Rattle.search.specs.Searches.{Seen, Next, Visited, first, again, Grown, stay as none-more, more, Scanned, Noted, Meets, meeting, apart}
 use Rattle.search.proofs.Counts.{unseen-le, unseen-set}
 use Rattle.search.proofs.Visits.{Room, Waits, Grew, marked-news, visited-grew, visited-seen, grown-grew}
 
@@ -126,26 +126,10 @@ module _ {A : List Arc} {n start : ℕ} where
       moved v q (no e) =
           inl (record { place = q .place; from = omega arith; below = omega (arith, g .further); here = g .queue-keeps (q .place) (q .below) ∙ q .here })
 
-  -- the goal is met
-  pub meets : {seen queue : List ℕ} {at tail : ℕ} (goal : ℕ) → Searching A n start seen queue at tail
-      → ltb goal n && eqb (getD seen goal 0) 1 ≡ true → Searched A n start goal seen true
-  meets {seen} goal s e =
-      let b = ltb-true goal n (and-left (ltb goal n) _ e) in
-      let o = eqb-true (getD seen goal 0) 1 (and-right (ltb goal n) _ e) in
-      record { found = sym (walk-reached (s .sound .walked goal b (omega arith))); outside = λ h. absurd (omega arith); whole = λ h. absurd (true≢false h) }
-
-  -- the queue is empty
-  pub ends : {seen queue : List ℕ} {at tail : ℕ} (goal : ℕ) (r : Bool) → ((u w : ℕ) → Next A u w → w < n) → start < n → tail ≤ at
-      → Searching A n start seen queue at tail → r ≡ ltb goal n && eqb (getD seen goal 0) 1 → Searched A n start goal seen r
-  ends {seen} {queue} {at} {tail} goal r f b l s e =
-      record {
-        found = e ∙ same-test (ltb goal n && eqb (getD seen goal 0) 1) (reached A start goal)
-            (λ t. let o = eqb-true (getD seen goal 0) 1 (and-right (ltb goal n) _ t) in
-            walk-reached (s .sound .walked goal (ltb-true goal n (and-left (ltb goal n) _ t)) (omega arith)))
-            (λ t. let q = inside (reached-walk A start goal t) b (s .started) in and-make (lt-ltb goal n (q .0)) (eq-eqb (getD seen goal 0) 1 (one goal q)));
-        outside = λ h. e ∙ rw (le-ltb goal n h);
-        whole = λ _ v h. mark v h (reached A start v) refl (decLt 0 (getD seen v 0));
-      }
+  -- the queue is empty: all that is reached is seen, and nothing else
+  pub ends : {seen queue : List ℕ} {at tail : ℕ} → ((u w : ℕ) → Next A u w → w < n) → start < n → tail ≤ at
+      → Searching A n start seen queue at tail → Noted A n start seen
+  ends {seen} {queue} {at} {tail} f b l s v h = mark v h (reached A start v) refl (decLt 0 (getD seen v 0))
     where
       closed : (v : ℕ) → v < n → Seen seen v → Closed A seen v
       closed v c x = ⊎-elim (λ q. absurd (omega (arith, q .from, q .below))) (λ k. k) (s .open-or-closed v c x)
@@ -200,7 +184,11 @@ joins {A} {goal} {queue} against s t (meeting k _ b x _) e =
     walk-reached (walk-trans (s .walks k b) (reached-walk A (getD queue k 0) goal (sym (against goal (getD queue k 0)) ∙ walk-reached (t .walked (getD queue k 0) (s .basins k b) x))))
 joins against s t (apart _ n) e = clash e n
 
+bit-0 : (b : Bool) → bit b ≡ 0 → b ≡ false
+bit-0 true e = absurd (omega arith)
+bit-0 false e = refl
+
 -- the queue is empty, and the goal is not seen: it is not reached
 pub shut : {A : List Arc} {n start at tail : ℕ} {seen queue : List ℕ} (goal : ℕ) → ((u w : ℕ) → Next A u w → w < n) → start < n → goal < n → tail ≤ at
     → Searching A n start seen queue at tail → getD seen goal 0 ≡ 0 → false ≡ reached A start goal
-shut goal f b g l s z = ends goal false f b l s (rw (lt-ltb _ _ g, z)) .found
+shut {A} {start} goal f b g l s z = sym (bit-0 (reached A start goal) (sym (ends f b l s goal g) ∙ z))

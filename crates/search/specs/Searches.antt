@@ -59,11 +59,9 @@ pub record Searchable (n : ℕ) (xs ys ws head next : List ℕ) (start : ℕ) (s
   pub seen-room : n ≤ length seen
   pub queue-room : length seen ≤ length queue
 
--- What it finds: whether the goal is reached, which no goal from n on is; and where it is not, a 1 at each basin reached and a 0 at each other.
-pub record Searched (A : List Arc) (n start goal : ℕ) (seen : List ℕ) (r : Bool) : Type 0 where
-  pub found : r ≡ reached A start goal
-  pub outside : n ≤ goal → r ≡ false
-  pub whole : r ≡ false → (v : ℕ) → v < n → getD seen v 0 ≡ bit (reached A start v)
+-- What it leaves: a 1 at each basin that is reached from start along A, and a 0 at each other.
+abbrev pub Noted : List Arc → ℕ → ℕ → List ℕ → Type 0
+Noted A n start seen = (v : ℕ) → v < n → getD seen v 0 ≡ bit (reached A start v)
 
 -- What stands in a queue at the places below t is a basin below n.
 abbrev pub Queued : List ℕ → ℕ → ℕ → Type 0

@@ -8,13 +8,13 @@ ghost use lib.ListN.{length, getD, set, replicate, drop};
 ghost use lib.Dec.{ltb, eqb};
 ghost use Rattle.search.specs.Ends.{arcsOf, otherOf, sided, leaves};
 ghost use Rattle.search.specs.Chains.{none, Index, Indexable};
-ghost use Rattle.search.specs.Searches.{unseen, Visited, Scannable, Scanned, Searchable, Searched, Queued, Meets};
+ghost use Rattle.search.specs.Searches.{unseen, Visited, Scannable, Scanned, Searchable, Noted, Queued, Meets};
 ghost use Rattle.network.specs.Networks.{maxBasins};
 ghost use Rattle.network.specs.Hangings.{reached};
 use network::MAX_BASINS;
 
 // What stands where there is no half-edge.
-pub const NONE: u16 = 65535;
+const NONE: u16 = 65535;
 
 // Fills head[0..n] with NONE.
 fn empty(n: usize, head: &mut [u16])
@@ -113,15 +113,6 @@ fn begin(n: usize, start: u16, seen: &mut [u8], queue: &mut [u16]) -> usize
     visit(start, seen, queue, 0)
 }
 
-// Whether the goal is a basin that is seen.
-fn met(n: usize, goal: u16, seen: &[u8]) -> bool
-    requires { ⌜ n ≤ length (now seen) ⌝ }
-    ensures { λ r. ⌜ r ≡ ltb goal n && eqb (getD (now (seen .entry)) goal 0) 1 ⌝ }
-{
-    let g = goal as usize;
-    if g < n { seen[g] == 1 } else { false }
-}
-
 // Visits each basin to which a half-edge passes from the basin at place `at` of the queue, or passes to it from there. Returns the queue's end.
 fn scan(
     a: &[u16],
@@ -150,8 +141,7 @@ fn scan(
     end
 }
 
-// Whether the goal is reached from start along the arrows or, if so asked, against them. Where it is not, seen holds 1 at each basin reached and 0 at
-// each other.
+// Notes what is reached from start along the arrows or, if so asked, against them: seen holds 1 at each basin reached and 0 at each other.
 pub fn search(
     n: usize,
     a: &[u16],
@@ -160,24 +150,19 @@ pub fn search(
     head: &[u16],
     next: &[u16],
     start: u16,
-    goal: u16,
     against: bool,
     seen: &mut [u8],
     queue: &mut [u16],
-) -> bool
+)
     requires { ⌜ Searchable n (now a) (now b) (now ways) (now head) (now next) start (now seen) (now queue) ⌝ }
-    ensures { λ r. ⌜ Searched (arcsOf (now (a .entry)) (now (b .entry)) (sided against (now (ways .entry)))) n start goal (now (seen .exit)) r ⌝ }
+    ensures { λ _. ⌜ Noted (arcsOf (now (a .entry)) (now (b .entry)) (sided against (now (ways .entry)))) n start (now (seen .exit)) ⌝ }
 {
     let mut tail = begin(n, start, seen, queue);
     let mut at = 0;
     while at < tail {
-        if met(n, goal, seen) {
-            return true;
-        }
         tail = scan(a, b, ways, head, next, seen, queue, at, tail, against);
         at += 1;
     }
-    met(n, goal, seen)
 }
 
 // Whether one of the basins at the places of a queue from `from` on and below `to` is seen.

@@ -84,7 +84,7 @@ returns-4 : tie.Need-returns-4
 returns-4 c =
     let s = c .before .before .before .before .before .before .before .before .before .before .before .before .before .before .before .before .before .before .before .before .before .before .before .before .before .before .before .before .before .before .before .before .before .before .before .before .before .before .before .before .before in
     gate-stuck (s .args .kinds .now) (s .args .ways .now) (s .args .i) (kind-gate _ ((c .before .before .before .before .before .before .before .before .before .before .before .before .before .before .before .before .before .before .before .before .before .before .before .before .before .before .before .before .before .before .before) .if1 .left)) ((c .before .before .before .before .before .before .before .before .before .before .before .before .before .before .before .before .before .before .before .before .before .before .before .before .before .before .before) .try-drawn .ensures) ((c .before .before .before .before .before .before .before .before .before .before .before .before .before .before .before .before .before .before .before .before) .if2 .left) ((c .before .before .before .before .before .before .before .before .before .before .before .before .before .before .before .before) .try-turned .ensures) ((c .before .before .before .before .before .before .before .before .before) .if3 .left)
-    (omega (arith, s .pre .0 .few-basins)) ((c .before .before .before .before) .search .ensures)
+    ((c .before .before .before .before) .search .ensures)
 
 pub hang-gate-spec : {M : Type 1} → statement M
 hang-gate-spec =

@@ -20,7 +20,7 @@ same-length-2 : tie.Need-same-length-2
 same-length-2 c = search needs
 
 returns : tie.Need-returns
-returns c = missed-first (omega (arith, (c .before .before .before .before .before .before .before .before .before .before .before .before .before .before .before .before) .pre .0 .few-basins)) (c .before .before .before .before .before .before .search .ensures) (c .first-unseen .ensures)
+returns c = missed-first (c .before .before .before .before .before .before .search .ensures) (c .first-unseen .ensures)
 
 pub missed-spec : {M : Type 1} → statement M
 missed-spec = tie.close (tie.spec search-requires first-unseen-requires same-length same-length-2 returns)

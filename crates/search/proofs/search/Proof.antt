@@ -8,16 +8,16 @@ use lib.ListN.{length}
 use Rattle.search.specs.Ends.{arcsOf, sided}
 use Rattle.search.specs.Searches.{Next}
 use Rattle.search.proofs.Halves.{arc-below}
-use Rattle.search.proofs.Fronts.{Searching, begins, scans, meets, ends}
+use Rattle.search.proofs.Fronts.{Searching, begins, scans, ends}
 use Rattle.search.proofs.search.Statement.{statement}
 use Rattle.search.proofs.search.Tie as tie
 
 abbrev Inv-loop : tie.InvT-loop
-Inv-loop n a b ways head next start goal against seen₀ queue₀ tail₀ at₀ seen queue tail at =
+Inv-loop n a b ways head next start against seen₀ queue₀ tail₀ at₀ seen queue tail at =
     Searching (arcsOf a b (sided against ways)) n start seen queue at tail × (length seen ≡ length seen₀) × (length queue ≡ length queue₀)
 
 abbrev μ-loop : tie.MeasureT-loop
-μ-loop n a b ways head next start goal against seen₀ queue₀ tail₀ at₀ seen queue tail at = length queue₀ - at
+μ-loop n a b ways head next start against seen₀ queue₀ tail₀ at₀ seen queue tail at = length queue₀ - at
 
 -- the function's entry
 abbrev entry : tie.At-loop Inv-loop μ-loop → tie.Start Inv-loop μ-loop
@@ -44,23 +44,9 @@ loop-holds c =
     let start = c .before .before .before .before .before .before .before .before .before .before .before .before .before .before in
     (begins (start .args .seen .now) (start .pre .seen-room) (start .pre .queue-room) (start .pre .starts) refl (c .before .before .before .before .begin .ensures), refl, refl)
 
-met-requires : tie.Need-met-requires Inv-loop μ-loop
-met-requires c κs = omega (arith, c .before .before .loop .inv .0 .sound .long)
-
-same-length : tie.Need-same-length Inv-loop μ-loop
-same-length c = seen-kept (c .before .before .before .before)
-
-same-length-2 : tie.Need-same-length-2 Inv-loop μ-loop
-same-length-2 c = queue-kept (c .before .before .before .before)
-
-returns : tie.Need-returns Inv-loop μ-loop
-returns c =
-    let l = c .before .before .before .before in
-    meets (entry l .args .goal) (l .loop .inv .0) (sym (c .before .met .ensures) ∙ c .if1 .taken)
-
 scan-requires : tie.Need-scan-requires Inv-loop μ-loop
 scan-requires c κs =
-    let t = c .before .before .before .before .before in
+    let t = c .before .before in
     let start = entry (t .before) in
     let s = t .before .loop .inv .0 .sound in
     record {
@@ -76,53 +62,31 @@ scan-requires c κs =
 
 add-at : tie.Need-add-at Inv-loop μ-loop
 add-at c =
-    let t = c .before .before .before .before .before .before .before .before .before .before in
+    let t = c .before .before .before .before .before .before .before in
     omega (arith, t .loop-test .taken, t .before .loop .inv .0 .sound .room, queue-kept (t .before), entry (t .before) .good)
 
 loop-less : tie.Need-loop-less Inv-loop μ-loop
 loop-less c =
-    let t = c .before .before .before .before .before .before .before .before .before .before in
+    let t = c .before .before .before .before .before .before .before in
     omega (arith, t .loop-test .taken, t .before .loop .inv .0 .sound .room, t .before .loop .inv .2)
 
 loop-again : tie.Need-loop-again Inv-loop μ-loop
 loop-again c =
-    let t = c .before .before .before .before .before .before .before .before .before .before in
+    let t = c .before .before .before .before .before .before .before in
     let start = entry (t .before) in
     let s = c .before .before .before .before .scan in
     (scans (leads-in start) (t .loop-test .taken) (t .before .loop .inv .0) (s .ensures), s .kept .1 .1 .1 .1 .1 .0 ∙ t .before .loop .inv .1, s .kept .1 .1 .1 .1 .1 .1 .0 ∙ t .before .loop .inv .2)
 
-met-requires-2 : tie.Need-met-requires-2 Inv-loop μ-loop
-met-requires-2 c κs = omega (arith, c .before .before .loop .inv .0 .sound .long)
+same-length : tie.Need-same-length Inv-loop μ-loop
+same-length c = seen-kept (c .before)
 
-same-length-3 : tie.Need-same-length-3 Inv-loop μ-loop
-same-length-3 c = seen-kept (c .before .before .before)
+same-length-2 : tie.Need-same-length-2 Inv-loop μ-loop
+same-length-2 c = queue-kept (c .before)
 
-same-length-4 : tie.Need-same-length-4 Inv-loop μ-loop
-same-length-4 c = queue-kept (c .before .before .before)
-
-returns-2 : tie.Need-returns-2 Inv-loop μ-loop
-returns-2 c =
-    let l = c .before .before .before in
-    let start = entry l in
-    ends (start .args .goal) (c .met2 .result) (leads-in start) (start .pre .starts) (c .before .before .loop-test .left) (l .loop .inv .0) (c .met2 .ensures)
+returns : tie.Need-returns Inv-loop μ-loop
+returns c =
+    let start = entry (c .before) in
+    ends (leads-in start) (start .pre .starts) (c .loop-test .left) (c .before .loop .inv .0)
 
 pub search-spec : {M : Type 1} → statement M
-search-spec =
-    tie.close
-    (tie.spec
-    Inv-loop
-    μ-loop
-    begin-requires
-    loop-holds
-    met-requires
-    same-length
-    same-length-2
-    returns
-    scan-requires
-    add-at
-    loop-less
-    loop-again
-    met-requires-2
-    same-length-3
-    same-length-4
-    returns-2)
+search-spec = tie.close (tie.spec Inv-loop μ-loop begin-requires loop-holds scan-requires add-at loop-less loop-again same-length same-length-2 returns)
