@@ -2,11 +2,11 @@
 --     room-usable      a table with more room than a network can have reaches is as good as one with that room
 --     packed-read      the rows of a reading, unpacked into any table with that room, leave there what document 01 says
 -- Assumes nothing.
-use Prim.Native.Nat.{ℕ, min, _≤_, _<_}
+use Prim.Native.Nat.{ℕ, min, _≤_}
 use native.Mathlib.Omega.{arith}
 use mathlib.Core.Path.{_≡_, refl, sym, ap, subst, _∙_}
 use mathlib.Core.Bool.{Bool, true, false, cond, true≢false}
-use mathlib.Core.List.{List, [], _++_, map, append-assoc}
+use mathlib.Core.List.{List, _++_, map, append-assoc}
 use lib.ListN.{length, length-map, length-append, take, drop}
 use lib.Seq.{take-at}
 use lib.Dec.{leb}
@@ -17,7 +17,6 @@ use Rattle.network.specs.Networks.{Network, maxReaches}
 use Rattle.network.specs.Tables.{kindNumber, tableOf}
 use Rattle.tables.proofs.Laws.{table-of-rows}
 use Rattle.netfile.specs.declared.ReadAnswer.{ReadAnswer}
-use Rattle.netfile.specs.declared.ReadAnswer.the-variants.{Refused, Read}
 use Rattle.netfile.specs.Records.{areBytes}
 use Rattle.netfile.specs.Files.{Reading, refused, read, readFile}
 use Rattle.netfile.specs.Answers.{roomOf, readAnswer, readingNumber, withRoom, reachesRead, Rows, ReadCall}
@@ -26,8 +25,7 @@ use Rattle.netfile.proofs.Files.{write-read}
 use Rattle.lent.specs.declared.Packed.{Packed}
 use Rattle.lent.specs.Rows.{unpackedInto}
 use Rattle.lent.proofs.Rows.{unpacked-into}
-use Rattle.filecalls.specs.declared.Found.{Found}
-use Rattle.filecalls.specs.Reads.{leftIn, ReadTable, countOf, ReadPacked}
+use Rattle.filecalls.specs.Reads.{leftIn, countOf, ReadPacked}
 
 -- no more reaches are read than a network may have
 few : (file : List ℕ) (N : Network) → areBytes file ≡ true → readFile file ≡ read N → length (N .reaches) ≤ maxReaches

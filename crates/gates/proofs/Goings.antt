@@ -1,16 +1,16 @@
 -- Deciding one gate more: what stays true of the ways, and what is learnt where neither way is left.
 -- Assumes nothing.
-use Prim.Native.Nat.{ℕ, zero, suc, _+_, _≤_, _<_}
+use Prim.Native.Nat.{ℕ, suc, _≤_, _<_}
 use native.Mathlib.Omega.{arith}
 use native.Mathlib.Decide.{ℕ-discrete, decLt}
 use mathlib.Core.Path.{_≡_, refl, sym, ap, subst, subst⁻¹, _∙_}
 use mathlib.Core.Bool.{Bool, true, false, not}
-use mathlib.Core.Logic.{_⊎_, inl, inr, ⊎-elim, _≢_}
-use mathlib.Core.List.{List, [], _∷_, List·Memᴰ}
+use mathlib.Core.Logic.{_⊎_, ⊎-elim}
+use mathlib.Core.List.{List, []}
 use lib.ListN.{length, getD, set, length-set}
 use lib.Seq.{getD-set-same, getD-set-other, set-getD}
 use lib.Dec.{eqb}
-use Rattle.network.specs.Lists.{range, keep}
+use Rattle.network.specs.Lists.{keep}
 use Rattle.network.specs.Networks.{Network, basinsOf, Accepted}
 use Rattle.network.specs.Settings.{isGated}
 use Rattle.network.specs.Hangings.{way, arcs, reached}
@@ -18,14 +18,14 @@ use Rattle.network.specs.Plans.{strong}
 use Rattle.network.specs.Lone.{reachAt, crossesAlone, isLone}
 use Rattle.network.specs.Marks.{bit}
 use Rattle.network.proofs.Bools.{decide, clash, fails}
-use Rattle.network.proofs.Finds.{keep-same, range-in}
+use Rattle.network.proofs.Finds.{keep-same}
 use Rattle.network.proofs.Ways.{plain-small}
 use Rattle.network.proofs.Networks.{basin-below}
 use Rattle.network.proofs.Lone.{Alone, alone-rest, alone-same, cut-of, lone-gated, lone-parts}
 use Rattle.network.proofs.Steps.{hang-drawn, hang-turned, stuck-alone, stuck-other, stuck-lone}
 use Rattle.tables.specs.Partial.{bytesOf}
 use Rattle.gates.specs.Least.{LeastPlan, Decided, Open, Shaped}
-use Rattle.gates.specs.Greedy.{Begun, Greedy, all-hung, stuck-at}
+use Rattle.gates.specs.Greedy.{Begun}
 use Rattle.gates.proofs.Least.{least-drawn, least-turned, least-end}
 
 -- the gates below i are decided, from the ways ws₀ on, of which those from `from` on were not

@@ -1,36 +1,36 @@
 -- The least plan that completes a list of ways, and what deciding one gate does to it: the law behind deciding the gates one after the other.
 -- Assumes nothing.
-use Prim.Native.Nat.{ℕ, zero, suc, _+_, _≤_, _<_}
+use Prim.Native.Nat.{ℕ, zero, suc, _≤_, _<_}
 use native.Mathlib.Nat.{not-suc-le-zero, le-of-suc-le-suc, suc-inj}
 use native.Mathlib.Omega.{arith}
-use native.Mathlib.Decide.{ℕ-discrete, decLt, decLe}
+use native.Mathlib.Decide.{ℕ-discrete, decLe}
 use mathlib.Core.Path.{_≡_, refl, sym, ap, subst, subst⁻¹, _∙_}
-use mathlib.Core.Bool.{Bool, true, false, _&&_, _||_, true≢false, false≢true}
+use mathlib.Core.Bool.{Bool, true, false, _&&_, _||_, false≢true}
 use mathlib.Core.Logic.{_⊎_, inl, inr, ⊎-elim, _≢_}
-use mathlib.Core.Option.{Option, none, some}
+use mathlib.Core.Option.{some}
 use mathlib.Core.List.{List, [], _∷_, List·Memᴰ}
-use lib.ListN.{length, getD, set, replicate, length-set, List·getD-eq-default}
+use lib.ListN.{length, getD, set}
 use lib.Seq.{getD-set-same, getD-set-other, ext-getD}
 use lib.Dec.{leb, ltb, eqb}
-use borrow.Author.Tests.{le-leb, lt-ltb, le-ltb, eq-eqb, ne-eqb, ltb-true, eqb-true, eqb-false}
+use borrow.Author.Tests.{le-leb, lt-ltb, le-ltb, eq-eqb, ne-eqb}
 use Rattle.network.specs.declared.Kind.{Kind}
 use Rattle.network.specs.declared.Kind.the-variants.{Gated, Flap, TwoWay}
 use Rattle.network.specs.declared.Reach.{Reach}
 use Rattle.network.specs.Lists.{every}
-use Rattle.network.specs.Networks.{Network, basinsOf, Accepted}
+use Rattle.network.specs.Networks.{Network, basinsOf}
 use Rattle.network.specs.Settings.{isGated, gatesFrom, gateCount, isSetting, before}
-use Rattle.network.specs.Hangings.{way, after, ways, arcs, unhung}
-use Rattle.network.specs.Plans.{strong, strongUnder, isPlan, passable, firstPlan}
+use Rattle.network.specs.Hangings.{way, ways, arcs}
+use Rattle.network.specs.Plans.{strong, strongUnder, isPlan, firstPlan}
 use Rattle.network.specs.Lone.{noReach, reachAt}
-use Rattle.network.proofs.Bools.{and-right, and-make, decide, clash, or-left, or-right, fails}
+use Rattle.network.proofs.Bools.{and-make, decide, clash, or-left, or-right}
 use Rattle.network.proofs.Cuts.{strong-within}
 use Rattle.network.proofs.Walks.{Within}
-use Rattle.network.proofs.Ways.{Source, passingAt, arcs-in, arcs-has, passing-either, length-ways, plain-way, gate-way}
-use Rattle.network.proofs.Order.{before-irrefl, before-asym, before-total, setting-length, plan-setting, first-unique, next-unique}
+use Rattle.network.proofs.Ways.{passingAt, arcs-in, arcs-has, passing-either, length-ways, plain-way, gate-way}
+use Rattle.network.proofs.Order.{before-irrefl, before-asym, setting-length, plan-setting, first-unique}
 use Rattle.network.proofs.Lone.{plan-gate-small}
 use Rattle.network.proofs.Theorem.{plan-reaches}
 use Rattle.gates.specs.Least.{Fits, LeastPlan, Decided, Shaped}
-use Rattle.tables.specs.Partial.{bytesOf, hungTo}
+use Rattle.tables.specs.Partial.{bytesOf}
 
 abbrev reachOf : Kind → ℕ → ℕ → Reach
 reachOf d a b = record { kind = d; a = a; b = b }

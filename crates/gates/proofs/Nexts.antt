@@ -1,23 +1,23 @@
 -- The next plan of a setting: the last gate at which a plan can part from the setting upwards, and the least plan that does.
 -- Assumes nothing.
-use Prim.Native.Nat.{ℕ, zero, suc, _+_, _-_, _≤_, _<_}
+use Prim.Native.Nat.{ℕ, suc, _+_, _-_, _≤_, _<_}
 use native.Mathlib.Nat.{not-suc-le-zero}
 use native.Mathlib.Omega.{arith}
-use native.Mathlib.Decide.{ℕ-discrete, decLt, decLe}
-use mathlib.Core.Path.{_≡_, refl, sym, ap, subst, subst⁻¹, _∙_}
-use mathlib.Core.Bool.{Bool, true, false}
-use mathlib.Core.Logic.{_⊎_, inl, inr, ⊎-elim, _≢_}
+use native.Mathlib.Decide.{ℕ-discrete, decLt}
+use mathlib.Core.Path.{_≡_, refl, sym, ap, _∙_}
+use mathlib.Core.Bool.{true, false}
+use mathlib.Core.Logic.{_⊎_, inl, inr, ⊎-elim}
 use mathlib.Core.Option.{Option, none, some}
-use mathlib.Core.List.{List, [], _∷_, _++_}
+use mathlib.Core.List.{List, [], _++_}
 use lib.ListN.{length, getD, set, take, drop, length-set, length-append, length-take, length-drop, List·getD-append}
 use lib.Seq.{getD-set-same, getD-set-other, set-getD, ext-getD, getD-take, getD-drop, getD-append-add, length-take-le}
 use lib.Dec.{eqb}
 use borrow.Author.Tests.{eqb-true}
 use Rattle.network.specs.declared.Reach.{Reach}
-use Rattle.network.specs.Networks.{Network, basinsOf, Accepted}
+use Rattle.network.specs.Networks.{Network, basinsOf}
 use Rattle.network.specs.Settings.{isGated, gateCount, isSetting, before}
 use Rattle.network.specs.Hangings.{way, ways, arcs}
-use Rattle.network.specs.Plans.{strong, strongUnder, isPlan, nextPlan}
+use Rattle.network.specs.Plans.{strong, isPlan, nextPlan}
 use Rattle.network.specs.Lone.{reachAt}
 use Rattle.network.proofs.Bools.{and-left, and-right, decide, clash, fails}
 use Rattle.network.proofs.Ways.{length-ways, plain-way, gate-way, gate-small}

@@ -1,26 +1,25 @@
 -- What follows from a table that is ready, and what single searches over it show.
 -- Assumes nothing.
-use Prim.Native.Nat.{ℕ, zero, suc, _≤_, _<_}
+use Prim.Native.Nat.{ℕ, zero, suc, _<_}
 use native.Mathlib.Omega.{arith}
 use mathlib.Core.Path.{_≡_, refl, sym, ap, subst, _∙_}
 use mathlib.Core.Bool.{Bool, true, false}
-use mathlib.Core.Logic.{_⊎_, inl, inr, ⊎-elim}
-use mathlib.Core.List.{List, [], _∷_, _++_, map, List·Memᴰ, List·Memᴰ·head, List·Memᴰ·tail, List·Memᴰ·cases-cons, List·Memᴰ·not-nil, Memᴰ·append-left, Memᴰ·append-right, List·Memᴰ·append-cases}
+use mathlib.Core.List.{List}
 use lib.ListN.{length, getD, set}
 use lib.Seq.{set-set}
 use Rattle.network.specs.Lists.{range}
 use Rattle.network.specs.Tables.{kindOf}
 use Rattle.network.specs.Settings.{isGated}
-use Rattle.network.specs.Hangings.{Arc, passing, reached}
+use Rattle.network.specs.Hangings.{Arc, reached}
 use Rattle.network.specs.Plans.{reachesAll}
 use Rattle.network.specs.Marks.{bit}
 use Rattle.network.proofs.Bools.{fails, clash}
 use Rattle.network.proofs.Finds.{every-at, every-make, range-has, range-in}
-use Rattle.network.proofs.Walks.{Within, walk-trans, walk-reached, reached-walk, reached-same}
+use Rattle.network.proofs.Walks.{walk-trans, walk-reached, reached-walk}
 use Rattle.search.specs.Ends.{arcsOf}
 use Rattle.search.specs.Searches.{Searchable, Noted}
 use Rattle.gates.specs.Ready.{Ready, FirstUnseen, Missed, Weakest}
-use Rattle.gates.specs.Hung.{leftOut, Tried, hung, lost, HungGate, drawn, turned, stuck, Settled, as-it-was, as-drawn, as-turned}
+use Rattle.gates.specs.Hung.{leftOut, Tried, hung, lost, HungGate, drawn, turned, stuck, Settled, as-drawn, as-turned}
 
 pub searchable : {n : ℕ} {xs ys ws head next seen queue : List ℕ} (start : ℕ) → Ready n xs ys ws head next seen queue → start < n → Searchable n xs ys ws head next start seen queue
 searchable start r l =

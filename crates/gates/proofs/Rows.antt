@@ -1,13 +1,13 @@
 -- The gates of a network lent as rows: what the searches over its ends say of the network.
 -- Assumes nothing.
-use Prim.Native.Nat.{ℕ, zero, suc, _+_, _≤_, _<_}
+use Prim.Native.Nat.{ℕ, suc, _≤_, _<_}
 use native.Mathlib.Omega.{arith}
 use mathlib.Core.Path.{_≡_, refl, sym, ap, ap₂, subst, subst⁻¹, _∙_}
 use mathlib.Core.Bool.{Bool, true, false}
 use mathlib.Core.Logic.{⊎-elim}
 use mathlib.Core.List.{List, []}
 use lib.ListN.{length, getD, set}
-use Rattle.network.specs.Networks.{Network, Accepted}
+use Rattle.network.specs.Networks.{Accepted}
 use Rattle.network.specs.Tables.{kindOf, tableOf}
 use Rattle.network.specs.Settings.{isGated}
 use Rattle.network.specs.Hangings.{Arc, arcs, reached}
@@ -19,7 +19,7 @@ use Rattle.search.proofs.Laws.{arcs-ends}
 use Rattle.tables.specs.Rows.{netOf}
 use Rattle.tables.proofs.Laws.{row-length, row-kind, row-a, row-b, row-ends-a, row-ends-b}
 use Rattle.gates.specs.Hung.{leftOut, HungGate, no-gate, drawn, turned, stuck, Settled, as-it-was, as-drawn, as-turned}
-use Rattle.gates.specs.Greedy.{Begun, Greedy, all-hung, stuck-at, Completed}
+use Rattle.gates.specs.Greedy.{Greedy, all-hung, stuck-at, Completed}
 use Rattle.gates.proofs.Least.{bytes-ways}
 use Rattle.gates.proofs.Goings.{Going, going-plain, going-drawn, going-turned, going-end, stuck-cut, stuck-is-lone}
 

@@ -3,7 +3,7 @@
 // These functions are for the planner; what they require it has checked.
 ghost use mathlib.Core.Path.{_≡_};
 ghost use Prim.Native.Nat.{_≤_, _<_};
-ghost use lib.ListN.{length, getD, set};
+ghost use lib.ListN.{length, getD};
 ghost use Rattle.network.specs.Networks.{Accepted};
 ghost use Rattle.network.specs.Hangings.{reached};
 ghost use Rattle.tables.specs.Rows.{netOf};

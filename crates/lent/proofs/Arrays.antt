@@ -2,7 +2,7 @@
 -- it reads or writes a field by `sub`.
 --     element          element i of an array's cell that p finds
 -- Assumes `Given` (of it `at-elems`, `elems-at`).
-use mathlib.Core.Path.{_≡_, refl, sym, _∙_, ap, subst}
+use mathlib.Core.Path.{_≡_, refl, _∙_, ap, subst}
 use Prim.Native.Nat.{ℕ, zero, suc, _+_, _<_}
 use native.Mathlib.Nat.{not-suc-le-zero, le-of-suc-le-suc}
 use mathlib.Core.List.{List, [], _∷_}

@@ -13,12 +13,11 @@ use lib.ListN.{length, length-map, getD, set, take, drop, replicate}
 use lib.Seq.{length-take-le, take-length, take-at}
 use lib.Dec.{leb}
 use borrow.Author.Tests.{leb-true, le-leb, lt-leb}
-use Rattle.network.specs.declared.Kind.{Kind}
-use Rattle.network.specs.declared.Kind.the-variants.{Gated, Flap, TwoWay}
+use Rattle.network.specs.declared.Kind.the-variants.{Gated, TwoWay}
 use Rattle.network.specs.declared.Reach.{Reach}
 use Rattle.network.specs.Lists.{range}
 use Rattle.network.specs.Networks.{maxReaches}
-use Rattle.network.specs.Tables.{kindOf, kindNumber, tableOf}
+use Rattle.network.specs.Tables.{kindOf, tableOf}
 use Rattle.tables.proofs.Laws.{table-of-rows}
 use Rattle.lent.specs.declared.Packed.{Packed}
 use Rattle.lent.specs.Rows.{heldOf, rowOf, kindIn, packedOf, zeros, emptyOf, numbersOf, putAt, reachIn, storedOf, into, unpackedInto}

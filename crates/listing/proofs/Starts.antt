@@ -4,16 +4,16 @@ use Prim.Native.Nat.{ℕ, zero, suc, _≤_, min}
 use native.Mathlib.Nat.{min-zero, suc-min-suc}
 use native.Mathlib.Omega.{arith}
 use mathlib.Core.Path.{_≡_, refl, sym, ap, subst, _∙_}
-use mathlib.Core.Bool.{Bool, true, false, cond}
+use mathlib.Core.Bool.{true}
 use mathlib.Core.List.{List, [], _∷_, _++_, map}
 use lib.ListN.{length, take, drop, length-append, length-map}
 use lib.Seq.{take-at, take-nil}
-use lib.Dec.{leb, ltb}
+use lib.Dec.{ltb}
 use borrow.Author.Tests.{le-leb}
 use Rattle.network.specs.declared.Reach.{Reach}
 use Rattle.network.specs.declared.Refusal.{Refusal}
-use Rattle.network.specs.Networks.{Network, maxReaches, Accepted}
-use Rattle.network.specs.Tables.{kindOf, kindNumber, tableOf}
+use Rattle.network.specs.Networks.{maxReaches, Accepted}
+use Rattle.network.specs.Tables.{kindNumber, tableOf}
 use Rattle.network.specs.Replies.{refusalNumber}
 use Rattle.network.proofs.Networks.{accepted}
 use Rattle.network.proofs.Bools.{and-left, and-right, and-make}

@@ -1,13 +1,12 @@
 -- What an accepted table is: none of the three tests fails. What the check of a table answers.
 -- Assumes nothing.
-use mathlib.Core.Path.{_≡_, refl, sym, _∙_}
+use mathlib.Core.Path.{_≡_, sym, _∙_}
 use mathlib.Core.Bool.{true}
-use mathlib.Core.Option.{Option, none, some, Option·some-ne-none}
+use mathlib.Core.Option.{some, Option·some-ne-none}
 use Rattle.network.specs.declared.Refusal.{Refusal}
 use Rattle.network.specs.Networks.{Network, goodCount, goodLength, goodEnds, tableFault, Accepted}
 use Rattle.network.proofs.Bools.{passes}
 use Rattle.tables.specs.declared.TableAnswer.the-variants as T
-use Rattle.tables.specs.Answers.{answerOf}
 use Rattle.tables.proofs.Faults.{fault-count, fault-length, fault-ends}
 
 pub record Good (N : Network) : Type 0 where

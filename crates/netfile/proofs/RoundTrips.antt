@@ -4,7 +4,7 @@ use Prim.Native.Nat.{ℕ, _≤_}
 use native.Mathlib.Omega.{arith}
 use mathlib.Core.Path.{_≡_, refl, sym, ap, subst, _∙_}
 use mathlib.Core.Bool.{Bool, true, false, cond, true≢false}
-use mathlib.Core.List.{List, [], _∷_, _++_, map}
+use mathlib.Core.List.{List, _++_, map}
 use mathlib.Core.Option.{Option, none, some}
 use lib.ListN.{length, take, drop, length-append, length-map}
 use lib.Seq.{take-at}
@@ -13,7 +13,7 @@ use Rattle.network.specs.declared.Reach.{Reach}
 use Rattle.network.specs.declared.Refusal.{Refusal}
 use Rattle.network.specs.declared.Refusal.the-variants.{ShortBuffer}
 use Rattle.network.specs.Networks.{Network, tableFault}
-use Rattle.network.specs.Tables.{kindOf, kindNumber, tableOf}
+use Rattle.network.specs.Tables.{kindNumber, tableOf}
 use Rattle.netfile.specs.declared.ReadAnswer.{ReadAnswer}
 use Rattle.netfile.specs.declared.ReadAnswer.the-variants.{Refused, Read}
 use Rattle.netfile.specs.declared.WriteAnswer.{WriteAnswer}

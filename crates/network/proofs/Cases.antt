@@ -1,6 +1,6 @@
 -- The marked cases 1 to 11, computed from the definitions.
 -- Assumes nothing.
-use mathlib.Core.Path.{_≡_, refl}
+use mathlib.Core.Path.{refl}
 use lib.Count.{ones}
 use Rattle.network.specs.Networks.{tableFault}
 use Rattle.network.specs.Settings.{isSetting, settingFault}

@@ -1,31 +1,31 @@
 -- Demand 2: what a finding shows on the map. Nothing passes out of a shut-in side under any setting; a lone reach is the only one that crosses
 -- its side. Hence no plan in either case.
 -- Assumes nothing.
-use Prim.Native.Nat.{ℕ, zero, suc, _+_, _*_, _≤_, _<_}
+use Prim.Native.Nat.{ℕ, _*_, _<_}
 use native.Mathlib.Omega.{arith}
 use native.Mathlib.Decide.{decLt}
 use mathlib.Core.Path.{_≡_, refl, sym, ap, subst, subst⁻¹, _∙_}
-use mathlib.Core.Bool.{Bool, true, false, not, cond, Bool·beq}
-use mathlib.Core.Logic.{_⊎_, inl, inr, ⊎-elim, _≢_}
+use mathlib.Core.Bool.{Bool, true, false, not}
+use mathlib.Core.Logic.{inl}
 use mathlib.Core.Option.{Option, none, some, Option·getD}
-use mathlib.Core.List.{List, [], _∷_, List·Memᴰ, List·Memᴰ·head, List·Memᴰ·tail}
+use mathlib.Core.List.{List, List·Memᴰ}
 use lib.ListN.{length}
 use borrow.Author.Tests.{not-false}
-use Rattle.network.specs.Lists.{range, every, find, keep, elem}
-use Rattle.network.specs.Networks.{Network, basinsOf, lowestBasin, Accepted}
+use Rattle.network.specs.Lists.{keep, elem}
+use Rattle.network.specs.Networks.{Network, basinsOf, Accepted}
 use Rattle.network.specs.Settings.{isGated, isSetting}
 use Rattle.network.specs.Hangings.{arc, arcsUnder, reached, unhung}
-use Rattle.network.specs.Plans.{reachesAll, strong, strongUnder, isPlan, passable}
+use Rattle.network.specs.Plans.{reachesAll, strongUnder, isPlan, passable}
 use Rattle.network.specs.Lone.{reachAt, isLone, lowestLone}
 use Rattle.network.specs.Marks.{markBytes, marksOf, marked, onesIn}
-use Rattle.network.specs.Replies.{Outcome, shutIn, lone, shutInBasin, shutInSide, loneSide, shutInFinding, loneFinding}
-use Rattle.network.proofs.Bools.{decide, fails, clash, not-true, not-passes}
-use Rattle.network.proofs.Finds.{every-fails, find-some, find-none, find-first, keep-in, keep-same, elem-in, elem-has, elem-keep}
+use Rattle.network.specs.Replies.{shutIn, lone, shutInBasin, shutInSide, loneSide, shutInFinding, loneFinding}
+use Rattle.network.proofs.Bools.{fails, clash, not-true, not-passes}
+use Rattle.network.proofs.Finds.{every-fails, find-some, find-none, find-first, keep-in, keep-same, elem-in, elem-keep}
 use Rattle.network.proofs.Marks.{marked-is, unmarked-past, marks-same, count-is}
 use Rattle.network.proofs.Cuts.{reached-on, reached-self}
 use Rattle.network.proofs.Ways.{looser-within}
 use Rattle.network.proofs.Networks.{accepted, basin-in, basin-below, lowest-is-0, arcs-in-basins}
-use Rattle.network.proofs.Lone.{Alone, Cut, LoneSide, alone-facts, alone-same, side-basins, cut-unique, cut-blocks, lone-below, lone-gated, lone-side}
+use Rattle.network.proofs.Lone.{Alone, alone-facts, alone-same, side-basins, cut-unique, cut-blocks, lone-below, lone-gated, lone-side}
 use Rattle.network.proofs.Theorem.{plan-passable, unhung-2}
 use Rattle.network.proofs.Replies.{lowest-is-lone}
 

@@ -3,11 +3,11 @@
 use Prim.Native.Nat.{ℕ}
 use mathlib.Core.Path.{_≡_, refl, sym, ap, subst, _∙_}
 use mathlib.Core.Bool.{Bool, true, false, not, _&&_, _||_}
-use mathlib.Core.Logic.{_⊎_, inl, inr, ⊎-elim}
-use mathlib.Core.List.{List, [], _∷_, List·Memᴰ, Memᴰ·cast}
-use Rattle.network.specs.Hangings.{Arc, arc, Walk, stay, step, reached}
+use mathlib.Core.Logic.{_⊎_, ⊎-elim}
+use mathlib.Core.List.{List, List·Memᴰ, Memᴰ·cast}
+use Rattle.network.specs.Hangings.{Arc, arc, Walk, stay, reached}
 use Rattle.network.specs.Plans.{reachesAll, strong}
-use Rattle.network.proofs.Bools.{and-left, and-right, and-make, or-cases, or-left, or-right, decide, fails, passes, clash, same-test, not-passes, not-true}
+use Rattle.network.proofs.Bools.{and-left, and-right, and-make, or-cases, or-left, or-right, fails, passes, clash, same-test, not-passes, not-true}
 use Rattle.network.proofs.Finds.{every-at, every-make}
 use Rattle.network.proofs.Walks.{Within, walk-trans, walk-arc, walk-along, walk-within, walk-inside, walk-reached, reached-walk}
 

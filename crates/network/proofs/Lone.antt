@@ -1,30 +1,30 @@
 -- Lone reaches: the side that only one reach crosses, that it stands in the way of every plan, and that it is the only one.
 -- Assumes nothing.
-use Prim.Native.Nat.{ℕ, zero, suc, _+_, _≤_, _<_}
+use Prim.Native.Nat.{ℕ, zero, suc, _≤_, _<_}
 use native.Mathlib.Omega.{arith}
 use native.Mathlib.Decide.{ℕ-discrete, decLt}
 use mathlib.Core.Path.{_≡_, refl, sym, ap, subst, subst⁻¹, _∙_}
-use mathlib.Core.Bool.{Bool, true, false, not, _&&_, Bool·beq, true≢false, false≢true}
+use mathlib.Core.Bool.{Bool, true, false, not, _&&_, Bool·beq, false≢true}
 use mathlib.Core.Logic.{_⊎_, inl, inr, ⊎-elim, _≢_}
 use mathlib.Core.Option.{Option, none, some, Option·getD}
-use mathlib.Core.List.{List, [], _∷_, _++_, map, List·Memᴰ, List·Memᴰ·head, List·Memᴰ·tail, List·Memᴰ·not-nil, List·Memᴰ·cases-cons, Memᴰ·append-left, Memᴰ·append-right, List·Memᴰ·append-cases, Memᴰ·map, Memᴰ·of-map}
+use mathlib.Core.List.{List, [], _∷_, map, List·Memᴰ, List·Memᴰ·head, List·Memᴰ·tail, List·Memᴰ·not-nil, List·Memᴰ·cases-cons, Memᴰ·append-left, Memᴰ·append-right, List·Memᴰ·append-cases, Memᴰ·map, Memᴰ·of-map}
 use lib.ListN.{length, getD, List·getD-eq-default}
-use lib.Dec.{leb, eqb}
+use lib.Dec.{eqb}
 use borrow.Author.Tests.{eqb-true, eq-eqb, ne-eqb, not-false}
 use Rattle.network.specs.declared.Reach.{Reach}
-use Rattle.network.specs.Lists.{range, every, some?, find, keep, elem}
+use Rattle.network.specs.Lists.{range, some?, find, keep, elem}
 use Rattle.network.specs.Networks.{Network, basinsOf, lowestBasin, Accepted}
-use Rattle.network.specs.Settings.{isGated, gatesFrom, gateCount, isSetting}
-use Rattle.network.specs.Hangings.{Arc, arc, Walk, passing, arcs, ways, arcsUnder}
+use Rattle.network.specs.Settings.{isGated, gateCount, isSetting}
+use Rattle.network.specs.Hangings.{Arc, arc, passing, arcs, ways, arcsUnder}
 use Rattle.network.specs.Plans.{strong, strongUnder, isPlan}
 use Rattle.network.specs.Lone.{sides, divides, crosses, noReach, reachAt, crossesAlone, isLone}
 use Rattle.network.specs.Replies.{loneSide}
-use Rattle.network.proofs.Bools.{and-left, and-right, and-make, decide, fails, passes, clash, not-passes, not-fails, not-true}
-use Rattle.network.proofs.Finds.{every-at, every-make, some-make, some-has, find-some, find-none, range-has, range-in, keep-in, elem-in, elem-has, elem-keep}
+use Rattle.network.proofs.Bools.{and-left, and-right, and-make, decide, passes, clash, not-passes, not-fails, not-true}
+use Rattle.network.proofs.Finds.{every-at, every-make, some-make, some-has, find-some, find-none, range-has, range-in, elem-keep}
 use Rattle.network.proofs.Walks.{walk-inside}
 use Rattle.network.proofs.Cuts.{strong-walks, one-crossing}
-use Rattle.network.proofs.Ways.{Source, passingAt, arcs-in, gate-small}
-use Rattle.network.proofs.Networks.{accepted, basin-in, basin-below, lowest-in, reach-alike, arc-alike}
+use Rattle.network.proofs.Ways.{passingAt, arcs-in, gate-small}
+use Rattle.network.proofs.Networks.{accepted, basin-in, lowest-in, reach-alike, arc-alike}
 
 -- ---- tests that differ
 

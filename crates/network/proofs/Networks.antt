@@ -1,26 +1,26 @@
 -- What an accepted network has: its counts and the ends of its reaches, and so of its arcs.
 -- Assumes nothing.
-use Prim.Native.Nat.{ℕ, zero, suc, _+_, _≤_, _<_}
+use Prim.Native.Nat.{ℕ, zero, suc, _≤_, _<_}
 use native.Mathlib.Nat.{not-suc-le-zero, le-of-suc-le-suc}
 use native.Mathlib.Omega.{arith}
 use mathlib.Core.Path.{_≡_, refl, sym, ap, subst, _∙_}
 use mathlib.Core.Bool.{Bool, true, false, not, cond, _&&_}
-use mathlib.Core.Logic.{_⊎_, inl, inr, ⊎-elim, _↔_}
+use mathlib.Core.Logic.{_⊎_, inl, inr, ⊎-elim}
 use mathlib.Core.Option.{Option, none, some, Option·some-ne-none}
 use mathlib.Core.List.{List, [], _∷_, List·Memᴰ, List·Memᴰ·not-nil, List·Memᴰ·cases-cons}
 use lib.ListN.{length, getD}
 use lib.Dec.{leb, ltb}
-use borrow.Author.Tests.{leb-true, ltb-true, le-leb, lt-ltb}
+use borrow.Author.Tests.{leb-true, ltb-true}
 use Rattle.network.specs.declared.Reach.{Reach}
 use Rattle.network.specs.declared.Refusal.{Refusal}
 use Rattle.network.specs.declared.Refusal.the-variants.{BasinCount, TooManyReaches, EndOutOfRange}
 use Rattle.network.specs.Lists.{every, range}
 use Rattle.network.specs.Networks.{Network, maxBasins, maxReaches, basinsOf, lowestBasin, goodCount, goodLength, goodEnds, tableFault, Accepted}
-use Rattle.network.specs.Hangings.{Arc, arc, passing, arcs}
+use Rattle.network.specs.Hangings.{arc, passing, arcs}
 use Rattle.network.specs.Lone.{noReach, reachAt}
-use Rattle.network.proofs.Bools.{and-left, and-right, and-make}
+use Rattle.network.proofs.Bools.{and-left, and-right}
 use Rattle.network.proofs.Finds.{range-has, range-in}
-use Rattle.network.proofs.Ways.{Source, arcs-in}
+use Rattle.network.proofs.Ways.{arcs-in}
 
 -- an end is below the basin count
 abbrev pub endsBelow : ℕ → Reach → Bool

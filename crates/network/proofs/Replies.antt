@@ -1,12 +1,12 @@
 -- The replies of first and next: equality of replies, which reply is given when, and demand 3 over the definition of next.
 -- Assumes nothing.
-use Prim.Native.Nat.{ℕ, zero, suc, _+_, _≤_, _<_}
+use Prim.Native.Nat.{ℕ, zero, suc}
 use native.Mathlib.Omega.{arith}
-use mathlib.Core.Path.{_≡_, refl, sym, ap, subst, subst⁻¹, _∙_}
-use mathlib.Core.Bool.{Bool, true, false, cond, _&&_}
-use mathlib.Core.Logic.{_⊎_, inl, inr, ⊎-elim, _↔_}
+use mathlib.Core.Path.{_≡_, refl, sym, ap, _∙_}
+use mathlib.Core.Bool.{Bool, true, false, cond}
+use mathlib.Core.Logic.{_↔_}
 use mathlib.Core.Option.{Option, none, some}
-use mathlib.Core.List.{List, [], _∷_, List·Memᴰ}
+use mathlib.Core.List.{List, []}
 use lib.ListN.{length}
 use Rattle.network.specs.declared.Refusal.{Refusal}
 use Rattle.network.specs.declared.Refusal.the-variants.{BasinCount, TooManyReaches, EndOutOfRange, Truncated, UnknownKind, TrailingBytes, ShortBuffer, BadSetting, LastPlan}
@@ -16,7 +16,7 @@ use Rattle.network.specs.Settings.{isSetting, before}
 use Rattle.network.specs.Plans.{isPlan, passable, firstPlan, nextPlan}
 use Rattle.network.specs.Lone.{isLone, lowestLone}
 use Rattle.network.specs.Replies.{Outcome, plan, shutIn, lone, refused, refusalNumber, number, planIn, reachIn, marksIn, countIn, SameReply, shutInFinding, loneFinding, chosen, orLone, answer, firstAnswer, nextAnswer}
-use Rattle.network.proofs.Bools.{and-left, and-right, decide, fails, clash}
+use Rattle.network.proofs.Bools.{fails, clash}
 use Rattle.network.proofs.Finds.{find-some, find-none, range-has}
 use Rattle.network.proofs.Order.{first-is-plan, first-none, next-none, next-is-plan, next-is-later, next-same}
 use Rattle.network.proofs.Lone.{lone-below, lone-blocks}

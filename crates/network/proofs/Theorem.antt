@@ -2,11 +2,11 @@
 -- Assumes nothing.
 use Prim.Native.Nat.{ℕ, zero, suc, _+_, _≤_, _<_}
 use native.Mathlib.Omega.{arith}
-use native.Mathlib.Nat.{not-suc-le-zero, le-of-suc-le-suc}
+use native.Mathlib.Nat.{not-suc-le-zero}
 use native.Mathlib.Decide.{ℕ-discrete, decLt, decLe}
 use mathlib.Core.Path.{_≡_, refl, sym, ap, subst, subst⁻¹, _∙_}
-use mathlib.Core.Bool.{Bool, true, false, _&&_}
-use mathlib.Core.Logic.{_⊎_, inl, inr, ⊎-elim, _↔_, _≢_}
+use mathlib.Core.Bool.{Bool, true, false}
+use mathlib.Core.Logic.{_⊎_, inl, inr, ⊎-elim, _↔_}
 use mathlib.Core.List.{List, [], _∷_}
 use lib.ListN.{length, getD, set, replicate, length-set, length-replicate, List·getD-eq-default}
 use lib.Seq.{getD-set-same, getD-set-other, set-getD}
@@ -14,7 +14,7 @@ use lib.Dec.{leb, eqb}
 use borrow.Author.Tests.{eqb-true, eq-eqb, leb-true, le-leb}
 use Rattle.network.specs.Lists.{every}
 use Rattle.network.specs.Networks.{Network, basinsOf, Accepted}
-use Rattle.network.specs.Settings.{isGated, gates, gateCount, isSetting}
+use Rattle.network.specs.Settings.{gates, gateCount, isSetting}
 use Rattle.network.specs.Hangings.{Arc, arcs, ways, arcsUnder, reached, isHanging, unhung}
 use Rattle.network.specs.Plans.{strong, strongUnder, isPlan, passable}
 use Rattle.network.specs.Lone.{reachAt, isLone}

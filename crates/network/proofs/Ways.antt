@@ -1,12 +1,12 @@
 -- The arcs of a table, reach by reach: which arcs there are, what one reach adds, and what a gate's byte changes.
 -- Assumes nothing.
 use Prim.Native.Nat.{ℕ, zero, suc, _+_, _≤_, _<_}
-use native.Mathlib.Nat.{not-suc-le-zero, le-of-suc-le-suc, add-suc, suc-add, add-zero}
+use native.Mathlib.Nat.{not-suc-le-zero, le-of-suc-le-suc}
 use native.Mathlib.Omega.{arith}
 use mathlib.Core.Path.{_≡_, refl, sym, ap, subst, _∙_}
 use mathlib.Core.Bool.{Bool, true, false, true≢false, false≢true}
 use mathlib.Core.Logic.{_⊎_, inl, inr, ⊎-elim, _≢_}
-use mathlib.Core.List.{List, [], _∷_, _++_, List·Memᴰ, List·Memᴰ·head, List·Memᴰ·tail, List·Memᴰ·not-nil, List·Memᴰ·cases-cons, Memᴰ·append-left, Memᴰ·append-right, List·Memᴰ·append-cases}
+use mathlib.Core.List.{List, [], _∷_, List·Memᴰ, List·Memᴰ·head, List·Memᴰ·tail, List·Memᴰ·not-nil, List·Memᴰ·cases-cons, Memᴰ·append-left, Memᴰ·append-right, List·Memᴰ·append-cases}
 use lib.ListN.{length, getD, set, drop}
 use lib.Dec.{leb}
 use borrow.Author.Tests.{leb-true}
@@ -14,7 +14,7 @@ use Rattle.network.specs.declared.Kind.{Kind}
 use Rattle.network.specs.declared.Kind.the-variants.{Gated, Flap, TwoWay}
 use Rattle.network.specs.declared.Reach.{Reach}
 use Rattle.network.specs.Settings.{isGated, gatesFrom}
-use Rattle.network.specs.Hangings.{Arc, arc, way, after, ways, passing, arcs}
+use Rattle.network.specs.Hangings.{Arc, way, after, ways, passing, arcs}
 use Rattle.network.specs.Lone.{noReach}
 use Rattle.network.specs.Lists.{every}
 use Rattle.network.proofs.Bools.{and-left, and-right, decide}

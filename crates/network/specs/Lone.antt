@@ -6,7 +6,7 @@ use mathlib.Core.List.{List, [], _∷_, _++_, map}
 use mathlib.Core.Option.{Option}
 use lib.ListN.{length, getD}
 use lib.Dec.{eqb}
-use Rattle.network.specs.declared.Kind.the-variants.{Gated, Flap, TwoWay}
+use Rattle.network.specs.declared.Kind.the-variants.{Flap}
 use Rattle.network.specs.declared.Reach.{Reach}
 use Rattle.network.specs.Lists.{range, every, some?, find, elem}
 use Rattle.network.specs.Networks.{Network, basinsOf}

@@ -1,10 +1,10 @@
 -- The public calls: rows cut to one length, refusals by number, and what the reply then is.
 -- Assumes nothing.
-use Prim.Native.Nat.{ℕ, _≤_, _<_, min}
+use Prim.Native.Nat.{ℕ, _≤_, _<_}
 use native.Mathlib.Omega.{arith}
 use mathlib.Core.Path.{_≡_, refl, sym, ap, subst, subst⁻¹, _∙_}
-use mathlib.Core.Bool.{Bool, true, false, cond, _&&_}
-use mathlib.Core.Option.{Option, none, some}
+use mathlib.Core.Bool.{Bool, true, false, _&&_}
+use mathlib.Core.Option.{none, some}
 use mathlib.Core.List.{List}
 use lib.ListN.{length, take}
 use lib.Seq.{length-take-le}
@@ -18,14 +18,14 @@ use Rattle.network.specs.Tables.{tableOf}
 use Rattle.network.specs.Settings.{gateCount, isSetting, settingFault}
 use Rattle.network.specs.Plans.{strongUnder, isPlan}
 use Rattle.network.specs.Marks.{markBytes}
-use Rattle.network.specs.Replies.{Outcome, refused, firstAnswer, nextAnswer, unless, roomFault, firstReply, nextReply}
+use Rattle.network.specs.Replies.{Outcome, refused, firstAnswer, nextAnswer, roomFault, firstReply, nextReply}
 use Rattle.tables.specs.Rows.{netOf, gatesIn}
 use Rattle.tables.proofs.Laws.{shortest, table-short, table-take, row-gates, row-setting}
 use Rattle.planner.specs.declared.Answer.{Answer}
 use Rattle.planner.specs.declared.Answer.the-variants as A
 use Rattle.planner.specs.declared.CheckAnswer.{CheckAnswer}
 use Rattle.planner.specs.declared.CheckAnswer.the-variants as C
-use Rattle.planner.specs.Answers.{answerOf, Written, yesOr, checkOf}
+use Rattle.planner.specs.Answers.{Written, yesOr, checkOf}
 use Rattle.planner.specs.Rooms.{Level}
 
 -- ---- rows cut to the length of the table

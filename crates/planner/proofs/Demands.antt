@@ -1,26 +1,24 @@
 -- Demand 3 over the call of next, from what the call promises.
 -- Assumes nothing.
-use Prim.Native.Nat.{ℕ, _≤_}
-use native.Mathlib.Omega.{arith}
-use mathlib.Core.Path.{_≡_, refl, sym, ap, ap₂, subst, subst⁻¹, _∙_}
-use mathlib.Core.Bool.{Bool, true, false}
-use mathlib.Core.Logic.{_↔_}
+use Prim.Native.Nat.{ℕ}
+use mathlib.Core.Path.{_≡_, refl, ap, subst, subst⁻¹, _∙_}
+use mathlib.Core.Bool.{true}
 use mathlib.Core.Option.{Option, none, some}
-use mathlib.Core.List.{List, _++_}
+use mathlib.Core.List.{List}
 use lib.ListN.{length, take, drop}
 use lib.Seq.{take-at}
 use borrow.Author.Tests.{le-leb}
-use Rattle.network.specs.Networks.{Network, tableFault, Accepted}
+use Rattle.network.specs.Networks.{Network, Accepted}
 use Rattle.network.specs.Settings.{gateCount, isSetting, settingFault}
-use Rattle.network.specs.Marks.{markBytes, marksOf, onesIn}
+use Rattle.network.specs.Marks.{markBytes}
 use Rattle.network.specs.Replies.{Outcome, plan, shutIn, lone, refused, shutInFinding, loneFinding, chosen, answer, nextAnswer, roomFault, nextReply}
 use Rattle.network.specs.Plans.{nextPlan}
 use Rattle.network.proofs.Marks.{length-marks}
 use Rattle.network.proofs.Order.{setting-length, plan-setting, next-is-plan, next-is-later, next-is-earliest}
 use Rattle.network.proofs.Replies.{Verdict, plans, no-way, one-lone, verdict, next-given, last-plan, given-if-later, demand-3}
 use Rattle.planner.specs.declared.Answer.{Answer}
-use Rattle.planner.specs.Answers.{answerOf, Written}
-use Rattle.planner.specs.Demands.{readReply, Asked, NextShown, NoneBetween, DemandThree}
+use Rattle.planner.specs.Answers.{Written}
+use Rattle.planner.specs.Demands.{readReply, Asked, NextShown, DemandThree}
 
 -- a reply whose plan and marks have the lengths that the network has
 data Sized (N : Network) : Outcome → Type 0 where

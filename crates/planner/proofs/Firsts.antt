@@ -1,35 +1,32 @@
 -- The first plan and the findings, from what the searches found.
 -- Assumes nothing.
-use Prim.Native.Nat.{ℕ, zero, suc, _+_, _*_, _≤_, _<_}
+use Prim.Native.Nat.{ℕ, zero, suc, _*_, _≤_, _<_}
 use native.Mathlib.Omega.{arith}
 use native.Mathlib.Decide.{decLt}
 use mathlib.Core.Path.{_≡_, refl, sym, ap, subst, subst⁻¹, _∙_}
 use mathlib.Core.Bool.{Bool, true, false, not}
-use mathlib.Core.Logic.{_⊎_, inl, inr, ⊎-elim}
 use mathlib.Core.Option.{Option, none, some, Option·getD}
-use mathlib.Core.List.{List, [], _∷_, List·Memᴰ}
+use mathlib.Core.List.{List, []}
 use lib.ListN.{length, getD}
 use lib.Dec.{eqb}
-use borrow.Author.Tests.{eqb-true, eq-eqb, ne-eqb}
-use Rattle.network.specs.Lists.{range, every, find, keep, elem}
+use borrow.Author.Tests.{eq-eqb, ne-eqb}
+use Rattle.network.specs.Lists.{range, find, keep, elem}
 use Rattle.network.specs.Networks.{Network, basinsOf, lowestBasin, Accepted}
 use Rattle.network.specs.Hangings.{Arc, ways, arcs, arcsUnder, reached, unhung}
-use Rattle.network.specs.Plans.{reachesAll, strong, strongUnder, isPlan, passable, firstPlan}
+use Rattle.network.specs.Plans.{reachesAll, strong, strongUnder, isPlan, passable}
 use Rattle.network.specs.Lone.{crossesAlone, isLone, lowestLone}
 use Rattle.network.specs.Marks.{bit, markBytes, marksOf}
 use Rattle.network.specs.Settings.{gateCount}
-use Rattle.network.specs.Replies.{Outcome, plan, shutInBasin, shutInSide, loneSide, shutInFinding, loneFinding, chosen, orLone, answer, firstAnswer}
+use Rattle.network.specs.Replies.{shutInBasin, shutInSide, loneSide, answer, firstAnswer}
 use Rattle.network.proofs.Bools.{fails, clash, not-passes, not-fails}
 use Rattle.network.proofs.Finds.{every-at, every-make, find-is, find-lowest, range-has, range-in, keep-in, keep-same, elem-in, elem-keep}
 use Rattle.network.proofs.Marks.{marks-same}
-use Rattle.network.proofs.Networks.{accepted, basin-in, basin-below, lowest-in, lowest-is-0}
+use Rattle.network.proofs.Networks.{basin-in, basin-below, lowest-is-0}
 use Rattle.network.proofs.Lone.{Alone, LoneSide, alone-facts, alone-rest, alone-same, side-basins, cut-unique, lone-below, lone-blocks, lone-side}
 use Rattle.tables.proofs.Laws.{ways-unhung}
-use Rattle.tables.specs.Partial.{bytesOf}
 use Rattle.marks.specs.Sets.{markedSet}
-use Rattle.gates.specs.Ready.{Weakest, Missed}
-use Rattle.gates.specs.Least.{LeastPlan}
-use Rattle.gates.specs.Greedy.{Begun, Greedy, all-hung, stuck-at}
+use Rattle.gates.specs.Ready.{Weakest}
+use Rattle.gates.specs.Greedy.{Greedy, all-hung, stuck-at}
 use Rattle.gates.proofs.Least.{least-first}
 use Rattle.planner.specs.declared.Found.{Found}
 use Rattle.planner.specs.declared.Found.the-variants.{Shut, Stuck, Hung}

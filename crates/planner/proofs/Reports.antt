@@ -1,11 +1,10 @@
 -- What is written down is the reply.
 -- Assumes nothing.
-use Prim.Native.Nat.{ℕ, zero, suc, _+_, _*_, _≤_, _<_}
+use Prim.Native.Nat.{ℕ, _+_, _≤_, _<_}
 use native.Mathlib.Omega.{arith}
 use mathlib.Core.Path.{_≡_, refl, sym, ap, ap₂, subst, subst⁻¹, _∙_}
-use mathlib.Core.Bool.{Bool, true, false}
-use mathlib.Core.List.{List, [], _++_}
-use lib.ListN.{length, getD, take, drop, length-take}
+use mathlib.Core.List.{List, _++_}
+use lib.ListN.{length, getD, take, drop}
 use lib.Seq.{take-at, length-take-le}
 use Rattle.network.specs.Networks.{Network, maxReaches, Accepted}
 use Rattle.network.specs.Tables.{tableOf}
@@ -14,11 +13,9 @@ use Rattle.network.specs.Replies.{Outcome, refused, shutInSide, loneSide, shutI
 use Rattle.network.proofs.Networks.{accepted}
 use Rattle.network.proofs.Marks.{length-marks}
 use Rattle.tables.specs.Rows.{netOf, gatesIn, bytesRow}
-use Rattle.tables.specs.Partial.{bytesOf}
 use Rattle.tables.proofs.Laws.{row-length, row-bytes, row-gates}
 use Rattle.marks.specs.Sets.{markedSet}
 use Rattle.gates.proofs.Least.{bytes-length}
-use Rattle.planner.specs.declared.Finding.{Finding}
 use Rattle.planner.specs.declared.Verdict.the-variants.{Plan, ShutIn, Lone}
 use Rattle.planner.specs.declared.Reply.{Reply}
 use Rattle.planner.specs.declared.Answer.the-variants.{Given}
@@ -28,7 +25,7 @@ use Rattle.planner.specs.declared.Sought.{Sought}
 use Rattle.planner.specs.declared.Sought.the-variants.{Last, At}
 use Rattle.network.specs.declared.Refusal.the-variants.{LastPlan}
 use Rattle.planner.specs.Answers.{given, Written}
-use Rattle.planner.specs.Rooms.{Level, Lent, Space, Room}
+use Rattle.planner.specs.Rooms.{Level, Space, Room}
 use Rattle.planner.specs.Found.{outcomeOf, otherThan, reachFound, Noted, FirstFound, shut, stuck, hung, NextFound, no-later, next-is, MarksWritten, Reported, wrote-shut, wrote-lone, wrote-plan}
 use Rattle.planner.proofs.Firsts.{first-outcome}
 

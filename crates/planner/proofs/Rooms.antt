@@ -1,15 +1,14 @@
 -- From an accepted table with working memory to one that can be indexed and searched.
 -- Assumes nothing.
-use Prim.Native.Nat.{ℕ, _+_, _*_, _≤_, _<_}
+use Prim.Native.Nat.{ℕ, _<_}
 use native.Mathlib.Omega.{arith}
-use mathlib.Core.Path.{_≡_, refl, sym, ap, subst, _∙_}
-use mathlib.Core.Bool.{true, false}
+use mathlib.Core.Path.{_≡_, sym, ap, subst, _∙_}
 use mathlib.Core.List.{List, []}
-use lib.ListN.{length, getD}
-use Rattle.network.specs.Networks.{Network, basinsOf, Accepted}
+use lib.ListN.{length}
+use Rattle.network.specs.Networks.{Network, basinsOf}
 use Rattle.network.specs.Tables.{tableOf}
 use Rattle.network.specs.Settings.{gateCount}
-use Rattle.network.specs.Hangings.{ways, arcs, unhung}
+use Rattle.network.specs.Hangings.{ways, arcs}
 use Rattle.network.specs.Plans.{strong, strongUnder, passable}
 use Rattle.network.proofs.Networks.{accepted}
 use Rattle.search.specs.Ends.{arcsOf}

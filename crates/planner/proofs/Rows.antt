@@ -1,15 +1,15 @@
 -- The three ends of the search for the first plan, said of the rows that the code has.
 -- Assumes nothing.
-use Prim.Native.Nat.{ℕ, zero, suc, _≤_, _<_}
+use Prim.Native.Nat.{ℕ, _<_}
 use native.Mathlib.Omega.{arith}
-use mathlib.Core.Path.{_≡_, refl, sym, ap, subst, subst⁻¹, _∙_}
-use mathlib.Core.Bool.{Bool, true, false}
+use mathlib.Core.Path.{_≡_, sym, ap, subst, subst⁻¹, _∙_}
+use mathlib.Core.Bool.{true}
 use mathlib.Core.List.{List, []}
-use lib.ListN.{length, getD}
-use Rattle.network.specs.Networks.{Network, basinsOf, Accepted}
+use lib.ListN.{length}
+use Rattle.network.specs.Networks.{Network, Accepted}
 use Rattle.network.specs.Tables.{tableOf}
 use Rattle.network.specs.Hangings.{Arc, ways, arcs}
-use Rattle.network.specs.Plans.{strong, passable}
+use Rattle.network.specs.Plans.{passable}
 use Rattle.network.proofs.Ways.{length-ways, gate-way, plain-way}
 use Rattle.search.specs.Ends.{arcsOf}
 use Rattle.tables.specs.Rows.{netOf, waysRow}

@@ -2,7 +2,7 @@
 -- Assumes nothing.
 use Prim.Native.Nat.{ℕ}
 use mathlib.Core.Path.{_≡_}
-use mathlib.Core.Bool.{Bool, true, false, cond}
+use mathlib.Core.Bool.{Bool, true, false}
 use mathlib.Core.Option.{Option, none, some}
 use mathlib.Core.List.{List}
 use Rattle.network.specs.declared.Refusal.{Refusal}
@@ -10,10 +10,8 @@ use Rattle.network.specs.Networks.{Network, tableFault}
 use Rattle.network.specs.Settings.{settingFault}
 use Rattle.network.specs.Plans.{isPlan}
 use Rattle.network.specs.Replies.{Outcome, plan, shutIn, lone, refused, planAfter, marksAfter}
-use Rattle.planner.specs.declared.Finding.{Finding}
 use Rattle.planner.specs.declared.Verdict.{Verdict}
 use Rattle.planner.specs.declared.Verdict.the-variants.{Plan, ShutIn, Lone}
-use Rattle.planner.specs.declared.Reply.{Reply}
 use Rattle.planner.specs.declared.Answer.{Answer}
 use Rattle.planner.specs.declared.Answer.the-variants as A
 use Rattle.planner.specs.declared.CheckAnswer.{CheckAnswer}

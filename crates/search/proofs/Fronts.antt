@@ -2,19 +2,17 @@
 -- Assumes nothing.
 use Prim.Native.Nat.{ℕ, _+_, _≤_, _<_}
 use mathlib.Core.Path.{_≡_, refl, sym, subst, _∙_}
-use mathlib.Core.Bool.{Bool, true, false, _&&_, true≢false}
+use mathlib.Core.Bool.{Bool, true, false}
 use mathlib.Core.Logic.{_⊎_, inl, inr, ⊎-elim}
 use mathlib.Core.List.{List, _++_}
 use native.Mathlib.Decide.{ℕ-discrete, decLt}
 use native.Mathlib.Omega.{arith}
 use borrow.Author.Count.{below-more}
-use borrow.Author.Tests.{ltb-true, lt-ltb, le-ltb, eqb-true, eq-eqb}
 use lib.ListN.{length, getD, set, drop, replicate, length-append, length-drop, length-replicate, getD-replicate, List·getD-append}
 use lib.Seq.{getD-set-same, getD-set-other}
-use lib.Dec.{ltb, eqb}
 use Rattle.network.specs.Hangings.{Arc, Walk, stay, step, reached}
 use Rattle.network.specs.Marks.{bit}
-use Rattle.network.proofs.Bools.{and-left, and-right, and-make, clash, same-test}
+use Rattle.network.proofs.Bools.{clash}
 use Rattle.network.proofs.Walks.{walk-trans, walk-arc, walk-reached, reached-walk}
 use Rattle.search.specs.Searches.{Seen, Next, Visited, first, again, Grown, stay as none-more, more, Scanned, Noted, Meets, meeting, apart}
 use Rattle.search.proofs.Counts.{unseen-le, unseen-set}

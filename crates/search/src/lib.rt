@@ -1,11 +1,9 @@
 // Breadth-first search over the half-edges of a reach table: reach i gives half-edge 2 i at its end A, and 2 i + 1 at its end B.
 // An index links the half-edges of each basin, so that a search takes time in proportion to basins plus reaches.
 ghost use mathlib.Core.Path.{_≡_};
-ghost use mathlib.Core.Bool.{_&&_};
 ghost use mathlib.Core.List.{_++_};
 ghost use Prim.Native.Nat.{_+_, _≤_, _<_, _/_};
 ghost use lib.ListN.{length, getD, set, replicate, drop};
-ghost use lib.Dec.{ltb, eqb};
 ghost use Rattle.search.specs.Ends.{arcsOf, otherOf, sided, leaves};
 ghost use Rattle.search.specs.Chains.{none, Index, Indexable};
 ghost use Rattle.search.specs.Searches.{unseen, Visited, Scannable, Scanned, Searchable, Noted, Queued, Meets};

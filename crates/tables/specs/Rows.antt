@@ -1,6 +1,6 @@
 -- A network lent as rows of numbers, and what its kinds alone decide.
 -- Assumes nothing.
-use Prim.Native.Nat.{ℕ, zero, suc, _+_}
+use Prim.Native.Nat.{ℕ, suc}
 use mathlib.Core.Bool.{cond}
 use mathlib.Core.List.{List, [], _∷_}
 use Rattle.network.specs.Networks.{Network}

@@ -3,8 +3,8 @@
 use mathlib.Core.Path.{sym, ap, subst}
 use lib.Dec.{T as Holds}
 use mir.Syntax.{w64, tyUnit}
-use mir.Val.{vunit, WT, hasTy}
-use types.Kit.{split, use1, fsplit, fjoin, rewrite, drop, keep}
+use mir.Val.{WT, hasTy}
+use types.Kit.{split, use1, fsplit, fjoin, rewrite, keep}
 use types.Run.{of-opd}
 use denote.Laws.{Is, valss}
 use denote.Struct.Struct.{AreAll}
@@ -15,11 +15,10 @@ use denote.Builtin.{usize}
 use denote.Steps.{only, nothing, owned}
 use denote.Struct.Laws as LL
 use denote.Enum.Laws as EL
-use Rattle.lent.proofs.Relays.{refl, ℕ, _<_, _^_, List, [], _∷_, URA, Val, vint, SProp, ent, id⊢, Lft, Share, ftrue, flft, Memory, Routine, Heap, Tables, WpFn, Atoms, fmOf, Fun, factI, givenOf, tables, tablesOf}
+use Rattle.lent.proofs.Relays.{refl, ℕ, List, [], _∷_, URA, Val, vint, SProp, ent, id⊢, Lft, Share, ftrue, flft, Memory, Routine, Heap, Tables, WpFn, Atoms, fmOf, Fun, factI, givenOf, tables, tablesOf}
 use Rattle.lent.proofs.Relays.{Given, ‵, _⊛_, _$_, _∵_, !, qed, by, move, join, sub, look-in, stop, fld, from, load, and-then, no-more, assigns, land, returns, enter, allots, takes-in, within, copies, fills, lends, frees-all, u8, owns, RefT, now, slice-vals, ShrSlice, MutSlice, Room, shr-slice-tells, mut-slice-tells, length, named}
-use Rattle.lent.proofs.Relays.{Bound, Contract, Triple, entered, cited, Reach, Promise, meets, ending, calls-known, Unpack, Unpacks, unpacks-cited, val, TableRoom}
-use Rattle.lent.specs.Rows.{unpackedInto}
-use Rattle.lent.proofs.Locals.{Blocks, room, full, locals, holding, copied}
+use Rattle.lent.proofs.Relays.{Bound, Contract, Triple, entered, cited, Reach, Promise, meets, ending, calls-known, Unpacks, unpacks-cited, val, TableRoom}
+use Rattle.lent.proofs.Locals.{room, full, locals, holding, copied}
 use Rattle.lent.proofs.Packed as P
 use Rattle.lent.proofs.Packed.Laws as P′
 use Rattle.lent.proofs.Records.{rows-made}

@@ -1,10 +1,9 @@
 -- `gates::complete` meets its contract: as for `greedy`, and no gate is stuck, since none is lone.
 -- Assumes nothing.
-use Prim.Native.Nat.{ℕ, _≤_, _<_, _-_, _+_}
+use Prim.Native.Nat.{_≤_, _-_}
 use native.Mathlib.Omega.{arith}
 use native.Mathlib.Numerals.{add-one}
 use mathlib.Core.Path.{_≡_, refl, sym, _∙_}
-use mathlib.Core.List.{List}
 use lib.ListN.{length}
 use Rattle.tables.specs.Rows.{netOf}
 use Rattle.gates.specs.Ready.{Ready}

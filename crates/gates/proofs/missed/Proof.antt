@@ -1,6 +1,5 @@
 -- `gates::missed` meets its contract: a search with no goal, and its lowest 0.
 -- Assumes nothing.
-use native.Mathlib.Omega.{arith}
 use borrow.Author.Needs.{needs}
 use Rattle.gates.proofs.Readies.{searchable, missed-first}
 use Rattle.gates.proofs.missed.Statement.{statement}

@@ -1,7 +1,7 @@
 -- `listing::stepped` meets its contract: the step says that the plan in hand is the last, or gives the ways of the next.
 -- Assumes nothing.
 use native.Mathlib.Omega.{arith}
-use mathlib.Core.Path.{refl, sym, _∙_}
+use mathlib.Core.Path.{sym, _∙_}
 use lib.Seq.{length-take-le}
 use borrow.Author.Needs.{needs}
 use Rattle.listing.proofs.Sizes.{lister-size}

@@ -1,7 +1,7 @@
 -- `planner::first_table` meets its contract: the rows cut to the table's length, 7 before the reply.
 -- Assumes nothing.
 use native.Mathlib.Omega.{arith}
-use mathlib.Core.Path.{sym, refl, ap, _∙_}
+use mathlib.Core.Path.{sym}
 use lib.ListN.{length}
 use lib.Seq.{length-take-le}
 use Rattle.tables.specs.Rows.{netOf}

@@ -1,7 +1,7 @@
 -- `runs::advance` meets its contract: the plan is left at the last gate at which another can part from it, and the gates after that are decided.
 -- Assumes nothing.
 use native.Mathlib.Omega.{arith}
-use mathlib.Core.Path.{refl, sym, subst}
+use mathlib.Core.Path.{sym, subst}
 use borrow.Author.Needs.{needs}
 use Rattle.gates.proofs.Readies.{ready-ways, ready-notes}
 use Rattle.planner.specs.Seeks.{AtPlan}

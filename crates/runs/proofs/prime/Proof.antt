@@ -1,9 +1,8 @@
 -- `runs::prime` meets its contract: where the check says yes, the ways are the plan's.
 -- Assumes nothing.
 use native.Mathlib.Omega.{arith}
-use mathlib.Core.Path.{_≡_, refl, sym, _∙_}
+use mathlib.Core.Path.{refl, sym, _∙_}
 use borrow.Author.Needs.{needs}
-use Rattle.network.specs.Plans.{isPlan}
 use Rattle.tables.specs.Rows.{netOf}
 use Rattle.planner.specs.Rooms.{Level}
 use Rattle.runs.specs.Advances.{elsewhere, at-plan}
