@@ -19,7 +19,7 @@ use Rattle.network.proofs.Order.{setting-length, plan-setting}
 use Rattle.tables.specs.Rows.{netOf, gatesIn, waysRow, bytesRow}
 use Rattle.tables.proofs.Laws.{row-gates}
 use Rattle.gates.specs.Ready.{Ready}
-use Rattle.planner.specs.Seeks.{AtPlan}
+use Rattle.finder.specs.Seeks.{AtPlan}
 use Rattle.runs.specs.Advances.{gatesBefore, PartsAt, Advanced, moved, at-last, Spare, Primed, elsewhere, at-plan}
 use Rattle.runs.proofs.Rewrites.{gates-split}
 use Rattle.runs.proofs.Advances.{spare-ready}

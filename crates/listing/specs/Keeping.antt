@@ -6,7 +6,7 @@ use mathlib.Core.Bool.{Bool, true, false}
 use mathlib.Core.List.{List}
 use lib.ListN.{length}
 use Rattle.gates.specs.Ready.{Ready}
-use Rattle.planner.specs.Seeks.{AtPlan}
+use Rattle.finder.specs.Seeks.{AtPlan}
 use Rattle.lines.specs.declared.Due.{Due}
 use Rattle.lines.specs.declared.Due.the-variants as D
 

@@ -27,7 +27,7 @@ ghost use Rattle.network.specs.Settings.{gatesFrom};
 ghost use Rattle.network.specs.Replies.{refusalNumber};
 ghost use Rattle.gates.specs.Ready.{Ready};
 ghost use Rattle.planner.specs.Rooms.{Space};
-ghost use Rattle.planner.specs.Seeks.{AtPlan};
+ghost use Rattle.finder.specs.Seeks.{AtPlan};
 ghost use Rattle.lines.specs.Puts.{Put};
 ghost use Rattle.listing.specs.Keeping.{Standing, Kept};
 ghost use Rattle.listing.specs.Pending.{lineOf, gatesHeld, lentNet, Starting, Filling};

@@ -19,15 +19,17 @@ use Rattle.gates.proofs.Least.{bytes-length}
 use Rattle.planner.specs.declared.Verdict.the-variants.{Plan, ShutIn, Lone}
 use Rattle.planner.specs.declared.Reply.{Reply}
 use Rattle.planner.specs.declared.Answer.the-variants.{Given}
-use Rattle.planner.specs.declared.Found.{Found}
-use Rattle.planner.specs.declared.Found.the-variants.{Shut, Stuck, Hung}
-use Rattle.planner.specs.declared.Sought.{Sought}
-use Rattle.planner.specs.declared.Sought.the-variants.{Last, At}
+use Rattle.finder.specs.declared.Found.{Found}
+use Rattle.finder.specs.declared.Found.the-variants.{Shut, Stuck, Hung}
+use Rattle.finder.specs.declared.Sought.{Sought}
+use Rattle.finder.specs.declared.Sought.the-variants.{Last, At}
 use Rattle.network.specs.declared.Refusal.the-variants.{LastPlan}
 use Rattle.planner.specs.Answers.{given, Written}
-use Rattle.planner.specs.Rooms.{Level, Space, Room}
-use Rattle.planner.specs.Found.{outcomeOf, otherThan, reachFound, Noted, FirstFound, shut, stuck, hung, NextFound, no-later, next-is, MarksWritten, Reported, wrote-shut, wrote-lone, wrote-plan}
-use Rattle.planner.proofs.Firsts.{first-outcome}
+use Rattle.finder.specs.Rooms.{Level, Room}
+use Rattle.planner.specs.Rooms.{Space}
+use Rattle.finder.specs.Found.{outcomeOf, otherThan, reachFound, Noted, FirstFound, shut, stuck, hung, NextFound, no-later, next-is}
+use Rattle.planner.specs.Reports.{MarksWritten, Reported, wrote-shut, wrote-lone, wrote-plan}
+use Rattle.finder.proofs.Firsts.{first-outcome}
 
 -- ---- working memory for rows of one length
 

@@ -1,24 +1,15 @@
--- An accepted table of rows with lent working memory.
+-- Lent buffers, and working memory for the largest table.
 -- Assumes nothing.
 use Prim.Native.Nat.{ℕ, _*_, _≤_}
 use mathlib.Core.Path.{_≡_}
-use mathlib.Core.Bool.{true}
-use mathlib.Core.List.{List, []}
+use mathlib.Core.List.{List}
 use lib.ListN.{length}
-use Rattle.network.specs.Networks.{maxBasins, maxReaches, Accepted}
-use Rattle.network.specs.Plans.{passable}
+use Rattle.network.specs.Networks.{maxBasins, maxReaches}
 use Rattle.network.specs.Marks.{markBytes}
-use Rattle.search.specs.Ends.{halves}
-use Rattle.search.specs.Chains.{Index, Indexable}
-use Rattle.tables.specs.Rows.{netOf, gatesIn, waysRow}
+use Rattle.tables.specs.Rows.{gatesIn}
+use Rattle.finder.specs.Rooms.{Level}
 
--- The rows are of one length, and the table is accepted.
-pub record Level (n : ℕ) (ks xs ys : List ℕ) : Type 0 where
-  pub accepted : Accepted (netOf n ks xs ys)
-  pub ends-a : length xs ≡ length ks
-  pub ends-b : length ys ≡ length ks
-
--- And the lent buffers are long enough.
+-- An accepted table of rows of one length, and lent buffers that are long enough.
 pub record Lent (n : ℕ) (ks xs ys plan marks : List ℕ) : Type 0 where
   pub level : Level n ks xs ys
   pub plan-room : gatesIn ks ≤ length plan
@@ -31,31 +22,3 @@ pub record Space (ws head next seen queue : List ℕ) : Type 0 where
   pub next-space : length next ≡ 2 * maxReaches
   pub seen-space : length seen ≡ maxBasins
   pub queue-space : length queue ≡ maxBasins
-
--- The rows with the working memory that they need.
-pub record Room (n : ℕ) (ks xs ys ws head next seen queue : List ℕ) : Type 0 where
-  pub accepted : Accepted (netOf n ks xs ys)
-  pub ends-a : length xs ≡ length ks
-  pub ends-b : length ys ≡ length ks
-  pub ways-room : length ws ≡ length ks
-  pub head-room : n ≤ length head
-  pub next-room : halves xs ≤ length next
-  pub seen-room : n ≤ length seen
-  pub queue-room : length seen ≤ length queue
-
--- What filling it requires, and what it then holds.
-pub record Preparable (n : ℕ) (ks xs ys ws head next : List ℕ) : Type 0 where
-  pub ways-room : length ws ≡ length ks
-  pub indexable : Indexable n xs ys head next
-
-pub record Prepared (n : ℕ) (ks xs ys s ws head next : List ℕ) : Type 0 where
-  pub hung : ws ≡ waysRow ks s
-  pub index : Index n xs ys head next
-
--- A passable network of which no gate is hung yet.
-pub record Passable (n : ℕ) (ks xs ys ws : List ℕ) : Type 0 where
-  pub accepted : Accepted (netOf n ks xs ys)
-  pub ends-a : length xs ≡ length ks
-  pub ends-b : length ys ≡ length ks
-  pub unhung : ws ≡ waysRow ks []
-  pub passable-net : passable (netOf n ks xs ys) ≡ true

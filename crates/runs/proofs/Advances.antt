@@ -33,9 +33,9 @@ use Rattle.gates.proofs.Least.{same-plain, has-decided, fits-at}
 use Rattle.gates.proofs.Nexts.{gate-byte, hung-length, hung-below}
 use Rattle.planner.specs.declared.CheckAnswer.the-variants as C
 use Rattle.planner.specs.Answers.{yesOr, unlessRefused, checkOf}
-use Rattle.planner.specs.Rooms.{Level, Room}
-use Rattle.planner.specs.Seeks.{AtPlan}
-use Rattle.planner.proofs.Rooms.{room-index, room-ready}
+use Rattle.finder.specs.Rooms.{Level, Room}
+use Rattle.finder.specs.Seeks.{AtPlan}
+use Rattle.finder.proofs.Rooms.{room-index, room-ready}
 use Rattle.runs.specs.Advances.{PartsAt, Advanced, moved, Spare}
 use Rattle.runs.proofs.Rewrites.{front-same, gate-row}
 

@@ -13,7 +13,7 @@ use Rattle.network.specs.Plans.{isPlan}
 use Rattle.network.specs.Replies.{plan, refused, nextAnswer}
 use Rattle.search.specs.Chains.{Index}
 use Rattle.tables.specs.Rows.{gatesIn, waysRow, bytesRow}
-use Rattle.planner.specs.Seeks.{AtPlan}
+use Rattle.finder.specs.Seeks.{AtPlan}
 
 -- The number of gated reaches before reach r, by their kinds: the place of a gate's byte in a setting.
 abbrev pub gatesBefore : List ℕ → ℕ → ℕ

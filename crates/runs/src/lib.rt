@@ -7,7 +7,7 @@ ghost use Prim.Native.Nat.{_≤_};
 ghost use lib.ListN.{length, take, drop};
 ghost use Rattle.tables.specs.Rows.{netOf, gatesIn, bytesRow};
 ghost use Rattle.gates.specs.Ready.{Ready};
-ghost use Rattle.planner.specs.Seeks.{AtPlan};
+ghost use Rattle.finder.specs.Seeks.{AtPlan};
 ghost use Rattle.runs.specs.Advances.{gatesBefore, Advanced, Spare, Primed};
 use planner::CheckAnswer;
 

@@ -2,9 +2,9 @@
 -- Assumes nothing.
 use Prim.Native.Nat.{ℕ, _<_}
 use mathlib.Core.Path.{_≡_, subst}
-use Rattle.planner.specs.declared.Found.{Found}
-use Rattle.planner.specs.declared.Found.the-variants.{Stuck}
-use Rattle.planner.specs.Found.{reachFound}
+use Rattle.finder.specs.declared.Found.{Found}
+use Rattle.finder.specs.declared.Found.the-variants.{Stuck}
+use Rattle.finder.specs.Found.{reachFound}
 use Rattle.planner.proofs.Reports.{reported-shut, reported-lone, reported-plan}
 use borrow.Author.Needs.{needs}
 use Rattle.planner.proofs.report.Statement.{statement}

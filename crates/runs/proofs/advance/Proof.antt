@@ -4,8 +4,8 @@ use native.Mathlib.Omega.{arith}
 use mathlib.Core.Path.{sym, subst}
 use borrow.Author.Needs.{needs}
 use Rattle.gates.proofs.Readies.{ready-ways, ready-notes}
-use Rattle.planner.specs.Seeks.{AtPlan}
-use Rattle.planner.proofs.Seeks.{none-lone, row-begun, plan-partable, plan-next, plan-last}
+use Rattle.finder.specs.Seeks.{AtPlan}
+use Rattle.finder.proofs.Seeks.{none-lone, row-begun, plan-partable, plan-next, plan-last}
 use Rattle.runs.specs.Advances.{at-last}
 use Rattle.runs.proofs.Advances.{parted, step-on, not-parted}
 use Rattle.runs.proofs.advance.Statement.{statement}

@@ -4,7 +4,7 @@ use native.Mathlib.Omega.{arith}
 use mathlib.Core.Path.{refl, sym, _∙_}
 use borrow.Author.Needs.{needs}
 use Rattle.tables.specs.Rows.{netOf}
-use Rattle.planner.specs.Rooms.{Level}
+use Rattle.finder.specs.Rooms.{Level}
 use Rattle.runs.specs.Advances.{elsewhere, at-plan}
 use Rattle.runs.proofs.Advances.{yes-plan, spare-ways, spare-index}
 use Rattle.runs.proofs.prime.Statement.{statement}

@@ -1,13 +1,13 @@
--- `planner::follow_and_part` meets its contract: the setting is left at the gate where it stopped or before.
+-- `finder::follow_and_part` meets its contract: the setting is left at the gate where it stopped or before.
 -- Assumes nothing.
 use native.Mathlib.Omega.{arith}
 use mathlib.Core.Path.{sym, _∙_}
 use lib.ListN.{length-set}
 use Rattle.gates.proofs.Readies.{ready-ways, ready-notes}
-use Rattle.planner.proofs.Seeks.{follow-start, follow-whole, follow-length, follow-below, follow-partable, follow-found}
+use Rattle.finder.proofs.Seeks.{follow-start, follow-whole, follow-length, follow-below, follow-partable, follow-found}
 use borrow.Author.Needs.{needs}
-use Rattle.planner.proofs.follow_and_part.Statement.{statement}
-use Rattle.planner.proofs.follow_and_part.Tie as tie
+use Rattle.finder.proofs.follow_and_part.Statement.{statement}
+use Rattle.finder.proofs.follow_and_part.Tie as tie
 
 follow-requires : tie.Need-follow-requires
 follow-requires c κs = let s = (c .before .before .before .before .before .before .before .before .before .before .before .before) in

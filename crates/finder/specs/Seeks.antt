@@ -12,9 +12,9 @@ use Rattle.network.specs.Plans.{isPlan}
 use Rattle.tables.specs.Rows.{netOf, waysRow}
 use Rattle.gates.specs.Least.{NoneFrom}
 use Rattle.gates.specs.Follows.{Under, upTo, Broken, WholeBelow}
-use Rattle.planner.specs.declared.Sought.{Sought}
-use Rattle.planner.specs.Rooms.{Level, Room}
-use Rattle.planner.specs.Found.{NextFound}
+use Rattle.finder.specs.declared.Sought.{Sought}
+use Rattle.finder.specs.Rooms.{Level, Room}
+use Rattle.finder.specs.Found.{NextFound}
 
 -- The network has a plan.
 pub record SomePlan (N : Network) : Type 0 where

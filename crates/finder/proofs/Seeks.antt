@@ -35,15 +35,15 @@ use Rattle.gates.specs.Follows.{Under, upTo, Whole, Broken, Followed, through, 
 use Rattle.gates.proofs.Nexts.{hung-none, none-from-end, none-stopped, least-next, none-next}
 use Rattle.gates.proofs.Follows.{under-length}
 use Rattle.gates.proofs.Parts.{up-all, up-more, whole-lower, none-back, open-at}
-use Rattle.planner.specs.declared.Found.{Found}
-use Rattle.planner.specs.declared.Found.the-variants.{Shut, Stuck, Hung}
-use Rattle.planner.specs.declared.Sought.{Sought}
-use Rattle.planner.specs.declared.Sought.the-variants.{Last, At}
-use Rattle.planner.specs.Found.{FirstFound, shut, stuck, hung, NextFound, no-later, next-is}
-use Rattle.planner.specs.Rooms.{Level, Room}
-use Rattle.planner.specs.Seeks.{SomePlan, Partable, Followable, OtherThanPlan, AtPlan, Seekable, NextAfter, NextFrom}
-use Rattle.planner.proofs.Rooms.{passable-open}
-use Rattle.planner.proofs.Firsts.{under-weakest}
+use Rattle.finder.specs.declared.Found.{Found}
+use Rattle.finder.specs.declared.Found.the-variants.{Shut, Stuck, Hung}
+use Rattle.finder.specs.declared.Sought.{Sought}
+use Rattle.finder.specs.declared.Sought.the-variants.{Last, At}
+use Rattle.finder.specs.Found.{FirstFound, shut, stuck, hung, NextFound, no-later, next-is}
+use Rattle.finder.specs.Rooms.{Level, Room}
+use Rattle.finder.specs.Seeks.{SomePlan, Partable, Followable, OtherThanPlan, AtPlan, Seekable, NextAfter, NextFrom}
+use Rattle.finder.proofs.Rooms.{passable-open}
+use Rattle.finder.proofs.Firsts.{under-weakest}
 
 -- Following the setting stopped at r: r cannot be hung so.
 record Stop (N : Network) (us ws : List ℕ) (r : ℕ) : Type 0 where

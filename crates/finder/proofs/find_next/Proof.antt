@@ -1,11 +1,11 @@
--- `planner::find_next` meets its contract: the setting is a plan or not, and is left accordingly.
+-- `finder::find_next` meets its contract: the setting is a plan or not, and is left accordingly.
 -- Assumes nothing.
 use mathlib.Core.Path.{refl, sym, _∙_}
-use Rattle.planner.proofs.Rooms.{room-index, room-ready}
-use Rattle.planner.proofs.Seeks.{room-kept, seek-plan, seek-other, seek-found}
+use Rattle.finder.proofs.Rooms.{room-index, room-ready}
+use Rattle.finder.proofs.Seeks.{room-kept, seek-plan, seek-other, seek-found}
 use borrow.Author.Needs.{needs}
-use Rattle.planner.proofs.find_next.Statement.{statement}
-use Rattle.planner.proofs.find_next.Tie as tie
+use Rattle.finder.proofs.find_next.Statement.{statement}
+use Rattle.finder.proofs.find_next.Tie as tie
 
 prepare-requires : tie.Need-prepare-requires
 prepare-requires c κs = let s = (c .before .before .before .before .before .before .before .before .before .before .before .before .before) in record { ways-room = s .pre .under-room; indexable = room-index (s .pre .room) refl refl }

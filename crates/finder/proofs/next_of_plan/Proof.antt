@@ -1,10 +1,10 @@
--- `planner::next_of_plan` meets its contract: a plan is all hung, and it is left at the last gate at which another can part.
+-- `finder::next_of_plan` meets its contract: a plan is all hung, and it is left at the last gate at which another can part.
 -- Assumes nothing.
 use Rattle.gates.proofs.Readies.{ready-ways}
-use Rattle.planner.proofs.Seeks.{plan-partable, plan-found}
+use Rattle.finder.proofs.Seeks.{plan-partable, plan-found}
 use borrow.Author.Needs.{needs}
-use Rattle.planner.proofs.next_of_plan.Statement.{statement}
-use Rattle.planner.proofs.next_of_plan.Tie as tie
+use Rattle.finder.proofs.next_of_plan.Statement.{statement}
+use Rattle.finder.proofs.next_of_plan.Tie as tie
 
 hang-requires : tie.Need-hang-requires
 hang-requires c κs = search needs

@@ -17,7 +17,7 @@ use Rattle.tables.specs.Rows.{netOf, waysRow}
 use Rattle.tables.proofs.Laws.{row-length, row-a, row-b, row-ways, ways-unhung}
 use Rattle.gates.specs.Ready.{Ready}
 use Rattle.gates.proofs.Rows.{row-arcs, row-below}
-use Rattle.planner.specs.Rooms.{Room}
+use Rattle.finder.specs.Rooms.{Room}
 
 module _ {n : ℕ} {ks xs ys ws head next seen queue : List ℕ} (r : Room n ks xs ys ws head next seen queue) where
   pub room-table : Table n xs ys

@@ -1,14 +1,14 @@
--- `planner::find_first` meets its contract: shut in where some basin does not reach all, else as the gates can be hung.
+-- `finder::find_first` meets its contract: shut in where some basin does not reach all, else as the gates can be hung.
 -- Assumes nothing.
 use native.Mathlib.Omega.{arith}
 use mathlib.Core.Path.{refl}
 use Rattle.network.proofs.Networks.{accepted}
 use Rattle.tables.specs.Rows.{netOf}
-use Rattle.planner.proofs.Rooms.{room-index, room-ready}
-use Rattle.planner.proofs.Rows.{row-passable, row-shut}
+use Rattle.finder.proofs.Rooms.{room-index, room-ready}
+use Rattle.finder.proofs.Rows.{row-passable, row-shut}
 use borrow.Author.Needs.{needs}
-use Rattle.planner.proofs.find_first.Statement.{statement}
-use Rattle.planner.proofs.find_first.Tie as tie
+use Rattle.finder.proofs.find_first.Statement.{statement}
+use Rattle.finder.proofs.find_first.Tie as tie
 
 slice-aggregate-prepare : tie.Need-slice-aggregate-prepare
 slice-aggregate-prepare c = search needs

@@ -1,11 +1,11 @@
--- `planner::hang_all` meets its contract: the gates are decided one after the other.
+-- `finder::hang_all` meets its contract: the gates are decided one after the other.
 -- Assumes nothing.
 use native.Mathlib.Omega.{arith}
 use mathlib.Core.Path.{sym}
-use Rattle.planner.proofs.Rows.{open-begun, row-stuck, row-hung}
+use Rattle.finder.proofs.Rows.{open-begun, row-stuck, row-hung}
 use borrow.Author.Needs.{needs}
-use Rattle.planner.proofs.hang_all.Statement.{statement}
-use Rattle.planner.proofs.hang_all.Tie as tie
+use Rattle.finder.proofs.hang_all.Statement.{statement}
+use Rattle.finder.proofs.hang_all.Tie as tie
 
 greedy-requires : tie.Need-greedy-requires
 greedy-requires c κs = let s = (c .before .before .before .before .before .before .before .before .before .before .before) in

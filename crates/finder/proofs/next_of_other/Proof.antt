@@ -1,12 +1,12 @@
--- `planner::next_of_other` meets its contract: a finding is one whatever is asked for, and with a plan the setting is followed.
+-- `finder::next_of_other` meets its contract: a finding is one whatever is asked for, and with a plan the setting is followed.
 -- Assumes nothing.
 use mathlib.Core.Path.{_∙_}
 use Rattle.tables.specs.Rows.{netOf}
-use Rattle.planner.proofs.Rooms.{room-index, room-ready}
-use Rattle.planner.proofs.Seeks.{shut-next, stuck-next, other-followable}
+use Rattle.finder.proofs.Rooms.{room-index, room-ready}
+use Rattle.finder.proofs.Seeks.{shut-next, stuck-next, other-followable}
 use borrow.Author.Needs.{needs}
-use Rattle.planner.proofs.next_of_other.Statement.{statement}
-use Rattle.planner.proofs.next_of_other.Tie as tie
+use Rattle.finder.proofs.next_of_other.Statement.{statement}
+use Rattle.finder.proofs.next_of_other.Tie as tie
 
 find-first-requires : tie.Need-find-first-requires
 find-first-requires c κs = search needs

@@ -1,12 +1,12 @@
--- `planner::part_from` meets its contract: the gates after the last one at which a plan can part are decided, or none is later.
+-- `finder::part_from` meets its contract: the gates after the last one at which a plan can part are decided, or none is later.
 -- Assumes nothing.
 use native.Mathlib.Omega.{arith}
 use mathlib.Core.Path.{sym}
 use Rattle.gates.proofs.Readies.{ready-ways, ready-notes}
-use Rattle.planner.proofs.Seeks.{none-lone, row-begun, row-last, row-next}
+use Rattle.finder.proofs.Seeks.{none-lone, row-begun, row-last, row-next}
 use borrow.Author.Needs.{needs}
-use Rattle.planner.proofs.part_from.Statement.{statement}
-use Rattle.planner.proofs.part_from.Tie as tie
+use Rattle.finder.proofs.part_from.Statement.{statement}
+use Rattle.finder.proofs.part_from.Tie as tie
 
 turn-back-requires : tie.Need-turn-back-requires
 turn-back-requires c κs = let s = (c .before .before .before .before .before .before .before .before .before .before .before .before) in

@@ -17,11 +17,11 @@ use Rattle.tables.proofs.Laws.{row-length, row-ways}
 use Rattle.gates.specs.Ready.{Weakest, Missed}
 use Rattle.gates.specs.Greedy.{Begun, Greedy}
 use Rattle.gates.proofs.Rows.{row-arcs}
-use Rattle.planner.specs.declared.Found.the-variants.{Shut, Stuck, Hung}
-use Rattle.planner.specs.Rooms.{Passable}
-use Rattle.planner.specs.Found.{FirstFound}
-use Rattle.planner.proofs.Rooms.{passable-open}
-use Rattle.planner.proofs.Firsts.{shut-first, passed-weakest, stuck-first, hung-first}
+use Rattle.finder.specs.declared.Found.the-variants.{Shut, Stuck, Hung}
+use Rattle.finder.specs.Rooms.{Passable}
+use Rattle.finder.specs.Found.{FirstFound}
+use Rattle.finder.proofs.Rooms.{passable-open}
+use Rattle.finder.proofs.Firsts.{shut-first, passed-weakest, stuck-first, hung-first}
 
 -- with no gate decided, everything reaching everything
 pub begun-open : (N : Network) → passable N ≡ true → Begun N (ways (N .reaches) []) 0

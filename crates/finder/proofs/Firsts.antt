@@ -28,11 +28,11 @@ use Rattle.marks.specs.Sets.{markedSet}
 use Rattle.gates.specs.Ready.{Weakest}
 use Rattle.gates.specs.Greedy.{Greedy, all-hung, stuck-at}
 use Rattle.gates.proofs.Least.{least-first}
-use Rattle.planner.specs.declared.Found.{Found}
-use Rattle.planner.specs.declared.Found.the-variants.{Shut, Stuck, Hung}
-use Rattle.planner.specs.Found.{outcomeOf, otherThan, Noted, FirstFound, shut, stuck, hung}
-use Rattle.planner.specs.Rooms.{Room}
-use Rattle.planner.proofs.Rooms.{room-under, passable-open}
+use Rattle.finder.specs.declared.Found.{Found}
+use Rattle.finder.specs.declared.Found.the-variants.{Shut, Stuck, Hung}
+use Rattle.finder.specs.Found.{outcomeOf, otherThan, Noted, FirstFound, shut, stuck, hung}
+use Rattle.finder.specs.Rooms.{Room}
+use Rattle.finder.proofs.Rooms.{room-under, passable-open}
 use Rattle.search.specs.Ends.{arcsOf}
 use Rattle.tables.specs.Rows.{netOf, waysRow}
 

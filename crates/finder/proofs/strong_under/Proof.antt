@@ -1,11 +1,11 @@
--- `planner::strong_under` meets its contract: two searches.
+-- `finder::strong_under` meets its contract: two searches.
 -- Assumes nothing.
 use mathlib.Core.Path.{refl}
-use Rattle.planner.proofs.Rooms.{room-index, room-ready}
-use Rattle.planner.proofs.Firsts.{under-weakest}
+use Rattle.finder.proofs.Rooms.{room-index, room-ready}
+use Rattle.finder.proofs.Firsts.{under-weakest}
 use borrow.Author.Needs.{needs}
-use Rattle.planner.proofs.strong_under.Statement.{statement}
-use Rattle.planner.proofs.strong_under.Tie as tie
+use Rattle.finder.proofs.strong_under.Statement.{statement}
+use Rattle.finder.proofs.strong_under.Tie as tie
 
 prepare-requires : tie.Need-prepare-requires
 prepare-requires c κs = let s = (c .before .before .before .before .before .before .before .before .before .before .before .before) in record { ways-room = s .pre .ways-room; indexable = room-index (s .pre) refl refl }

@@ -1,27 +1,24 @@
--- What the search for the first plan finds.
+-- What the searches for the first plan and for the next find.
 -- Assumes nothing.
-use Prim.Native.Nat.{ℕ, zero, suc, _≤_, _<_}
+use Prim.Native.Nat.{ℕ, zero, suc, _<_}
 use mathlib.Core.Path.{_≡_}
 use mathlib.Core.Bool.{true, false}
 use mathlib.Core.Option.{none, some}
-use mathlib.Core.List.{List, [], _++_}
-use lib.ListN.{length, getD, drop}
+use mathlib.Core.List.{List, []}
+use lib.ListN.{length, getD}
 use Rattle.network.specs.Networks.{Network}
 use Rattle.network.specs.Hangings.{ways}
 use Rattle.network.specs.Plans.{passable}
 use Rattle.network.specs.Lone.{lowestLone}
-use Rattle.network.specs.Marks.{markBytes, marksOf, onesIn}
+use Rattle.network.specs.Marks.{marksOf}
 use Rattle.network.specs.Replies.{Outcome, plan, refused, shutInSide, loneSide, shutInFinding, loneFinding, nextAnswer}
-use Rattle.tables.specs.Rows.{gatesIn, bytesRow}
 use Rattle.tables.specs.Partial.{bytesOf}
 use Rattle.marks.specs.Sets.{markedSet}
 use Rattle.gates.specs.Least.{LeastPlan}
-use Rattle.planner.specs.declared.Verdict.the-variants.{Plan, ShutIn, Lone}
-use Rattle.planner.specs.declared.Reply.{Reply}
-use Rattle.planner.specs.declared.Found.{Found}
-use Rattle.planner.specs.declared.Found.the-variants.{Shut, Stuck, Hung}
-use Rattle.planner.specs.declared.Sought.{Sought}
-use Rattle.planner.specs.declared.Sought.the-variants.{Last, At}
+use Rattle.finder.specs.declared.Found.{Found}
+use Rattle.finder.specs.declared.Found.the-variants.{Shut, Stuck, Hung}
+use Rattle.finder.specs.declared.Sought.{Sought}
+use Rattle.finder.specs.declared.Sought.the-variants.{Last, At}
 use Rattle.network.specs.declared.Refusal.the-variants.{LastPlan}
 
 -- The reply that is written down from it: the plan is made of the ways ws.
@@ -52,30 +49,6 @@ pub data FirstFound (N : Network) : List ℕ → List ℕ → Found → Type 0 w
   shut : {ws seen : List ℕ} → passable N ≡ false → Noted N seen Shut → FirstFound N ws seen Shut
   stuck : {ws seen : List ℕ} {r : ℕ} → passable N ≡ true → lowestLone N ≡ some r → r < length (N .reaches) → Noted N seen (Stuck r) → FirstFound N ws seen (Stuck r)
   hung : {ws seen : List ℕ} → passable N ≡ true → lowestLone N ≡ none → LeastPlan N (ways (N .reaches) []) (bytesOf (N .reaches) ws) → FirstFound N ws seen Hung
-
--- ---- writing it down
-
--- The marks of S stand in the first bytes, and r is their count.
-pub record MarksWritten (S marks marks′ : List ℕ) (r : ℕ) : Type 0 where
-  pub bytes : marks′ ≡ marksOf S ++ drop markBytes marks
-  pub count : r ≡ onesIn (marksOf S)
-
--- What writing a finding or a plan down requires.
-pub record Reportable (n : ℕ) (ks ws seen plan marks : List ℕ) (f : Found) : Type 0 where
-  pub ways-room : length ws ≡ length ks
-  pub some-basin : 0 < n
-  pub seen-room : n ≤ length seen
-  pub plan-room : gatesIn ks ≤ length plan
-  pub marks-room : markBytes ≤ length marks
-  pub reach-fits : reachFound f < 65536
-
--- What it leaves: the marks of the basins noted, or the plan.
-pub data Reported (n : ℕ) (ks ws seen : List ℕ) : Found → List ℕ → List ℕ → List ℕ → List ℕ → Reply → Type 0 where
-  wrote-shut : {plan marks marks′ : List ℕ} {c : ℕ} → MarksWritten (markedSet n seen 1) marks marks′ c
-      → Reported n ks ws seen Shut plan marks plan marks′ (record { verdict = ShutIn (record { reach = 0; count = c }) })
-  wrote-lone : {r : ℕ} {plan marks marks′ : List ℕ} {c : ℕ} → MarksWritten (markedSet n seen (otherThan (getD seen 0 0))) marks marks′ c
-      → Reported n ks ws seen (Stuck r) plan marks plan marks′ (record { verdict = Lone (record { reach = r; count = c }) })
-  wrote-plan : {plan marks plan′ : List ℕ} → plan′ ≡ bytesRow ks ws ++ drop (gatesIn ks) plan → Reported n ks ws seen Hung plan marks plan′ marks (record { verdict = Plan })
 
 -- ---- the next plan
 

@@ -1,0 +1,46 @@
+-- An accepted table of rows with lent working memory.
+-- Assumes nothing.
+use Prim.Native.Nat.{ℕ, _≤_}
+use mathlib.Core.Path.{_≡_}
+use mathlib.Core.Bool.{true}
+use mathlib.Core.List.{List, []}
+use lib.ListN.{length}
+use Rattle.network.specs.Networks.{Accepted}
+use Rattle.network.specs.Plans.{passable}
+use Rattle.search.specs.Ends.{halves}
+use Rattle.search.specs.Chains.{Index, Indexable}
+use Rattle.tables.specs.Rows.{netOf, waysRow}
+
+-- The rows are of one length, and the table is accepted.
+pub record Level (n : ℕ) (ks xs ys : List ℕ) : Type 0 where
+  pub accepted : Accepted (netOf n ks xs ys)
+  pub ends-a : length xs ≡ length ks
+  pub ends-b : length ys ≡ length ks
+
+-- The rows with the working memory that they need.
+pub record Room (n : ℕ) (ks xs ys ws head next seen queue : List ℕ) : Type 0 where
+  pub accepted : Accepted (netOf n ks xs ys)
+  pub ends-a : length xs ≡ length ks
+  pub ends-b : length ys ≡ length ks
+  pub ways-room : length ws ≡ length ks
+  pub head-room : n ≤ length head
+  pub next-room : halves xs ≤ length next
+  pub seen-room : n ≤ length seen
+  pub queue-room : length seen ≤ length queue
+
+-- What filling it requires, and what it then holds.
+pub record Preparable (n : ℕ) (ks xs ys ws head next : List ℕ) : Type 0 where
+  pub ways-room : length ws ≡ length ks
+  pub indexable : Indexable n xs ys head next
+
+pub record Prepared (n : ℕ) (ks xs ys s ws head next : List ℕ) : Type 0 where
+  pub hung : ws ≡ waysRow ks s
+  pub index : Index n xs ys head next
+
+-- A passable network of which no gate is hung yet.
+pub record Passable (n : ℕ) (ks xs ys ws : List ℕ) : Type 0 where
+  pub accepted : Accepted (netOf n ks xs ys)
+  pub ends-a : length xs ≡ length ks
+  pub ends-b : length ys ≡ length ks
+  pub unhung : ws ≡ waysRow ks []
+  pub passable-net : passable (netOf n ks xs ys) ≡ true
