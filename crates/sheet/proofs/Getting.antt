@@ -9,37 +9,20 @@ use mathlib.Core.List.{List, _++_}
 use mathlib.Core.Option.{Option, none, some}
 use lib.ListN.{length, take, drop, length-take}
 use lib.Seq.{sets, sets-eq}
-use borrow.Author.Tests.{le-leb, lt-leb, eq-eqb, ne-eqb}
+use borrow.Author.Tests.{le-leb, lt-leb}
 use Rattle.network.specs.declared.Refusal.{Refusal}
 use Rattle.network.specs.declared.Refusal.the-variants.{ShortBuffer, BadSetting}
 use Rattle.network.specs.Networks.{Network, tableFault, Accepted}
 use Rattle.network.specs.Settings.{gates}
 use Rattle.network.specs.Plans.{isPlan}
-use Rattle.network.specs.Words.{wordOf}
-use Rattle.netfile.specs.declared.Taken.the-variants.{Whole}
-use Rattle.netfile.specs.Records.{takeRecord}
-use Rattle.netfile.specs.Answers.{takenAnswer, firstOf}
+use Rattle.netfile.specs.Answers.{firstOf}
 use Rattle.planner.specs.declared.CheckAnswer.{CheckAnswer}
 use Rattle.planner.specs.Answers.{checkOf}
-use Rattle.sheet.specs.declared.Place.the-variants.{Head}
-use Rattle.sheet.specs.declared.SheetAnswer.{SheetAnswer}
-use Rattle.sheet.specs.declared.SheetAnswer.the-variants.{Refused, Read}
-use Rattle.sheet.specs.Readings.{mayStand, Reading, refused, read, readGates, readRecords, ifPlan, unlessFault, readSheet, withRoom}
-use Rattle.sheet.specs.Answers.{sheetAnswer, settingRead, Got, Held}
-use Rattle.sheet.proofs.Steps.{head-at}
-use Rattle.sheet.proofs.Scan.{held-refused}
+use Rattle.sheetfile.specs.declared.SheetAnswer.{SheetAnswer}
+use Rattle.sheetfile.specs.declared.SheetAnswer.the-variants.{Refused, Read}
+use Rattle.sheetfile.specs.Readings.{Reading, refused, read, readRecords, ifPlan, unlessFault, readSheet, withRoom}
+use Rattle.sheetfile.specs.Answers.{sheetAnswer, settingRead, Got, Held}
 use Rattle.sheet.proofs.Calls.{checkFault, judged}
-
--- ---- the head's number
-
-module _ (gs f : List ℕ) (k : ℕ) (e : takenAnswer (takeRecord (mayStand Head) f) ≡ Whole k) (n : ℕ) (w : n ≡ wordOf (take 2 (drop 1 f))) where
-  pub head-wrong : (held : List ℕ) → (n ≡ length gs → ⊥) → Held (readRecords gs f) (Refused BadSetting) held
-  head-wrong held d = held-refused BadSetting held (head-at gs f k e .next ∙ rw (← w, ne-eqb n (length gs) d))
-
-  pub head-right : (r : SheetAnswer) (held : List ℕ) → n ≡ length gs → Held (readGates gs (drop 3 f)) r held → Held (readRecords gs f) r held
-  head-right r held d h =
-      let goes : readRecords gs f ≡ readGates gs (drop 3 f) = head-at gs f k e .next ∙ rw (← w, eq-eqb n (length gs) d) in
-      subst (λ x. Held x r held) (sym goes) h
 
 -- ---- what is left in the buffer
 

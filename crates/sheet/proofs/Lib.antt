@@ -1,11 +1,4 @@
--- The laws of the sheets.
-pub mod Examples
-pub mod Marking
-pub mod Gates
-pub mod Steps
-pub mod Sheets
-pub mod Writing
-pub mod Scan
+-- The laws of the calls over sheets.
 pub mod Calls
 pub mod Getting
 pub mod Replies

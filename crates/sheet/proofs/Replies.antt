@@ -28,12 +28,12 @@ use Rattle.planner.specs.declared.Verdict.the-variants.{Plan, ShutIn, Lone}
 use Rattle.planner.specs.declared.Answer.{Answer}
 use Rattle.planner.specs.declared.Answer.the-variants as A
 use Rattle.planner.specs.Answers.{given, answerOf, Written}
-use Rattle.sheet.specs.Sheets.{sheetOf, shutInSheet, loneSheet, outcomeSheet, replySheet}
-use Rattle.sheet.specs.Rows.{Roomy, firstBytesSheet}
-use Rattle.sheet.specs.Answers.{Put, roomFor, PutWhole, ReplyCall}
-use Rattle.sheet.proofs.Sheets.{plan-long}
-use Rattle.sheet.proofs.Gates.{gates-below}
-use Rattle.sheet.proofs.Calls.{put-refused}
+use Rattle.sheetfile.specs.Sheets.{sheetOf, shutInSheet, loneSheet, outcomeSheet, replySheet}
+use Rattle.sheetfile.specs.Rows.{Roomy, firstBytesSheet}
+use Rattle.sheetfile.specs.Answers.{Put, roomFor, PutWhole, ReplyCall}
+use Rattle.sheetfile.proofs.Sheets.{plan-long}
+use Rattle.sheetfile.proofs.Gates.{gates-below}
+use Rattle.sheetfile.proofs.Puts.{put-refused}
 
 -- ---- what an accepted network gets: a plan or one of two findings
 

@@ -28,14 +28,15 @@ use Rattle.netfile.specs.Answers.{firstOf}
 use Rattle.planner.specs.declared.CheckAnswer.{CheckAnswer}
 use Rattle.planner.specs.declared.CheckAnswer.the-variants as C
 use Rattle.planner.specs.Answers.{checkOf}
-use Rattle.sheet.specs.declared.SheetAnswer.{SheetAnswer}
-use Rattle.sheet.specs.declared.SheetAnswer.the-variants.{Refused, Read}
-use Rattle.sheet.specs.Sheets.{sheetOf, outcomeSheet, replySheet}
-use Rattle.sheet.specs.Readings.{Reading, refused, read, unlessFault, readRecords, readSheet, withRoom}
-use Rattle.sheet.specs.Answers.{sheetAnswer, settingRead, Got, putAnswer, bytesPut, Put, roomFor, planFault, sheetFault, replyFault, PutWhole, WriteCall, ReplyCall}
+use Rattle.sheetfile.specs.declared.SheetAnswer.{SheetAnswer}
+use Rattle.sheetfile.specs.declared.SheetAnswer.the-variants.{Refused, Read}
+use Rattle.sheetfile.specs.Sheets.{sheetOf, outcomeSheet, replySheet}
+use Rattle.sheetfile.specs.Readings.{Reading, refused, read, unlessFault, readRecords, readSheet, withRoom}
+use Rattle.sheetfile.specs.Answers.{sheetAnswer, settingRead, Got, putAnswer, bytesPut, Put, roomFor, planFault, sheetFault, replyFault, PutWhole, WriteCall, ReplyCall}
 use Rattle.sheet.specs.Laws.{WriteRead, writtenBack, ReadWrite, checkedBack, ReadCheck, replyRead, ReplyThenRead, Replies, says-plan, says-shut-in, says-lone}
-use Rattle.sheet.proofs.Sheets.{read-write, write-read, was-read}
-use Rattle.sheet.proofs.Calls.{Plan, put-refused, first-assoc, no-fault}
+use Rattle.sheetfile.proofs.Sheets.{read-write, write-read, was-read}
+use Rattle.sheetfile.proofs.Puts.{put-refused}
+use Rattle.sheet.proofs.Calls.{Plan, first-assoc, no-fault}
 use Rattle.sheet.proofs.Getting.{got-refused, refused-is}
 use Rattle.sheet.proofs.Replies.{First, is-plan, is-shut, is-lone, first-cases}
 

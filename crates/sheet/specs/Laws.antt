@@ -16,10 +16,10 @@ use Rattle.network.specs.Replies.{Outcome, plan, shutIn, lone, refused as told,
 use Rattle.netfile.specs.declared.WriteAnswer.{WriteAnswer}
 use Rattle.planner.specs.declared.CheckAnswer.{CheckAnswer}
 use Rattle.planner.specs.declared.CheckAnswer.the-variants as C
-use Rattle.sheet.specs.declared.SheetAnswer.{SheetAnswer}
-use Rattle.sheet.specs.Sheets.{sheetOf, shutInSheet, loneSheet, replySheet}
-use Rattle.sheet.specs.Readings.{Reading, refused, read, unlessFault, readSheet, withRoom}
-use Rattle.sheet.specs.Answers.{settingRead, Got, bytesPut, Put, roomFor, sheetFault, replyFault}
+use Rattle.sheetfile.specs.declared.SheetAnswer.{SheetAnswer}
+use Rattle.sheetfile.specs.Sheets.{sheetOf, shutInSheet, loneSheet, replySheet}
+use Rattle.sheetfile.specs.Readings.{Reading, refused, read, unlessFault, readSheet, withRoom}
+use Rattle.sheetfile.specs.Answers.{settingRead, Got, bytesPut, Put, roomFor, sheetFault, replyFault}
 
 -- What the sheet of a setting is read as that was written: refused where the writer refuses, else the setting itself.
 pub record WriteRead (N : Network) (s out setting : List ℕ) (r : SheetAnswer) (out′ setting′ : List ℕ) : Type 0 where

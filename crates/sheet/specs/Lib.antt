@@ -1,7 +1,2 @@
--- Plan sheets, finding sheets and the reply sheet by document 01's words, in its order.
-pub mod Sheets
-pub mod Readings
-pub mod Rows
-pub mod Answers
+-- What the calls promise of one another: sheets are read back as written.
 pub mod Laws
-pub mod Examples

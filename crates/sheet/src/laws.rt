@@ -1,7 +1,7 @@
 // The laws of the sheets over the running calls. Their proofs cite only what the calls promise.
-use crate::SheetAnswer;
 use netfile::WriteAnswer;
 use planner::CheckAnswer;
+use sheetfile::SheetAnswer;
 ghost use Rattle.tables.specs.Rows.{netOf};
 ghost use Rattle.sheet.specs.Laws.{WriteRead, ReadWrite, ReadCheck, ReplyThenRead};
 

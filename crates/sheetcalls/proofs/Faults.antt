@@ -7,9 +7,9 @@ use mathlib.Core.Option.{some}
 use Rattle.network.specs.declared.Refusal.{Refusal}
 use Rattle.network.specs.Networks.{Network, tableFault}
 use Rattle.netfile.specs.declared.WriteAnswer.the-variants.{Refused as Unwritten}
-use Rattle.sheet.specs.declared.SheetAnswer.the-variants.{Refused}
-use Rattle.sheet.specs.Readings.{readSheet}
-use Rattle.sheet.specs.Answers.{ReadCall, WriteCall, ReplyCall}
+use Rattle.sheetfile.specs.declared.SheetAnswer.the-variants.{Refused}
+use Rattle.sheetfile.specs.Readings.{readSheet}
+use Rattle.sheetfile.specs.Answers.{ReadCall, WriteCall, ReplyCall}
 
 module _ (N : Network) (r : Refusal) (e : tableFault N ≡ some r) where
   pub read-faulty : (sheet setting : List ℕ) → ReadCall N sheet setting (Refused r) setting

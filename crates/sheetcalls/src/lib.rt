@@ -7,9 +7,9 @@ use lent::pack;
 use netfile::WriteAnswer;
 use network::MAX_REACHES;
 use network::Reach;
-use sheet::SheetAnswer;
+use sheetfile::SheetAnswer;
 ghost use Rattle.lent.specs.Tables.{lentNet, OfTable};
-ghost use Rattle.sheet.specs.Answers.{ReadCall, WriteCall, ReplyCall};
+ghost use Rattle.sheetfile.specs.Answers.{ReadCall, WriteCall, ReplyCall};
 
 // The call over rows, for each public call. A table of too many reaches has rows of zeros, so it is refused by its number of reaches alone.
 fn read_sheet_packed(basins: u16, p: Packed, sheet: &[u8], setting: &mut [u8]) -> SheetAnswer

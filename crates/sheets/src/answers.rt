@@ -1,6 +1,6 @@
 // What the sheet calls answer, by number.
 use netfile::WriteAnswer;
-use sheet::SheetAnswer;
+use sheetfile::SheetAnswer;
 use trial::number;
 use trial::same_bytes;
 

@@ -9,13 +9,13 @@ use Rattle.network.specs.Networks.{Network, Accepted, tableFault}
 use Rattle.network.proofs.Networks.{accepted}
 use Rattle.tables.specs.Rows.{netOf}
 use Rattle.tables.proofs.Faults.{answer-refused, answer-accepted}
-use Rattle.sheet.specs.declared.SheetAnswer.{SheetAnswer}
-use Rattle.sheet.specs.declared.SheetAnswer.the-variants.{Read}
-use Rattle.sheet.specs.Readings.{readRecords}
-use Rattle.sheet.specs.Rows.{gatesRow}
-use Rattle.sheet.specs.Answers.{Held}
-use Rattle.sheet.proofs.Gates.{gates-few}
-use Rattle.sheet.proofs.Calls.{cut-kinds, cut-gates}
+use Rattle.sheetfile.specs.declared.SheetAnswer.{SheetAnswer}
+use Rattle.sheetfile.specs.declared.SheetAnswer.the-variants.{Read}
+use Rattle.sheetfile.specs.Readings.{readRecords}
+use Rattle.sheetfile.specs.Rows.{gatesRow}
+use Rattle.sheetfile.specs.Answers.{Held}
+use Rattle.sheetfile.proofs.Gates.{gates-few}
+use Rattle.sheetfile.proofs.Puts.{cut-kinds, cut-gates}
 use Rattle.sheet.proofs.Getting.{stored, got-table, got-torn, got-kept}
 use Rattle.sheet.proofs.read_sheet_in.Statement.{statement}
 use Rattle.sheet.proofs.read_sheet_in.Tie as tie

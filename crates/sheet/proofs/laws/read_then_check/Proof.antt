@@ -5,9 +5,9 @@ use lib.Seq.{length-take-le}
 use borrow.Author.Needs.{needs}
 use Rattle.network.specs.Networks.{Network}
 use Rattle.tables.specs.Rows.{netOf}
-use Rattle.sheet.specs.declared.SheetAnswer.{SheetAnswer}
-use Rattle.sheet.specs.declared.SheetAnswer.the-variants.{Read}
-use Rattle.sheet.specs.Answers.{ReadCall}
+use Rattle.sheetfile.specs.declared.SheetAnswer.{SheetAnswer}
+use Rattle.sheetfile.specs.declared.SheetAnswer.the-variants.{Read}
+use Rattle.sheetfile.specs.Answers.{ReadCall}
 use Rattle.sheet.proofs.RoundTrips.{read-fits, trip-unchecked, trip-checked}
 use Rattle.sheet.proofs.laws.read_then_check.Statement.{statement}
 use Rattle.sheet.proofs.laws.read_then_check.Tie as tie

@@ -6,9 +6,9 @@ use borrow.Author.Needs.{needs}
 use Rattle.network.specs.Networks.{Network}
 use Rattle.tables.specs.Rows.{netOf}
 use Rattle.netfile.proofs.Records.{bytes-make}
-use Rattle.sheet.specs.declared.SheetAnswer.{SheetAnswer}
-use Rattle.sheet.specs.declared.SheetAnswer.the-variants.{Read}
-use Rattle.sheet.specs.Answers.{ReadCall}
+use Rattle.sheetfile.specs.declared.SheetAnswer.{SheetAnswer}
+use Rattle.sheetfile.specs.declared.SheetAnswer.the-variants.{Read}
+use Rattle.sheetfile.specs.Answers.{ReadCall}
 use Rattle.sheet.proofs.RoundTrips.{read-fits, trip-unread, trip-written}
 use Rattle.sheet.proofs.laws.read_then_write.Statement.{statement}
 use Rattle.sheet.proofs.laws.read_then_write.Tie as tie

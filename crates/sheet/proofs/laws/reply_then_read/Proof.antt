@@ -7,7 +7,7 @@ use Rattle.network.specs.Networks.{Network}
 use Rattle.tables.specs.Rows.{netOf}
 use Rattle.netfile.specs.declared.WriteAnswer.{WriteAnswer}
 use Rattle.netfile.specs.declared.WriteAnswer.the-variants.{Written}
-use Rattle.sheet.specs.Answers.{ReplyCall}
+use Rattle.sheetfile.specs.Answers.{ReplyCall}
 use Rattle.sheet.proofs.RoundTrips.{written-fits, trip-unreplied, trip-replied}
 use Rattle.sheet.proofs.laws.reply_then_read.Statement.{statement}
 use Rattle.sheet.proofs.laws.reply_then_read.Tie as tie

@@ -1,0 +1,76 @@
+-- The gated reaches of a row of kinds, one after the other, and those of a table.
+-- Assumes nothing.
+use Prim.Native.Nat.{ℕ, zero, suc, _+_, _≤_, _<_}
+use native.Mathlib.Numerals.{add-one}
+use native.Mathlib.Omega.{arith}
+use mathlib.Core.Path.{_≡_, refl, ap, _∙_}
+use mathlib.Core.Bool.{Bool, true, false, cond}
+use mathlib.Core.List.{List, [], _∷_}
+use lib.ListN.{length, getD, take, drop-of-length-le}
+use lib.Seq.{drop-cons}
+use Rattle.network.specs.declared.Reach.{Reach}
+use Rattle.network.specs.Tables.{kindOf, tableOf}
+use Rattle.network.specs.Settings.{isGated, gatesFrom}
+use Rattle.tables.specs.Rows.{gatesIn}
+use Rattle.sheetfile.specs.Rows.{gatesRow, due, NextGate}
+
+-- the gated reaches of a table, by the kinds that it has
+pub gates-row : (i : ℕ) (ks xs ys : List ℕ) → gatesRow i (take (length (tableOf ks xs ys)) ks) ≡ gatesFrom i (tableOf ks xs ys)
+gates-row i [] xs ys = refl
+gates-row i (k ∷ ks) [] ys = refl
+gates-row i (k ∷ ks) (x ∷ xs) [] = refl
+gates-row i (k ∷ ks) (x ∷ xs) (y ∷ ys) = ap (λ l. cond (isGated (kindOf k)) (i ∷ l) l) (gates-row (suc i) ks xs ys)
+
+-- there are no more of them than reaches
+gate-few : (b : Bool) (i : ℕ) (l : List ℕ) (n : ℕ) → length l ≤ n → length (cond b (i ∷ l) l) ≤ suc n
+gate-few true i l n h = omega arith
+gate-few false i l n h = omega arith
+
+pub gates-few : (i : ℕ) (ks : List ℕ) → length (gatesRow i ks) ≤ length ks
+gates-few i [] = omega arith
+gates-few i (k ∷ ks) = gate-few (isGated (kindOf k)) i (gatesRow (suc i) ks) (length ks) (gates-few (suc i) ks)
+
+pub gates-below : (i : ℕ) (t : List Reach) → length (gatesFrom i t) ≤ length t
+gates-below i [] = omega arith
+gates-below i (r ∷ t) = gate-few (isGated (r .kind)) i (gatesFrom (suc i) t) (length t) (gates-below (suc i) t)
+
+length-gate : (b : Bool) (i : ℕ) (l : List ℕ) {n : ℕ} → length l ≡ n → length (cond b (i ∷ l) l) ≡ cond b (suc n) n
+length-gate true i l e = ap suc e
+length-gate false i l e = e
+
+pub count-row : (i : ℕ) (ks : List ℕ) → length (gatesRow i ks) ≡ gatesIn ks
+count-row i [] = refl
+count-row i (k ∷ ks) = length-gate (isGated (kindOf k)) i (gatesRow (suc i) ks) (count-row (suc i) ks)
+
+other-kind : (k : ℕ) → (k ≡ 0 → ⊥) → isGated (kindOf k) ≡ false
+other-kind zero n = absurd (n refl)
+other-kind (suc zero) n = refl
+other-kind (suc (suc k)) n = refl
+
+-- from reach i on: reach i first, if it is gated
+due-gate : (ks : List ℕ) (i : ℕ) → i < length ks → getD ks i 0 ≡ 0 → due ks i ≡ i ∷ due ks (suc i)
+due-gate ks i l e = rw (drop-cons ks i 0 l, e)
+
+due-other : (ks : List ℕ) (i : ℕ) → i < length ks → (getD ks i 0 ≡ 0 → ⊥) → due ks i ≡ due ks (i + 1)
+due-other ks i l n = rw (drop-cons ks i 0 l, other-kind (getD ks i 0) n, add-one)
+
+due-none : (ks : List ℕ) (i : ℕ) → length ks ≤ i → due ks i ≡ []
+due-none ks i l = rw (drop-of-length-le ks l)
+
+-- the search for the next gated reach: none was passed
+pub record Passed (ks : List ℕ) (from i : ℕ) : Type 0 where
+  pub below : i ≤ length ks
+  pub same : due ks from ≡ due ks i
+
+pub passed-none : (ks : List ℕ) (i : ℕ) → i ≤ length ks → Passed ks i i
+passed-none ks i l = record { below = l; same = refl }
+
+module _ (ks : List ℕ) (from i : ℕ) (p : Passed ks from i) where
+  pub passed-more : i < length ks → (getD ks i 0 ≡ 0 → ⊥) → Passed ks from (i + 1)
+  passed-more l n = record { below = omega arith; same = p .same ∙ due-other ks i l n }
+
+  pub passed-to : i < length ks → getD ks i 0 ≡ 0 → NextGate ks from i
+  passed-to l e = record { below = p .below; is-next = λ _. p .same ∙ due-gate ks i l e; none-left = λ h. absurd (omega arith) }
+
+  pub passed-all : length ks ≤ i → NextGate ks from i
+  passed-all l = record { below = p .below; is-next = λ h. absurd (omega arith); none-left = λ _. p .same ∙ due-none ks i l }

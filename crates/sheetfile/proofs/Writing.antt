@@ -1,0 +1,113 @@
+-- Bytes that are stored one after the other: a run of bytes, a gated reach's record, the records of a setting.
+-- Assumes nothing.
+use Prim.Native.Nat.{ℕ, zero, suc, _+_, _*_, _-_, _≤_, _<_}
+use native.Mathlib.Nat.{zero-add}
+use native.Mathlib.Numerals.{add-one}
+use native.Mathlib.Omega.{arith}
+use mathlib.Core.Path.{_≡_, refl, ap, _∙_}
+use mathlib.Core.List.{List, [], _∷_, _++_, append-nil, append-assoc}
+use mathlib.Core.Logic.{⊎-elim}
+use lib.ListN.{length, getD, take, drop, set, length-set, length-drop, drop-of-length-le}
+use lib.Seq.{sets, sets-eq, take-all, drop-drop, drop-cons}
+use lib.Dec.{ltb}
+use borrow.Author.Tests.{ltb-true, ltb-false}
+use Rattle.network.proofs.Bools.{decide}
+use Rattle.netfile.specs.Records.{twoBytes}
+use Rattle.netfile.proofs.Writing.{sets-after, sets-long}
+use Rattle.sheetfile.specs.Sheets.{hungKind, gateRecord, gateRecords}
+use Rattle.sheetfile.specs.Rows.{gatesRow, due, NextGate, Records}
+
+pub other-byte : (x : ℕ) → (x ≡ 0 → ⊥) → 18 ≡ hungKind x
+other-byte zero n = absurd (n refl)
+other-byte (suc x) n = refl
+
+pub put-record :
+    (l l₁ : List ℕ) (at k i x : ℕ) → k ≡ hungKind x → l₁ ≡ sets (set l at k) (at + 1) (twoBytes i) → l₁ ≡ sets l at (gateRecord i x)
+put-record l l₁ at k i x e p =
+    p
+    ∙ ap (λ y. sets (set l at y) (at + 1) (twoBytes i)) e
+    ∙ sets-after l at (at + 1) (hungKind x ∷ []) (twoBytes i) (omega arith)
+
+-- ---- a run of bytes, of which the first i are stored
+
+pub record Putting (bytes out₀ : List ℕ) (at : ℕ) (out : List ℕ) (i : ℕ) : Type 0 where
+  pub below : i ≤ length bytes
+  pub left : sets out (at + i) (drop i bytes) ≡ sets out₀ at bytes
+  pub long : length out ≡ length out₀
+
+module _ (bytes out₀ : List ℕ) (at : ℕ) where
+  pub putting-none : Putting bytes out₀ at out₀ 0
+  putting-none =
+      let start : at + 0 ≡ at = omega arith in
+      record { below = omega arith; left = rw start; long = refl }
+
+  module _ (out : List ℕ) (i : ℕ) (p : Putting bytes out₀ at out i) where
+    pub putting-more : i < length bytes → Putting bytes out₀ at (set out (at + i) (getD bytes i 0)) (i + 1)
+    putting-more l =
+        let next : at + (i + 1) ≡ suc (at + i) = omega arith in
+        record { below = omega arith; left = rw (next, add-one) (rw (drop-cons bytes i 0 l) at (p .left)); long = length-set out (at + i) (getD bytes i 0) ∙ p .long }
+
+    pub putting-all : length bytes ≤ i → out ≡ sets out₀ at bytes
+    putting-all l = rw (drop-of-length-le bytes l) at (p .left)
+
+-- ---- the records of a setting, of which the first k are stored; i is past the reach of the last
+
+pub record Recording (ks s out₀ out : List ℕ) (i k : ℕ) : Type 0 where
+  pub below : k ≤ length s
+  pub within : i ≤ length ks
+  pub count : k + length (due ks i) ≡ length s
+  pub left : sets out (3 * k) (gateRecords (due ks i) (drop k s) ++ (9 ∷ [])) ≡ sets out₀ 0 (gateRecords (gatesRow 0 ks) s ++ (9 ∷ []))
+  pub long : length out ≡ length out₀
+
+pub recording-none : (ks s out₀ : List ℕ) → Records ks s → Recording ks s out₀ out₀ 0 0
+recording-none ks s out₀ r =
+    record { below = omega arith; within = omega arith; count = let e = r .full in omega arith; left = refl; long = refl }
+
+module _ (ks s out₀ out : List ℕ) (i k : ℕ) (p : Recording ks s out₀ out i k) where
+  module _ (r : ℕ) (g : NextGate ks i r) (l : k < length s) where
+    -- while a byte is left, so is a gated reach
+    pub gate-there : r < length ks
+    gate-there =
+        ⊎-elim (λ h. ltb-true r (length ks) h)
+        (λ h. let e = ap length (g .none-left (ltb-false r (length ks) h)) in let c = p .count in omega arith) (decide (ltb r (length ks)))
+
+    pub recording-more : (out′ : List ℕ) → out′ ≡ sets out (3 * k) (gateRecord r (getD s k 0)) → Recording ks s out₀ out′ (r + 1) (k + 1)
+    recording-more out′ e =
+        let after-r : r + 1 ≡ suc r = omega arith in
+        let after-k : k + 1 ≡ suc k = omega arith in
+        record {
+          below = omega arith;
+          within = let q = gate-there in omega arith;
+          count = rw after-r (let n = ap length (g .is-next gate-there) in let c = p .count in omega arith);
+          left =
+              ap (λ o. sets o (3 * (k + 1)) (gateRecords (due ks (r + 1)) (drop (k + 1) s) ++ (9 ∷ []))) e
+              ∙ sets-after out (3 * k) (3 * (k + 1)) (gateRecord r (getD s k 0)) (gateRecords (due ks (r + 1)) (drop (k + 1) s) ++ (9 ∷ [])) (omega arith)
+              ∙ rw (after-r, after-k) (rw (g .is-next gate-there, drop-cons s k 0 l) at (p .left));
+          long = sets-long out out′ (3 * k) (gateRecord r (getD s k 0)) e ∙ p .long;
+        }
+
+  no-bytes : (gs : List ℕ) → gateRecords gs [] ≡ []
+  no-bytes [] = refl
+  no-bytes (i ∷ gs) = refl
+
+  pub recording-all : length s ≤ k → set out (3 * k) 9 ≡ sets out₀ 0 (gateRecords (gatesRow 0 ks) s ++ (9 ∷ []))
+  recording-all l = rw (drop-of-length-le s l, no-bytes (due ks i)) at (p .left)
+
+-- ---- a part of a buffer, from place n on, that was lent and is back
+
+pub part-back :
+    (n : ℕ) (l part xs : List ℕ) → n + length xs ≤ length l → part ≡ sets (take (length l - n) (drop n l)) 0 xs
+    → take n l ++ (part ++ drop (length l - n) (drop n l)) ≡ sets l n xs
+part-back n l part xs h e =
+    let beyond : length (drop n l) ≤ length l - n = omega (arith, length-drop n l) in
+    rw (
+      e,
+      take-all (length l - n) (drop n l) (omega (arith, length-drop n l)),
+      drop-of-length-le (drop n l) beyond,
+      append-nil,
+      sets-eq xs (drop n l) 0 (omega (arith, length-drop n l)),
+      sets-eq xs l n h,
+      zero-add (length xs),
+      drop-drop (length xs) n l,
+      append-assoc (take n l) xs (drop (n + length xs) l),
+    )
