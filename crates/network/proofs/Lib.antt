@@ -1,8 +1,6 @@
 -- The laws of document 01's definitions.
-pub mod Bools
 pub mod Walks
 pub mod Cases
-pub mod Finds
 pub mod Cuts
 pub mod Ways
 pub mod Networks

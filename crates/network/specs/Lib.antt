@@ -1,5 +1,4 @@
 -- Document 01's definitions, in its order. A reader who believes these files knows what every promise says.
-pub mod Lists
 pub mod Networks
 pub mod Tables
 pub mod Settings
@@ -7,6 +6,5 @@ pub mod Hangings
 pub mod Plans
 pub mod Lone
 pub mod Marks
-pub mod Words
 pub mod Replies
 pub mod Cases

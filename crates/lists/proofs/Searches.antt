@@ -1,27 +1,31 @@
--- Laws of the finite searches: every, some?, find, keep, range and elem.
+-- Laws of the finite searches: every, some?, find, keep and elem.
 -- Assumes nothing.
 use Prim.Native.Nat.{ℕ, zero, suc, _+_, _≤_, _<_}
 use mathlib.Core.Path.{_≡_, refl, sym, _∙_, ap}
 use mathlib.Core.Logic.{_⊎_, inl, inr, ⊎-elim}
-use mathlib.Core.Bool.{Bool, true, false, true≢false, false≢true}
+use mathlib.Core.Bool.{Bool, true, false, cond, true≢false, false≢true}
 use mathlib.Core.List.{List, [], _∷_, _++_, map, List·Memᴰ, List·Memᴰ·head, List·Memᴰ·tail, List·Memᴰ·not-nil, List·Memᴰ·cases-cons, Memᴰ·cast}
 use mathlib.Core.Option.{none, some, Option·some-injective, Option·none-ne-some, Option·some-ne-none}
+use native.Mathlib.Nat.{not-suc-le-zero, le-of-suc-le-suc}
 use native.Mathlib.Omega.{arith}
-use lib.ListN.{length}
+use mathlib.Mathlib.Data.Bool.Basic.{and-elim-left, and-elim-right, and-intro}
+use lib.ListN.{length, getD, drop, drop-of-length-le, length-append}
 use lib.Dec.{eqb}
 use borrow.Author.Tests.{eqb-true, eqb-false, eq-eqb}
-use Rattle.network.specs.Lists.{range, every, some?, find, keep, elem}
-use Rattle.network.proofs.Bools.{and-left, and-right, and-make, or-left, or-right, decide, fails, clash, same-test}
+use Rattle.lists.specs.Lists.{range, every, some?, find, keep, elem}
+use Rattle.lists.proofs.Bools.{or-left, or-right, decide, fails, clash, same-test}
+use Rattle.lists.proofs.Lists.{drop-one}
+use Rattle.lists.proofs.Ranges.{range-has, range-in}
 
 module _ {A : Type 0} (p : A → Bool) where
   -- every: what holds of each member, and the other way round
   pub every-at : {x : A} {xs : List A} → every p xs ≡ true → List·Memᴰ x xs → p x ≡ true
-  every-at h (List·Memᴰ·head {x = y} {xs = ys} e) = rw e (and-left (p y) (every p ys) h)
-  every-at h (List·Memᴰ·tail {x = y} {xs = ys} m) = every-at (and-right (p y) (every p ys) h) m
+  every-at h (List·Memᴰ·head {x = y} {xs = ys} e) = rw e (and-elim-left (p y) (every p ys) h)
+  every-at h (List·Memᴰ·tail {x = y} {xs = ys} m) = every-at (and-elim-right (p y) (every p ys) h) m
 
   pub every-make : (xs : List A) → ((x : A) → List·Memᴰ x xs → p x ≡ true) → every p xs ≡ true
   every-make [] f = refl
-  every-make (x ∷ xs) f = and-make (f x (List·Memᴰ·head refl)) (every-make xs (λ y m. f y (List·Memᴰ·tail m)))
+  every-make (x ∷ xs) f = and-intro (f x (List·Memᴰ·head refl)) (every-make xs (λ y m. f y (List·Memᴰ·tail m)))
 
   pub every-fails : (xs : List A) → every p xs ≡ false → (x : A) × List·Memᴰ x xs × (p x ≡ false)
   every-fails [] h = absurd (true≢false h)
@@ -30,6 +34,16 @@ module _ {A : Type 0} (p : A → Bool) where
       (λ e. let r = every-fails xs (rw e at h) in (r .0, List·Memᴰ·tail (r .1), r .2))
       (λ e. (x, List·Memᴰ·head refl, e))
       (decide (p x))
+
+  -- every, by place
+  pub every-getD : (xs : List A) (i : ℕ) (d : A) → every p xs ≡ true → i < length xs → p (getD xs i d) ≡ true
+  every-getD [] i d h l = absurd (not-suc-le-zero l)
+  every-getD (x ∷ xs) zero d h l = and-elim-left (p x) _ h
+  every-getD (x ∷ xs) (suc i) d h l = every-getD xs i d (and-elim-right (p x) _ h) (le-of-suc-le-suc l)
+
+  pub every-from : (xs : List A) (d : A) → ((i : ℕ) → i < length xs → p (getD xs i d) ≡ true) → every p xs ≡ true
+  every-from [] d f = refl
+  every-from (x ∷ xs) d f = and-intro (f 0 (omega arith)) (every-from xs d (λ i l. f (suc i) (omega arith)))
 
   -- some?: a member of which the test holds
   pub some-make : {x : A} {xs : List A} → List·Memᴰ x xs → p x ≡ true → some? p xs ≡ true
@@ -121,27 +135,6 @@ find-map f p (x ∷ xs) {y} h =
     (λ e. let r = find-map f p xs (sym (find-no p (map f xs) e) ∙ h) in (r .0, find-no (λ z. p (f z)) xs e ∙ r .1, r .2))
     (decide (p (f x)))
 
--- range: its length and its members
-pub length-range : (i n : ℕ) → length (range i n) ≡ n
-length-range i zero = refl
-length-range i (suc n) = ap suc (length-range (suc i) n)
-
-pub range-has : {j : ℕ} (i n : ℕ) → i ≤ j → j < i + n → List·Memᴰ j (range i n)
-range-has i zero h k = absurd (omega arith)
-range-has {j} i (suc n) h k =
-    ⊎-elim
-    (λ e. List·Memᴰ·head (eqb-true j i e))
-    (λ e. let d : j ≡ i → ⊥ = eqb-false j i e in List·Memᴰ·tail (range-has (suc i) n (omega arith) (omega arith)))
-    (decide (eqb j i))
-
-pub range-in : {j : ℕ} (i n : ℕ) → List·Memᴰ j (range i n) → (i ≤ j) × (j < i + n)
-range-in i zero m = absurd (List·Memᴰ·not-nil m)
-range-in {j} i (suc n) m =
-    ⊎-elim
-    (λ e. (omega arith, omega arith))
-    (λ k. let r = range-in (suc i) n k in (omega arith, omega arith))
-    (List·Memᴰ·cases-cons m)
-
 -- What is found in a range is the first number of which the test holds.
 pub find-first : (p : ℕ → Bool) (i n : ℕ) {k : ℕ} → find p (range i n) ≡ some k → (j : ℕ) → i ≤ j → j < k → p j ≡ false
 find-first p i zero {k} h j l m = absurd (Option·none-ne-some k h)
@@ -164,9 +157,25 @@ pub elem-keep : (p : ℕ → Bool) {b : ℕ} {xs : List ℕ} → List·Memᴰ b 
 elem-keep p {b} {xs} m = same-test (elem b (keep p xs)) (p b) (λ e. (keep-in p xs (elem-in b (keep p xs) e)) .1) (λ e. elem-has (keep-has p m e))
 
 -- tests that agree on the members keep the same
-pub keep-same : (p q : ℕ → Bool) (xs : List ℕ) → ((x : ℕ) → List·Memᴰ x xs → p x ≡ q x) → keep p xs ≡ keep q xs
+pub keep-same : {A : Type 0} (p q : A → Bool) (xs : List A) → ((x : A) → List·Memᴰ x xs → p x ≡ q x) → keep p xs ≡ keep q xs
 keep-same p q [] f = refl
 keep-same p q (x ∷ xs) f = rw (f x (List·Memᴰ·head refl), keep-same p q xs (λ y m. f y (List·Memᴰ·tail m)))
+
+-- how many are kept of two lists after each other, and by a test that always fails
+keep-append : {A : Type 0} (p : A → Bool) (xs ys : List A) → keep p (xs ++ ys) ≡ keep p xs ++ keep p ys
+keep-append p [] ys = refl
+keep-append {A} p (x ∷ xs) ys = rw (keep-append p xs ys) (one (p x) (keep p xs))
+  where
+    one : (b : Bool) (ks : List A) → cond b (x ∷ (ks ++ keep p ys)) (ks ++ keep p ys) ≡ cond b (x ∷ ks) ks ++ keep p ys
+    one true ks = refl
+    one false ks = refl
+
+pub count-append : {A : Type 0} (p : A → Bool) (xs ys : List A) → length (keep p (xs ++ ys)) ≡ length (keep p xs) + length (keep p ys)
+count-append p xs ys = ap length (keep-append p xs ys) ∙ length-append (keep p xs) (keep p ys)
+
+pub keep-none : {A : Type 0} (xs : List A) → keep (λ x. false) xs ≡ []
+keep-none [] = refl
+keep-none (x ∷ xs) = keep-none xs
 
 -- the lowest number of a range that passes a test is what is found
 pub find-lowest : (p : ℕ → Bool) (i n k : ℕ) → i ≤ k → k < i + n → p k ≡ true → ((j : ℕ) → i ≤ j → j < k → p j ≡ false) → find p (range i n) ≡ some k
@@ -178,3 +187,25 @@ find-lowest p i (suc n) k l m y f =
     let n′ : k ≡ i → ⊥ = eqb-false k i other in
     find-no p (range (suc i) n) (f i (omega arith) (omega arith)) ∙ find-lowest p (suc i) n k (omega arith) (omega arith) y (λ j a b. f j (omega arith) b))
     (decide (eqb k i))
+
+-- ---- a loop that tests one member after the other
+
+-- Of the first i members the test holds: it holds of every member exactly if it holds of every one from i on.
+pub record Passed {A : Type 0} (p : A → Bool) (l : List A) (i : ℕ) : Type 0 where
+  pub below : i ≤ length l
+  pub left : every p l ≡ every p (drop i l)
+
+module _ {A : Type 0} (p : A → Bool) (l : List A) where
+  -- none is passed; one more passes, or does not; all have passed
+  pub passed-none : Passed p l 0
+  passed-none = record { below = omega arith; left = refl }
+
+  module _ (i : ℕ) (h : Passed p l i) where
+    pub passed-more : (d : A) → i < length l → p (getD l i d) ≡ true → Passed p l (i + 1)
+    passed-more d m e = record { below = omega arith; left = h .left ∙ rw (drop-one l i d m, e) }
+
+    pub passed-not : (d : A) → i < length l → p (getD l i d) ≡ false → false ≡ every p l
+    passed-not d m e = sym (h .left ∙ rw (drop-one l i d m, e))
+
+    pub passed-all : length l ≤ i → true ≡ every p l
+    passed-all m = sym (h .left ∙ rw (drop-of-length-le l m))
