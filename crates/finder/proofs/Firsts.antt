@@ -10,7 +10,7 @@ use mathlib.Core.List.{List, []}
 use lib.ListN.{length, getD}
 use lib.Dec.{eqb}
 use borrow.Author.Tests.{eq-eqb, ne-eqb}
-use Rattle.network.specs.Lists.{range, find, keep, elem}
+use Rattle.lists.specs.Lists.{range, find, keep, elem}
 use Rattle.network.specs.Networks.{Network, basinsOf, lowestBasin, Accepted}
 use Rattle.network.specs.Hangings.{Arc, ways, arcs, arcsUnder, reached, unhung}
 use Rattle.network.specs.Plans.{reachesAll, strong, strongUnder, isPlan, passable}
@@ -18,8 +18,9 @@ use Rattle.network.specs.Lone.{crossesAlone, isLone, lowestLone}
 use Rattle.network.specs.Marks.{bit, markBytes, marksOf}
 use Rattle.network.specs.Settings.{gateCount}
 use Rattle.network.specs.Replies.{shutInBasin, shutInSide, loneSide, answer, firstAnswer}
-use Rattle.network.proofs.Bools.{fails, clash, not-passes, not-fails}
-use Rattle.network.proofs.Finds.{every-at, every-make, find-is, find-lowest, range-has, range-in, keep-in, keep-same, elem-in, elem-keep}
+use Rattle.lists.proofs.Bools.{fails, clash, not-passes, not-fails}
+use Rattle.lists.proofs.Searches.{every-at, every-make, find-is, find-lowest, keep-in, keep-same, elem-in, elem-keep}
+use Rattle.lists.proofs.Ranges.{range-has, range-in}
 use Rattle.network.proofs.Marks.{marks-same}
 use Rattle.network.proofs.Networks.{basin-in, basin-below, lowest-is-0}
 use Rattle.network.proofs.Lone.{Alone, LoneSide, alone-facts, alone-rest, alone-same, side-basins, cut-unique, lone-below, lone-blocks, lone-side}

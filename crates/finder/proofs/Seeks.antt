@@ -11,6 +11,7 @@ use lib.Dec.{eqb}
 use lib.ListN.{length, getD, set, drop}
 use lib.Seq.{drop-cons}
 use borrow.Author.Tests.{eq-eqb, ne-eqb}
+use mathlib.Mathlib.Data.Bool.Basic.{and-intro}
 use Rattle.network.specs.Networks.{Network, Accepted}
 use Rattle.network.specs.Settings.{isSetting}
 use Rattle.network.specs.Hangings.{ways}
@@ -18,7 +19,7 @@ use Rattle.network.specs.Plans.{strongUnder, isPlan, nextPlan}
 use Rattle.network.specs.Lone.{isLone}
 use Rattle.network.specs.declared.Refusal.the-variants.{LastPlan}
 use Rattle.network.specs.Replies.{plan, refused, answer, nextAnswer}
-use Rattle.network.proofs.Bools.{and-make, clash, fails}
+use Rattle.lists.proofs.Bools.{clash, fails}
 use Rattle.network.proofs.Networks.{accepted}
 use Rattle.network.proofs.Order.{plan-setting}
 use Rattle.network.proofs.Lone.{lone-blocks}
@@ -277,7 +278,7 @@ module _ (n : ℕ) (ks xs ys : List ℕ) where
 
       pub seek-plan : r ≡ n → AtPlan n ks xs ys s us′
       unfolding isPlan
-      seek-plan same = record { level = room-level (p .room); is-plan = and-make (p .fits) (sym strong ∙ eq-eqb r n same); hung = e }
+      seek-plan same = record { level = room-level (p .room); is-plan = and-intro (p .fits) (sym strong ∙ eq-eqb r n same); hung = e }
 
       pub seek-other : (r ≡ n → ⊥) → {head′ next′ seen′ queue′ : List ℕ} → Room n ks xs ys ws head′ next′ seen′ queue′ → OtherThanPlan n ks xs ys us′ ws head′ next′ seen′ queue′
       unfolding strongUnder

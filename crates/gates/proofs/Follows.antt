@@ -13,7 +13,7 @@ use Rattle.network.specs.Settings.{isGated}
 use Rattle.network.specs.Hangings.{arcs, reached}
 use Rattle.network.specs.Plans.{strong}
 use Rattle.network.specs.Lone.{reachAt}
-use Rattle.network.proofs.Bools.{clash}
+use Rattle.lists.proofs.Bools.{clash}
 use Rattle.network.proofs.Ways.{length-ways}
 use Rattle.network.proofs.Steps.{hang-drawn, hang-turned}
 use Rattle.tables.specs.Rows.{netOf}

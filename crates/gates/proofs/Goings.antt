@@ -10,15 +10,15 @@ use mathlib.Core.List.{List, []}
 use lib.ListN.{length, getD, set, length-set}
 use lib.Seq.{getD-set-same, getD-set-other, set-getD}
 use lib.Dec.{eqb}
-use Rattle.network.specs.Lists.{keep}
+use Rattle.lists.specs.Lists.{keep}
 use Rattle.network.specs.Networks.{Network, basinsOf, Accepted}
 use Rattle.network.specs.Settings.{isGated}
 use Rattle.network.specs.Hangings.{way, arcs, reached}
 use Rattle.network.specs.Plans.{strong}
 use Rattle.network.specs.Lone.{reachAt, crossesAlone, isLone}
 use Rattle.network.specs.Marks.{bit}
-use Rattle.network.proofs.Bools.{decide, clash, fails}
-use Rattle.network.proofs.Finds.{keep-same}
+use Rattle.lists.proofs.Bools.{decide, clash, fails}
+use Rattle.lists.proofs.Searches.{keep-same}
 use Rattle.network.proofs.Ways.{plain-small}
 use Rattle.network.proofs.Networks.{basin-below}
 use Rattle.network.proofs.Lone.{Alone, alone-rest, alone-same, cut-of, lone-gated, lone-parts}

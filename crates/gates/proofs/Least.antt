@@ -13,16 +13,17 @@ use lib.ListN.{length, getD, set}
 use lib.Seq.{getD-set-same, getD-set-other, ext-getD}
 use lib.Dec.{leb, ltb, eqb}
 use borrow.Author.Tests.{le-leb, lt-ltb, le-ltb, eq-eqb, ne-eqb}
+use mathlib.Mathlib.Data.Bool.Basic.{and-intro}
 use Rattle.network.specs.declared.Kind.{Kind}
 use Rattle.network.specs.declared.Kind.the-variants.{Gated, Flap, TwoWay}
 use Rattle.network.specs.declared.Reach.{Reach}
-use Rattle.network.specs.Lists.{every}
+use Rattle.lists.specs.Lists.{every}
 use Rattle.network.specs.Networks.{Network, basinsOf}
 use Rattle.network.specs.Settings.{isGated, gatesFrom, gateCount, isSetting, before}
 use Rattle.network.specs.Hangings.{way, ways, arcs}
 use Rattle.network.specs.Plans.{strong, strongUnder, isPlan, firstPlan}
 use Rattle.network.specs.Lone.{noReach, reachAt}
-use Rattle.network.proofs.Bools.{and-make, decide, clash, or-left, or-right}
+use Rattle.lists.proofs.Bools.{decide, clash, or-left, or-right}
 use Rattle.network.proofs.Cuts.{strong-within}
 use Rattle.network.proofs.Walks.{Within}
 use Rattle.network.proofs.Ways.{passingAt, arcs-in, arcs-has, passing-either, length-ways, plain-way, gate-way}
@@ -60,7 +61,7 @@ before-at [] ys i d l k f h = absurd (not-suc-le-zero l)
 before-at (x ∷ xs) [] i d l k f h = absurd (not-suc-le-zero k)
 before-at (x ∷ xs) (y ∷ ys) zero d l k f h = or-left _ (lt-ltb x y h)
 before-at (x ∷ xs) (y ∷ ys) (suc i) d l k f h =
-    or-right (ltb x y) (and-make (eq-eqb x y (f 0 (omega arith))) (before-at xs ys i d (le-of-suc-le-suc l) (le-of-suc-le-suc k) (λ j jl. f (suc j) (omega arith)) h))
+    or-right (ltb x y) (and-intro (eq-eqb x y (f 0 (omega arith))) (before-at xs ys i d (le-of-suc-le-suc l) (le-of-suc-le-suc k) (λ j jl. f (suc j) (omega arith)) h))
 
 -- the first of two lists in order is not above the second where they first differ
 pub before-up : (xs ys : List ℕ) (i d : ℕ) → i < length xs → i < length ys → ((j : ℕ) → j < i → getD xs j d ≡ getD ys j d) → before xs ys ≡ true → getD xs i d ≤ getD ys i d
@@ -231,7 +232,7 @@ bytes-small (r ∷ t) [] f = refl
 bytes-small (r ∷ t) (w ∷ ws) f = go (r .kind) (r .a) (r .b) (f 0 (omega arith)) (bytes-small t ws (λ j l g. f (suc j) (omega arith) g))
   where
     go : (d : Kind) (a b : ℕ) → (isGated d ≡ true → w ≤ 1) → every (λ x. leb x 1) (bytesOf t ws) ≡ true → every (λ x. leb x 1) (bytesOf (reachOf d a b ∷ t) (w ∷ ws)) ≡ true
-    go Gated a b g rec = and-make (le-leb w 1 (g refl)) rec
+    go Gated a b g rec = and-intro (le-leb w 1 (g refl)) rec
     go Flap a b g rec = rec
     go TwoWay a b g rec = rec
 
@@ -249,8 +250,8 @@ module _ (N : Network) where
 
       is-plan : isPlan N s ≡ true
       is-plan =
-          and-make
-          (and-make (eq-eqb (length s) (gateCount N) (bytes-length 0 (N .reaches) ws full)) (bytes-small (N .reaches) ws d))
+          and-intro
+          (and-intro (eq-eqb (length s) (gateCount N) (bytes-length 0 (N .reaches) ws full)) (bytes-small (N .reaches) ws d))
           (subst⁻¹ (λ (v : List ℕ). strong (basinsOf N) (arcs (N .reaches) v) ≡ true) same str)
 
       fits : Fits N s ws

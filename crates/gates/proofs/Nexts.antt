@@ -13,13 +13,14 @@ use lib.ListN.{length, getD, set, take, drop, length-set, length-append, length-
 use lib.Seq.{getD-set-same, getD-set-other, set-getD, ext-getD, getD-take, getD-drop, getD-append-add, length-take-le}
 use lib.Dec.{eqb}
 use borrow.Author.Tests.{eqb-true}
+use mathlib.Mathlib.Data.Bool.Basic.{and-elim-right, and-elim-left}
 use Rattle.network.specs.declared.Reach.{Reach}
 use Rattle.network.specs.Networks.{Network, basinsOf}
 use Rattle.network.specs.Settings.{isGated, gateCount, isSetting, before}
 use Rattle.network.specs.Hangings.{way, ways, arcs}
 use Rattle.network.specs.Plans.{strong, isPlan, nextPlan}
 use Rattle.network.specs.Lone.{reachAt}
-use Rattle.network.proofs.Bools.{and-left, and-right, decide, clash, fails}
+use Rattle.lists.proofs.Bools.{decide, clash, fails}
 use Rattle.network.proofs.Ways.{length-ways, plain-way, gate-way, gate-small}
 use Rattle.network.proofs.Order.{before-irrefl, setting-length, plan-setting, next-is-plan, next-is-later, next-unique}
 use Rattle.network.proofs.Lone.{plan-gate-small}
@@ -41,7 +42,7 @@ getD-back xs ys i j d l k =
 pub gate-byte : (N : Network) (s : List ℕ) → isSetting N s ≡ true → (j : ℕ) → j < length (N .reaches) → isGated ((reachAt N j) .kind) ≡ true → getD (ways (N .reaches) s) j 3 ≤ 1
 unfolding isSetting
 gate-byte N s e j l g =
-    gate-small (N .reaches) s j (eqb-true (length s) (gateCount N) (and-left (eqb (length s) (gateCount N)) _ e)) (and-right (eqb (length s) (gateCount N)) _ e) l g
+    gate-small (N .reaches) s j (eqb-true (length s) (gateCount N) (and-elim-left (eqb (length s) (gateCount N)) _ e)) (and-elim-right (eqb (length s) (gateCount N)) _ e) l g
 
 next-never : (N : Network) (s : List ℕ) → ((q : List ℕ) → isPlan N q ≡ true → before s q ≡ true → ⊥) → nextPlan N s ≡ none
 next-never N s f = go (nextPlan N s) refl

@@ -14,7 +14,7 @@ use Rattle.network.specs.Networks.{Network, Accepted}
 use Rattle.network.specs.Settings.{isGated, isSetting}
 use Rattle.network.specs.Hangings.{ways}
 use Rattle.network.specs.Lone.{reachAt}
-use Rattle.network.proofs.Bools.{decide}
+use Rattle.lists.proofs.Bools.{decide}
 use Rattle.network.proofs.Ways.{length-ways, plain-way, gate-way}
 use Rattle.gates.specs.Least.{NoneFrom}
 use Rattle.gates.specs.Greedy.{Begun}

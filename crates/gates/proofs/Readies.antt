@@ -7,14 +7,15 @@ use mathlib.Core.Bool.{Bool, true, false}
 use mathlib.Core.List.{List}
 use lib.ListN.{length, getD, set}
 use lib.Seq.{set-set}
-use Rattle.network.specs.Lists.{range}
+use Rattle.lists.specs.Lists.{range}
 use Rattle.network.specs.Tables.{kindOf}
 use Rattle.network.specs.Settings.{isGated}
 use Rattle.network.specs.Hangings.{Arc, reached}
 use Rattle.network.specs.Plans.{reachesAll}
 use Rattle.network.specs.Marks.{bit}
-use Rattle.network.proofs.Bools.{fails, clash}
-use Rattle.network.proofs.Finds.{every-at, every-make, range-has, range-in}
+use Rattle.lists.proofs.Bools.{fails, clash}
+use Rattle.lists.proofs.Searches.{every-at, every-make}
+use Rattle.lists.proofs.Ranges.{range-has, range-in}
 use Rattle.network.proofs.Walks.{walk-trans, walk-reached, reached-walk}
 use Rattle.search.specs.Ends.{arcsOf}
 use Rattle.search.specs.Searches.{Searchable, Noted}

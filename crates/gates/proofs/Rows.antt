@@ -13,7 +13,7 @@ use Rattle.network.specs.Settings.{isGated}
 use Rattle.network.specs.Hangings.{Arc, arcs, reached}
 use Rattle.network.specs.Lone.{reachAt, isLone}
 use Rattle.network.specs.Marks.{bit}
-use Rattle.network.proofs.Bools.{decide, clash}
+use Rattle.lists.proofs.Bools.{decide, clash}
 use Rattle.search.specs.Ends.{arcsOf}
 use Rattle.search.proofs.Laws.{arcs-ends}
 use Rattle.tables.specs.Rows.{netOf}

@@ -6,7 +6,7 @@ use mathlib.Core.Bool.{true, false}
 use mathlib.Core.List.{List}
 use lib.ListN.{length, getD}
 use lib.Dec.{eqb}
-use Rattle.network.specs.Lists.{keep}
+use Rattle.lists.specs.Lists.{keep}
 use Rattle.network.specs.Networks.{Network, basinsOf}
 use Rattle.network.specs.Hangings.{ways, arcs}
 use Rattle.network.specs.Plans.{strong}

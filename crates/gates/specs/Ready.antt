@@ -5,7 +5,7 @@ use mathlib.Core.Path.{_≡_}
 use mathlib.Core.Bool.{true, false}
 use mathlib.Core.List.{List}
 use lib.ListN.{length, getD}
-use Rattle.network.specs.Lists.{range}
+use Rattle.lists.specs.Lists.{range}
 use Rattle.network.specs.Networks.{maxBasins}
 use Rattle.network.specs.Hangings.{Arc, reached}
 use Rattle.network.specs.Plans.{reachesAll}

@@ -15,7 +15,7 @@ use lib.Dec.{leb}
 use borrow.Author.Tests.{leb-true, le-leb, lt-leb}
 use Rattle.network.specs.declared.Kind.the-variants.{Gated, TwoWay}
 use Rattle.network.specs.declared.Reach.{Reach}
-use Rattle.network.specs.Lists.{range}
+use Rattle.lists.specs.Lists.{range}
 use Rattle.network.specs.Networks.{maxReaches}
 use Rattle.network.specs.Tables.{kindOf, tableOf}
 use Rattle.tables.proofs.Laws.{table-of-rows}

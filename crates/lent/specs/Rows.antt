@@ -6,7 +6,7 @@ use mathlib.Core.List.{List, [], map, _++_}
 use lib.ListN.{length, getD, replicate, set, drop}
 use lib.Dec.{leb}
 use Rattle.network.specs.declared.Reach.{Reach}
-use Rattle.network.specs.Lists.{range}
+use Rattle.lists.specs.Lists.{range}
 use Rattle.network.specs.Networks.{maxReaches}
 use Rattle.network.specs.Tables.{kindOf, kindNumber}
 use Rattle.lent.specs.declared.Packed.{Packed}

@@ -10,14 +10,15 @@ use lib.ListN.{length, take, drop, length-append, length-map, length-take, lengt
 use lib.Seq.{length-take-le, take-at, drop-at, take-add, drop-drop, drop-append-le, drop-append-add, take-append-le}
 use lib.Dec.{ltb, eqb}
 use borrow.Author.Tests.{eqb-true, eqb-false}
-use Rattle.network.proofs.Bools.{decide}
+use Rattle.lists.proofs.Bools.{decide}
 use Rattle.network.specs.Networks.{Network}
 use Rattle.tables.specs.Rows.{netOf}
 use Rattle.lines.specs.declared.Due.{Due}
 use Rattle.lines.specs.declared.Due.the-variants as D
 use Rattle.lines.specs.Listings.{line, character, planText}
 use Rattle.lines.specs.Puts.{Put}
-use Rattle.lines.proofs.Puts.{Laid, laid-none, laid-length, laid-end, put-laid, from-on}
+use Rattle.lines.proofs.Puts.{laid-end, put-laid}
+use Rattle.lists.proofs.Lists.{Copied, copied-none, copied-length, take-rest}
 use Rattle.listing.specs.declared.Lister.{Lister}
 use Rattle.listing.specs.declared.Filled.{Filled}
 use Rattle.listing.specs.Pending.{lineOf, linesAfter, gatesHeld, planIn, restOf, pendingOf, lentNet, pending, Filling}
@@ -26,7 +27,7 @@ use Rattle.listing.specs.Parts.{Turned}
 -- n bytes of what is to be printed in l stand in the buffer; the others are to be printed in the state.
 pub record Printing (l : Lister) (kinds a b out out′ : List ℕ) (state : Lister) (n : ℕ) : Type 0 where
   pub basins-kept : state .basins ≡ l .basins
-  pub laid : Laid (pending l kinds a b) out out′ n
+  pub laid : Copied (pending l kinds a b) out out′ n
   pub left : pendingOf (lentNet l kinds a b) state ≡ drop n (pending l kinds a b)
 
 -- no line is longer than its plan by more than eleven bytes
@@ -55,7 +56,7 @@ module _ (l : Lister) (kinds a b out : List ℕ) where
   text = pending l kinds a b
 
   pub print-none : Printing l kinds a b out out l 0
-  print-none = record { basins-kept = refl; laid = laid-none _ _; left = refl }
+  print-none = record { basins-kept = refl; laid = copied-none _ _; left = refl }
 
   module _ (out′ : List ℕ) (state : Lister) (n : ℕ) (p : Printing l kinds a b out out′ state n) where
     -- the network is the same
@@ -86,7 +87,7 @@ module _ (l : Lister) (kinds a b out : List ℕ) where
 
       rest-put : Put rest (drop n out′) part k
       unfolding rest restOf
-      rest-put = rw (held, from-on n out′) at put
+      rest-put = rw (held, take-rest n out′) at put
 
       abbrev filled : List ℕ
       filled = take n out′ ++ (part ++ drop (length out′ - n) (drop n out′))
@@ -125,11 +126,11 @@ module _ (l : Lister) (kinds a b out : List ℕ) where
           ∙ sym (append-assoc (take n text) (take k (drop n text)) (drop (n + k) out))
           ∙ ap (λ (t : List ℕ). t ++ drop (n + k) out) (sym (take-add n k text))
 
-      pub print-laid : Laid text out filled (n + k)
+      pub print-laid : Copied text out filled (n + k)
       print-laid =
           record {
             within = omega (arith, in-rest, p .laid .within, ap length whole, length-drop n text, length-append rest later);
-            room = omega (arith, rest-put .count, length-drop n out′, laid-length (p .laid));
+            room = omega (arith, rest-put .count, length-drop n out′, copied-length (p .laid));
             bytes = filled-is;
           }
 
@@ -159,10 +160,10 @@ module _ (l : Lister) (kinds a b out : List ℕ) where
       pub print-end : n < length out → k ≡ 0 → (restOf N state ≡ [] → pendingOf N state ≡ []) → Filling l kinds a b out filled (record { lister = state; count = n })
       unfolding rest
       print-end room none ended =
-          let gone : restOf N state ≡ [] = empty (restOf N state) (omega (arith, rest-put .count, length-drop n out′, laid-length (p .laid))) in
+          let gone : restOf N state ≡ [] = empty (restOf N state) (omega (arith, rest-put .count, length-drop n out′, copied-length (p .laid))) in
           let same : n + k ≡ n = omega arith in
           printed-in filled
-          (laid-end (subst (λ (m : ℕ). Laid text out filled m) same print-laid)
+          (laid-end (subst (λ (m : ℕ). Copied text out filled m) same print-laid)
           (omega (arith, p .laid .within, ap length (sym (p .left) ∙ ended gone), length-drop n text))
           (omega arith))
 
@@ -171,7 +172,7 @@ module _ (l : Lister) (kinds a b out : List ℕ) where
 module _ {l : Lister} {kinds a b out out′ : List ℕ} {r : Filled} (f : Filling l kinds a b out out′ r) where
   -- the buffer keeps its length, and the bytes lie within it
   pub fill-length : length out′ ≡ length out
-  fill-length = laid-length (put-laid (f .printed))
+  fill-length = copied-length (put-laid (f .printed))
 
   pub fill-within : r .count ≤ length out′
   fill-within = omega (arith, fill-length, f .printed .count)

@@ -10,9 +10,9 @@ use lib.Dec.{eqb, leb, ltb}
 use Rattle.network.specs.declared.Reach.{Reach}
 use Rattle.network.specs.declared.Refusal.{Refusal}
 use Rattle.network.specs.declared.Refusal.the-variants.{BasinCount, TooManyReaches, EndOutOfRange, Truncated, UnknownKind, TrailingBytes, ShortBuffer, BadSetting, LastPlan}
-use Rattle.network.specs.Lists.{elem}
+use Rattle.lists.specs.Lists.{elem}
 use Rattle.network.specs.Networks.{Network, maxBasins, maxReaches}
-use Rattle.network.specs.Words.{wordOf}
+use Rattle.lists.specs.Words.{wordOf}
 use Rattle.network.specs.Plans.{firstPlan}
 use Rattle.network.specs.Replies.{refusalNumber, chosen, shutInFinding, loneFinding, firstAnswer}
 use Rattle.network.proofs.Order.{first-none}

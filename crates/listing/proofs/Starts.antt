@@ -10,13 +10,13 @@ use lib.ListN.{length, take, drop, length-append, length-map}
 use lib.Seq.{take-at, take-nil}
 use lib.Dec.{ltb}
 use borrow.Author.Tests.{le-leb}
+use mathlib.Mathlib.Data.Bool.Basic.{and-intro, and-elim-right, and-elim-left}
 use Rattle.network.specs.declared.Reach.{Reach}
 use Rattle.network.specs.declared.Refusal.{Refusal}
 use Rattle.network.specs.Networks.{maxReaches, Accepted}
 use Rattle.network.specs.Tables.{kindNumber, tableOf}
 use Rattle.network.specs.Replies.{refusalNumber}
 use Rattle.network.proofs.Networks.{accepted}
-use Rattle.network.proofs.Bools.{and-left, and-right, and-make}
 use Rattle.tables.specs.Rows.{netOf}
 use Rattle.netfile.specs.declared.ReadAnswer.{ReadAnswer}
 use Rattle.netfile.specs.declared.ReadAnswer.the-variants.{Refused, Read}
@@ -48,7 +48,7 @@ first-read file {kinds} {a} {b} {kinds′} {a′} {b′} {r} e c =
 pub bytes-first : (m : ℕ) (file : List ℕ) → areBytes file ≡ true → areBytes (take m file) ≡ true
 bytes-first zero file b = refl
 bytes-first (suc m) [] b = refl
-bytes-first (suc m) (x ∷ file) b = and-make (and-left (ltb x 256) _ b) (bytes-first m file (and-right (ltb x 256) _ b))
+bytes-first (suc m) (x ∷ file) b = and-intro (and-elim-left (ltb x 256) _ b) (bytes-first m file (and-elim-right (ltb x 256) _ b))
 
 module _ (file kinds a b kinds′ a′ b′ : List ℕ) where
   -- the file is refused

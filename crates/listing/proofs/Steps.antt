@@ -13,7 +13,7 @@ use Rattle.network.specs.Settings.{settingFault}
 use Rattle.network.specs.Plans.{isPlan}
 use Rattle.network.specs.Marks.{markBytes}
 use Rattle.network.specs.Replies.{Outcome, plan, refused, nextAnswer, nextReply}
-use Rattle.network.proofs.Bools.{clash}
+use Rattle.lists.proofs.Bools.{clash}
 use Rattle.network.proofs.Networks.{accepted}
 use Rattle.network.proofs.Order.{setting-length, plan-setting}
 use Rattle.tables.specs.Rows.{netOf, gatesIn, waysRow, bytesRow}

@@ -6,7 +6,7 @@ use mathlib.Core.Bool.{true}
 use mathlib.Core.List.{List, [], _∷_}
 use mathlib.Core.Option.{some}
 use lib.ListN.{take}
-use Rattle.network.specs.Lists.{elem}
+use Rattle.lists.specs.Lists.{elem}
 use Rattle.network.specs.Networks.{Network}
 use Rattle.network.specs.Plans.{firstPlan}
 use Rattle.netfile.specs.Files.{read, readFile}

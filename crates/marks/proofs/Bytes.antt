@@ -10,10 +10,11 @@ use mathlib.Core.List.{List, [], _∷_, _++_, map}
 use lib.ListN.{length, getD, set, drop}
 use lib.Dec.{eqb}
 use lib.Pow.{pow-mono}
-use Rattle.network.specs.Lists.{range, elem}
+use Rattle.lists.specs.Lists.{range, elem}
 use Rattle.network.specs.Marks.{bit, digits}
-use Rattle.network.proofs.Bools.{fails}
-use Rattle.network.proofs.Finds.{keep-in, range-has, range-in, elem-in, elem-keep}
+use Rattle.lists.proofs.Bools.{fails}
+use Rattle.lists.proofs.Searches.{keep-in, elem-in, elem-keep}
+use Rattle.lists.proofs.Ranges.{range-has, range-in}
 use Rattle.marks.specs.Sets.{markedSet}
 
 -- ---- one basin

@@ -10,8 +10,9 @@ use lib.Seq.{drop-cons, getD-drop, take-add}
 use lib.Count.{ones}
 use lib.Pow.{pow-mono}
 use Rattle.network.specs.Marks.{onesIn}
-use Rattle.network.specs.Words.{wordOf}
-use Rattle.network.proofs.Marks.{word-ones, word-fits}
+use Rattle.lists.specs.Words.{wordOf}
+use Rattle.network.proofs.Marks.{word-ones}
+use Rattle.lists.proofs.Words.{word-fits}
 
 -- Every element is a byte.
 abbrev pub Bytes : List ℕ → Type 0

@@ -4,7 +4,7 @@ use Prim.Native.Nat.{ℕ}
 use mathlib.Core.List.{List}
 use lib.ListN.{getD}
 use lib.Dec.{eqb}
-use Rattle.network.specs.Lists.{range, keep}
+use Rattle.lists.specs.Lists.{range, keep}
 
 -- The basins below n whose byte in `seen` is x.
 abbrev pub markedSet : ℕ → List ℕ → ℕ → List ℕ

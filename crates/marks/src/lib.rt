@@ -4,9 +4,9 @@ ghost use mathlib.Core.Path.{_≡_};
 ghost use mathlib.Core.List.{_++_};
 ghost use Prim.Native.Nat.{_+_, _≤_, _<_};
 ghost use lib.ListN.{length, take, drop};
-ghost use Rattle.network.specs.Lists.{elem};
+ghost use Rattle.lists.specs.Lists.{elem};
 ghost use Rattle.network.specs.Marks.{markBytes, bit, markByte, marksOf, onesIn};
-ghost use Rattle.network.specs.Words.{wordOf};
+ghost use Rattle.lists.specs.Words.{wordOf};
 ghost use Rattle.marks.specs.Sets.{markedSet};
 
 // The bytes of marks.

@@ -5,7 +5,7 @@ use mathlib.Core.Bool.{true}
 use mathlib.Core.Option.{some, Option·some-ne-none}
 use Rattle.network.specs.declared.Refusal.{Refusal}
 use Rattle.network.specs.Networks.{Network, goodCount, goodLength, goodEnds, tableFault, Accepted}
-use Rattle.network.proofs.Bools.{passes}
+use Rattle.lists.proofs.Bools.{passes}
 use Rattle.tables.specs.declared.TableAnswer.the-variants as T
 use Rattle.tables.proofs.Faults.{fault-count, fault-length, fault-ends}
 

@@ -3,7 +3,7 @@
 use mathlib.Core.Path.{_≡_, refl}
 use mathlib.Core.Bool.{true}
 use lib.Dec.{eqb}
-use Rattle.network.specs.Lists.{every}
+use Rattle.lists.specs.Lists.{every}
 use Rattle.netfile.specs.Records.{bodyOf}
 use Rattle.netfile.specs.Files.{readReaches, readFile}
 use Rattle.netfile.specs.Answers.{readingNumber}

@@ -9,15 +9,15 @@ use mathlib.Core.List.{List, [], _∷_, _++_}
 use lib.ListN.{length, take, drop, length-append}
 use lib.Dec.{leb, eqb}
 use borrow.Author.Tests.{leb-true, le-leb, eqb-true, eqb-false}
+use mathlib.Mathlib.Data.Bool.Basic.{and-intro, and-elim-right, and-elim-left}
 use Rattle.network.specs.declared.Kind.{Kind}
 use Rattle.network.specs.declared.Kind.the-variants.{Gated, Flap, TwoWay}
 use Rattle.network.specs.declared.Reach.{Reach}
 use Rattle.network.specs.declared.Refusal.{Refusal}
 use Rattle.network.specs.declared.Refusal.the-variants.{BasinCount, TooManyReaches, EndOutOfRange, TrailingBytes}
-use Rattle.network.specs.Lists.{every}
+use Rattle.lists.specs.Lists.{every}
 use Rattle.network.specs.Networks.{Network, Accepted, maxBasins, maxReaches}
-use Rattle.network.specs.Words.{wordOf}
-use Rattle.network.proofs.Bools.{and-left, and-right, and-make}
+use Rattle.lists.specs.Words.{wordOf}
 use Rattle.netfile.specs.declared.Place.the-variants.{Head, Inside}
 use Rattle.netfile.specs.declared.Taken.{Taken}
 use Rattle.netfile.specs.declared.Taken.the-variants.{Broken, Whole}
@@ -63,8 +63,8 @@ read-reaches n zero [] l h = refl
 read-reaches n (suc left) [] l h = refl
 read-reaches n zero (r ∷ t) l h = absurd (omega arith)
 read-reaches n (suc left) (r ∷ t) l h =
-    one (r .kind) (r .a) (r .b) (and-left (endsBelow n r) _ h)
-    (read-reaches n left t (le-of-suc-le-suc l) (and-right (endsBelow n r) _ h))
+    one (r .kind) (r .a) (r .b) (and-elim-left (endsBelow n r) _ h)
+    (read-reaches n left t (le-of-suc-le-suc l) (and-elim-right (endsBelow n r) _ h))
   where
     rest : List ℕ
     rest = reachRecords t ++ (9 ∷ [])
@@ -175,7 +175,7 @@ unread-reach n left f N k b w q e rec = go (endsBelow n r) refl
           basins = u .basins;
           bytes = reach-again f k (x .0 .reaches) b (s .fits) (v .starts) (reaching k q (v .comes)) (u .bytes);
           few = omega (arith, u .few);
-          ends = and-make g (u .ends);
+          ends = and-intro g (u .ends);
         })
     go false g = no-network EndOutOfRange N (rw g at goes)
 

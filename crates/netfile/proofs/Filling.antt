@@ -11,7 +11,7 @@ use lib.Seq.{take-all, drop-drop, getD-drop, paste, paste-suc}
 use Rattle.network.specs.declared.Reach.{Reach}
 use Rattle.network.specs.Lone.{noReach}
 use Rattle.network.specs.Tables.{kindNumber}
-use Rattle.network.specs.Words.{wordOf}
+use Rattle.lists.specs.Words.{wordOf}
 use Rattle.netfile.specs.Files.{kindIn}
 use Rattle.netfile.specs.Answers.{Rows, Fills, reachAt, reachesAt}
 use Rattle.netfile.proofs.Steps.{reachFrom, reach-in}

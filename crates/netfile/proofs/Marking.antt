@@ -8,7 +8,7 @@ use mathlib.Core.Option.{some}
 use mathlib.Core.Logic.{_⊎_, inl, inr, ⊎-elim}
 use lib.Dec.{eqb}
 use borrow.Author.Tests.{ne-eqb, eqb-true}
-use Rattle.network.proofs.Bools.{or-cases}
+use Rattle.lists.proofs.Bools.{or-cases}
 use Rattle.netfile.specs.declared.Place.{Place}
 use Rattle.netfile.specs.declared.Place.the-variants.{Head, Inside}
 use Rattle.netfile.specs.Records.{bodyOf}

@@ -11,18 +11,18 @@ use lib.ListN.{length, getD, take, drop}
 use lib.Seq.{drop-cons}
 use lib.Dec.{ltb, leb}
 use borrow.Author.Tests.{ne-eqb, ltb-true, leb-true, lt-ltb}
-use Rattle.network.specs.Lists.{every}
-use Rattle.network.specs.Words.{wordOf}
-use Rattle.network.proofs.Bools.{and-left, and-right, and-make}
-use Rattle.network.proofs.Ways.{every-getD}
+use mathlib.Mathlib.Data.Bool.Basic.{and-intro, and-elim-right, and-elim-left}
+use Rattle.lists.specs.Lists.{every}
+use Rattle.lists.specs.Words.{wordOf}
+use Rattle.lists.proofs.Searches.{every-getD}
 use Rattle.netfile.specs.Records.{lookup, bodies, bodyOf, areBytes, twoBytes}
 
 -- a number above all of a table's is not in it
 lookup-above : (k m : ℕ) (t : List (ℕ × ℕ)) → every (λ e. leb (e .0) m) t ≡ true → m < k → lookup k t ≡ none
 lookup-above k m [] h l = refl
 lookup-above k m (e ∷ t) h l =
-    let here : e .0 ≤ m = leb-true _ _ (and-left (leb (e .0) m) _ h) in
-    rw (ne-eqb k (e .0) (λ q. omega arith), lookup) (lookup-above k m t (and-right (leb (e .0) m) _ h) l)
+    let here : e .0 ≤ m = leb-true _ _ (and-elim-left (leb (e .0) m) _ h) in
+    rw (ne-eqb k (e .0) (λ q. omega arith), lookup) (lookup-above k m t (and-elim-right (leb (e .0) m) _ h) l)
 
 -- kinds over 31 have no body
 pub body-above : (k : ℕ) → 31 < k → bodyOf k ≡ none
@@ -55,8 +55,8 @@ byte-at f i b l = ltb-true _ _ (every-getD (λ x. ltb x 256) f i 0 b l)
 pub bytes-drop : (i : ℕ) (f : List ℕ) → areBytes f ≡ true → areBytes (drop i f) ≡ true
 bytes-drop zero f b = b
 bytes-drop (suc i) [] b = b
-bytes-drop (suc i) (x ∷ f) b = bytes-drop i f (and-right (ltb x 256) _ b)
+bytes-drop (suc i) (x ∷ f) b = bytes-drop i f (and-elim-right (ltb x 256) _ b)
 
 pub bytes-make : (f : List ℕ) → ((i : ℕ) → getD f i 0 < 256) → areBytes f ≡ true
 bytes-make [] h = refl
-bytes-make (x ∷ f) h = and-make (lt-ltb x 256 (h 0)) (bytes-make f (λ i. h (suc i)))
+bytes-make (x ∷ f) h = and-intro (lt-ltb x 256 (h 0)) (bytes-make f (λ i. h (suc i)))

@@ -14,7 +14,7 @@ use Rattle.network.specs.declared.Reach.{Reach}
 use Rattle.network.specs.declared.Refusal.{Refusal}
 use Rattle.network.specs.declared.Refusal.the-variants.{BasinCount, Truncated, UnknownKind, TooManyReaches, EndOutOfRange}
 use Rattle.network.specs.Networks.{maxBasins, maxReaches}
-use Rattle.network.specs.Words.{wordOf}
+use Rattle.lists.specs.Words.{wordOf}
 use Rattle.network.proofs.Networks.{endsBelow}
 use Rattle.tables.proofs.Faults.{count-good, count-bad}
 use Rattle.netfile.specs.declared.Place.the-variants.{Head, Inside}

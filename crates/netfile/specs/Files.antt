@@ -10,9 +10,9 @@ use Rattle.network.specs.declared.Kind.the-variants.{Gated, Flap, TwoWay}
 use Rattle.network.specs.declared.Reach.{Reach}
 use Rattle.network.specs.declared.Refusal.{Refusal}
 use Rattle.network.specs.declared.Refusal.the-variants.{BasinCount, TooManyReaches, EndOutOfRange, TrailingBytes}
-use Rattle.network.specs.Lists.{elem}
+use Rattle.lists.specs.Lists.{elem}
 use Rattle.network.specs.Networks.{Network, maxBasins, maxReaches}
-use Rattle.network.specs.Words.{wordOf}
+use Rattle.lists.specs.Words.{wordOf}
 use Rattle.netfile.specs.declared.Place.{Place}
 use Rattle.netfile.specs.declared.Place.the-variants.{Head, Inside}
 use Rattle.netfile.specs.Records.{twoBytes, Front, broken, whole, takeRecord}

@@ -8,7 +8,7 @@ use lib.ListN.{length, take, drop}
 use lib.Dec.{eqb, leb, ltb}
 use Rattle.network.specs.declared.Refusal.{Refusal}
 use Rattle.network.specs.declared.Refusal.the-variants.{Truncated, UnknownKind}
-use Rattle.network.specs.Lists.{every}
+use Rattle.lists.specs.Lists.{every}
 
 -- What stands beside the number k in a table of two columns.
 abbrev pub lookup : ℕ → List (ℕ × ℕ) → Option ℕ

@@ -11,7 +11,7 @@ ghost use lib.ListN.{length, take, drop};
 ghost use lib.Seq.{sets};
 ghost use Rattle.network.specs.Networks.{maxReaches};
 ghost use Rattle.network.specs.Tables.{kindOf, kindNumber, tableOf};
-ghost use Rattle.network.specs.Words.{wordOf};
+ghost use Rattle.lists.specs.Words.{wordOf};
 ghost use Rattle.tables.specs.Rows.{netOf};
 ghost use Rattle.netfile.specs.Records.{bodyOf, twoBytes, takeRecord};
 ghost use Rattle.netfile.specs.Files.{reachKind, kindIn, reachRecord, reachRecords, mayCome, readReaches, readFile};

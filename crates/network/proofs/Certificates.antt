@@ -10,8 +10,8 @@ use mathlib.Core.Logic.{inl}
 use mathlib.Core.Option.{Option, none, some, Option·getD}
 use mathlib.Core.List.{List, List·Memᴰ}
 use lib.ListN.{length}
-use borrow.Author.Tests.{not-false}
-use Rattle.network.specs.Lists.{keep, elem}
+use borrow.Author.Tests.{not-false, not-true}
+use Rattle.lists.specs.Lists.{keep, elem}
 use Rattle.network.specs.Networks.{Network, basinsOf, Accepted}
 use Rattle.network.specs.Settings.{isGated, isSetting}
 use Rattle.network.specs.Hangings.{arc, arcsUnder, reached, unhung}
@@ -19,15 +19,16 @@ use Rattle.network.specs.Plans.{reachesAll, strongUnder, isPlan, passabl
 use Rattle.network.specs.Lone.{reachAt, isLone, lowestLone}
 use Rattle.network.specs.Marks.{markBytes, marksOf, marked, onesIn}
 use Rattle.network.specs.Replies.{shutIn, lone, shutInBasin, shutInSide, loneSide, shutInFinding, loneFinding}
-use Rattle.network.proofs.Bools.{fails, clash, not-true, not-passes}
-use Rattle.network.proofs.Finds.{every-fails, find-some, find-none, find-first, keep-in, keep-same, elem-in, elem-keep}
+use Rattle.lists.proofs.Bools.{fails, clash, not-passes}
+use Rattle.lists.proofs.Searches.{every-fails, find-some, find-none, find-first, keep-in, keep-same, elem-in, elem-keep}
 use Rattle.network.proofs.Marks.{marked-is, unmarked-past, marks-same, count-is}
-use Rattle.network.proofs.Cuts.{reached-on, reached-self}
+use Rattle.network.proofs.Cuts.{reached-on}
 use Rattle.network.proofs.Ways.{looser-within}
 use Rattle.network.proofs.Networks.{accepted, basin-in, basin-below, lowest-is-0, arcs-in-basins}
 use Rattle.network.proofs.Lone.{Alone, alone-facts, alone-same, side-basins, cut-unique, cut-blocks, lone-below, lone-gated, lone-side}
 use Rattle.network.proofs.Theorem.{plan-passable, unhung-2}
 use Rattle.network.proofs.Replies.{lowest-is-lone}
+use Rattle.network.proofs.Walks.{reached-refl}
 
 -- ---- marks of a set of basins
 
@@ -120,7 +121,7 @@ shut-in-shown N ok n =
       onesIn (marksOf S),
       ap (λ (l : List ℕ). shutIn (marksOf l) (onesIn (marksOf l))) side,
       record {
-        inside = (u, basin-below N u (at .1 .basin), mark u (at .1 .basin) ∙ reached-self A u);
+        inside = (u, basin-below N u (at .1 .basin), mark u (at .1 .basin) ∙ reached-refl A u);
         outside = (miss .0, basin-below N (miss .0) (miss .1), mark (miss .0) (miss .1) ∙ miss .2);
         only-basins = λ b e. basin-below N b (marked-basin N ok S basins b e);
         closed = λ s c d hs m e.

@@ -5,11 +5,13 @@ use mathlib.Core.Path.{_≡_, refl, sym, ap, subst, _∙_}
 use mathlib.Core.Bool.{Bool, true, false, not, _&&_, _||_}
 use mathlib.Core.Logic.{_⊎_, ⊎-elim}
 use mathlib.Core.List.{List, List·Memᴰ, Memᴰ·cast}
-use Rattle.network.specs.Hangings.{Arc, arc, Walk, stay, reached}
+use borrow.Author.Tests.{not-true}
+use mathlib.Mathlib.Data.Bool.Basic.{and-intro, and-elim-right, and-elim-left}
+use Rattle.network.specs.Hangings.{Arc, arc, Walk, reached}
 use Rattle.network.specs.Plans.{reachesAll, strong}
-use Rattle.network.proofs.Bools.{and-left, and-right, and-make, or-cases, or-left, or-right, fails, passes, clash, same-test, not-passes, not-true}
-use Rattle.network.proofs.Finds.{every-at, every-make}
-use Rattle.network.proofs.Walks.{Within, walk-trans, walk-arc, walk-along, walk-within, walk-inside, walk-reached, reached-walk}
+use Rattle.lists.proofs.Bools.{or-cases, or-left, or-right, fails, passes, clash, same-test, not-passes}
+use Rattle.lists.proofs.Searches.{every-at, every-make}
+use Rattle.network.proofs.Walks.{Within, walk-trans, walk-arc, walk-along, walk-within, walk-inside, walk-reached, reached-walk, arc-from, arc-to, reached-refl}
 
 -- every basin of bs reaches every other, as walks
 abbrev pub Strong : List ℕ → List Arc → Type 0
@@ -31,15 +33,6 @@ WalkOver A (arc a b) = Walk A a b
 -- what is reached from b is reached from b by one arc more
 pub reached-on : (R : List Arc) (b c d : ℕ) → List·Memᴰ (arc c d) R → reached R b c ≡ true → reached R b d ≡ true
 reached-on R b c d m e = walk-reached (walk-trans (reached-walk R b c e) (walk-arc m))
-
-pub reached-self : (R : List Arc) (b : ℕ) → reached R b b ≡ true
-reached-self R b = walk-reached {A = R} {u = b} stay
-
-from-of : {c d a b : ℕ} → arc c d ≡ arc a b → c ≡ a
-from-of e = cc
-
-to-of : {c d a b : ℕ} → arc c d ≡ arc a b → d ≡ b
-to-of e = cc
 
 -- A is R with the arc from a to b
 pub record OneMore (R A : List Arc) (a b : ℕ) : Type 0 where
@@ -64,12 +57,12 @@ detour {R} {A₁} {A₂} {a} {b} one two back p = walk-along over p
 
 -- With only the arc from a to b more, b leads to a just if it did before.
 pub came-back : {R A : List Arc} {a b : ℕ} → OneMore R A a b → Walk A b a → reached R b a ≡ true
-came-back {R} {A} {a} {b} one p = passes (reached R b a) (λ n. clash (walk-inside (reached R b) (closed n) p (reached-self R b)) n)
+came-back {R} {A} {a} {b} one p = passes (reached R b a) (λ n. clash (walk-inside (reached R b) (closed n) p (reached-refl R b)) n)
   where
     closed : reached R b a ≡ false → (c d : ℕ) → List·Memᴰ (arc c d) A → reached R b c ≡ true → reached R b d ≡ true
     closed n c d m e =
         ⊎-elim
-        (λ same. clash (subst (λ (x : ℕ). reached R b x ≡ true) (from-of same) e) n)
+        (λ same. clash (subst (λ (x : ℕ). reached R b x ≡ true) (arc-from same) e) n)
         (λ m′. reached-on R b c d m′ e)
         (one .only (arc c d) m)
 
@@ -80,28 +73,28 @@ module _ (bs : List ℕ) (R A : List Arc) (a b : ℕ) (two : TwoMore R A a b) (s
     (ba : reached R b a ≡ false) (ab : reached R a b ≡ false) where
   -- either leads to each basin
   cover : (v : ℕ) → List·Memᴰ v bs → reached R b v || reached R a v ≡ true
-  cover v mv = walk-inside (λ x. reached R b x || reached R a x) closed (str b v inb mv) (or-left _ (reached-self R b))
+  cover v mv = walk-inside (λ x. reached R b x || reached R a x) closed (str b v inb mv) (or-left _ (reached-refl R b))
     where
       closed : (c d : ℕ) → List·Memᴰ (arc c d) A → reached R b c || reached R a c ≡ true → reached R b d || reached R a d ≡ true
       closed c d m e =
           ⊎-elim
-          (λ same. subst (λ (x : ℕ). reached R b x || reached R a x ≡ true) (sym (to-of same)) (or-left _ (reached-self R b)))
+          (λ same. subst (λ (x : ℕ). reached R b x || reached R a x ≡ true) (sym (arc-to same)) (or-left _ (reached-refl R b)))
           (⊎-elim
-          (λ same. subst (λ (x : ℕ). reached R b x || reached R a x ≡ true) (sym (to-of same)) (or-right (reached R b a) (reached-self R a)))
+          (λ same. subst (λ (x : ℕ). reached R b x || reached R a x ≡ true) (sym (arc-to same)) (or-right (reached R b a) (reached-refl R a)))
           (λ m′. ⊎-elim (λ p. or-left _ (reached-on R b c d m′ p)) (λ p. or-right (reached R b d) (reached-on R a c d m′ p)) (or-cases (reached R b c) _ e)))
           (two (arc c d) m)
 
   -- and never both
   apart : (v : ℕ) → List·Memᴰ v bs → reached R b v ≡ true → reached R a v ≡ true → ⊥
-  apart v mv pb pa = clash (and-left (reached R b a) _ (walk-inside (λ x. reached R b x && reached R a x) closed (str v a mv ina) (and-make pb pa))) ba
+  apart v mv pb pa = clash (and-elim-left (reached R b a) _ (walk-inside (λ x. reached R b x && reached R a x) closed (str v a mv ina) (and-intro pb pa))) ba
     where
       closed : (c d : ℕ) → List·Memᴰ (arc c d) A → reached R b c && reached R a c ≡ true → reached R b d && reached R a d ≡ true
       closed c d m e =
           ⊎-elim
-          (λ same. clash (subst (λ (x : ℕ). reached R b x ≡ true) (from-of same) (and-left (reached R b c) _ e)) ba)
+          (λ same. clash (subst (λ (x : ℕ). reached R b x ≡ true) (arc-from same) (and-elim-left (reached R b c) _ e)) ba)
           (⊎-elim
-          (λ same. clash (subst (λ (x : ℕ). reached R a x ≡ true) (from-of same) (and-right (reached R b c) _ e)) ab)
-          (λ m′. and-make (reached-on R b c d m′ (and-left (reached R b c) _ e)) (reached-on R a c d m′ (and-right (reached R b c) _ e))))
+          (λ same. clash (subst (λ (x : ℕ). reached R a x ≡ true) (arc-from same) (and-elim-right (reached R b c) _ e)) ab)
+          (λ m′. and-intro (reached-on R b c d m′ (and-elim-left (reached R b c) _ e)) (reached-on R a c d m′ (and-elim-right (reached R b c) _ e))))
           (two (arc c d) m)
 
   pub bridge : (c d : ℕ) → List·Memᴰ (arc c d) R → reached R b c ≡ reached R b d
@@ -126,10 +119,10 @@ pub one-crossing : (A : List Arc) (S : ℕ → Bool) (p q u v : ℕ) → ((c d :
 one-crossing A S p q u v f there back = go (S p) refl
   where
     inside : S p ≡ false → (c d : ℕ) → List·Memᴰ (arc c d) A → S c ≡ true → S d ≡ true
-    inside n c d m e = ⊎-elim (λ same. clash e (ap S (from-of same) ∙ n)) (λ same. sym same ∙ e) (f c d m)
+    inside n c d m e = ⊎-elim (λ same. clash e (ap S (arc-from same) ∙ n)) (λ same. sym same ∙ e) (f c d m)
 
     outside : S p ≡ true → (c d : ℕ) → List·Memᴰ (arc c d) A → not (S c) ≡ true → not (S d) ≡ true
-    outside y c d m e = ⊎-elim (λ same. clash (ap S (from-of same) ∙ y) (not-true (S c) e)) (λ same. not-passes (sym same ∙ not-true (S c) e)) (f c d m)
+    outside y c d m e = ⊎-elim (λ same. clash (ap S (arc-from same) ∙ y) (not-true (S c) e)) (λ same. not-passes (sym same ∙ not-true (S c) e)) (f c d m)
 
     go : (b : Bool) → S p ≡ b → S u ≡ S v
     go false n = same-test (S u) (S v) (walk-inside S (inside n) there) (walk-inside S (inside n) back)

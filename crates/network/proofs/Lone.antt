@@ -5,51 +5,28 @@ use native.Mathlib.Omega.{arith}
 use native.Mathlib.Decide.{ℕ-discrete, decLt}
 use mathlib.Core.Path.{_≡_, refl, sym, ap, subst, subst⁻¹, _∙_}
 use mathlib.Core.Bool.{Bool, true, false, not, _&&_, Bool·beq, false≢true}
-use mathlib.Core.Logic.{_⊎_, inl, inr, ⊎-elim, _≢_}
+use mathlib.Core.Logic.{inl, inr, ⊎-elim, _≢_}
 use mathlib.Core.Option.{Option, none, some, Option·getD}
 use mathlib.Core.List.{List, [], _∷_, map, List·Memᴰ, List·Memᴰ·head, List·Memᴰ·tail, List·Memᴰ·not-nil, List·Memᴰ·cases-cons, Memᴰ·append-left, Memᴰ·append-right, List·Memᴰ·append-cases, Memᴰ·map, Memᴰ·of-map}
 use lib.ListN.{length, getD, List·getD-eq-default}
 use lib.Dec.{eqb}
-use borrow.Author.Tests.{eqb-true, eq-eqb, ne-eqb, not-false}
+use borrow.Author.Tests.{eqb-true, eq-eqb, ne-eqb, not-false, not-true}
+use mathlib.Mathlib.Data.Bool.Basic.{and-intro, and-elim-right, and-elim-left}
 use Rattle.network.specs.declared.Reach.{Reach}
-use Rattle.network.specs.Lists.{range, some?, find, keep, elem}
+use Rattle.lists.specs.Lists.{range, some?, find, keep, elem}
 use Rattle.network.specs.Networks.{Network, basinsOf, lowestBasin, Accepted}
 use Rattle.network.specs.Settings.{isGated, gateCount, isSetting}
 use Rattle.network.specs.Hangings.{Arc, arc, passing, arcs, ways, arcsUnder}
 use Rattle.network.specs.Plans.{strong, strongUnder, isPlan}
 use Rattle.network.specs.Lone.{sides, divides, crosses, noReach, reachAt, crossesAlone, isLone}
 use Rattle.network.specs.Replies.{loneSide}
-use Rattle.network.proofs.Bools.{and-left, and-right, and-make, decide, passes, clash, not-passes, not-fails, not-true}
-use Rattle.network.proofs.Finds.{every-at, every-make, some-make, some-has, find-some, find-none, range-has, range-in, elem-keep}
+use Rattle.lists.proofs.Bools.{decide, passes, clash, not-passes, not-fails, beq-true, beq-make, both-differ, differ-not}
+use Rattle.lists.proofs.Searches.{every-at, every-make, some-make, some-has, find-some, find-none, elem-keep}
+use Rattle.lists.proofs.Ranges.{range-has, range-in}
 use Rattle.network.proofs.Walks.{walk-inside}
 use Rattle.network.proofs.Cuts.{strong-walks, one-crossing}
 use Rattle.network.proofs.Ways.{passingAt, arcs-in, gate-small}
 use Rattle.network.proofs.Networks.{accepted, basin-in, lowest-in, reach-alike, arc-alike}
-
--- ---- tests that differ
-
-beq-true : (x y : Bool) → Bool·beq x y ≡ true → x ≡ y
-beq-true true true e = refl
-beq-true true false e = absurd (false≢true e)
-beq-true false true e = absurd (false≢true e)
-beq-true false false e = refl
-
-beq-make : (x y : Bool) → x ≡ y → Bool·beq x y ≡ true
-beq-make true y e = rw (← e)
-beq-make false y e = rw (← e)
-
--- two pairs of tests, each of which differs, agree or differ alike
-both-differ : (x y x′ y′ : Bool) → not (Bool·beq x y) ≡ true → not (Bool·beq x′ y′) ≡ true → Bool·beq x x′ ≡ Bool·beq y y′
-both-differ true true x′ y′ e f = absurd (false≢true e)
-both-differ false false x′ y′ e f = absurd (false≢true e)
-both-differ true false true true e f = absurd (false≢true f)
-both-differ true false true false e f = refl
-both-differ true false false true e f = refl
-both-differ true false false false e f = absurd (false≢true f)
-both-differ false true true true e f = absurd (false≢true f)
-both-differ false true true false e f = refl
-both-differ false true false true e f = refl
-both-differ false true false false e f = absurd (false≢true f)
 
 -- ---- sides
 
@@ -123,12 +100,12 @@ lone-below N i e = go (decLt i (length (N .reaches)))
     go : Dec (i < length (N .reaches)) → i < length (N .reaches)
     go (yes l) = l
     go (no n) =
-        clash (and-left (isGated ((reachAt N i) .kind)) _ e)
+        clash (and-elim-left (isGated ((reachAt N i) .kind)) _ e)
         (ap (λ (r : Reach). isGated (r .kind)) (List·getD-eq-default (N .reaches) noReach {n = i} (omega arith)))
 
 pub lone-gated : (N : Network) (i : ℕ) → isLone N i ≡ true → isGated ((reachAt N i) .kind) ≡ true
 unfolding isLone
-lone-gated N i e = and-left (isGated ((reachAt N i) .kind)) _ e
+lone-gated N i e = and-elim-left (isGated ((reachAt N i) .kind)) _ e
 
 -- a division that reach i crosses alone
 pub record Cut (N : Network) (i : ℕ) (S : List ℕ) : Type 0 where
@@ -140,8 +117,8 @@ pub lone-cut : (N : Network) (i : ℕ) → isLone N i ≡ true → (S : List ℕ
 unfolding isLone
 lone-cut N i e =
     let test : List ℕ → Bool = λ S. divides (basinsOf N) S && crossesAlone N S i in
-    let k = some-has test (sides (basinsOf N)) (and-right (isGated ((reachAt N i) .kind)) _ e) in
-    (k .0, record { side = k .1; division = and-left (divides (basinsOf N) (k .0)) _ (k .2); alone = and-right (divides (basinsOf N) (k .0)) _ (k .2) })
+    let k = some-has test (sides (basinsOf N)) (and-elim-right (isGated ((reachAt N i) .kind)) _ e) in
+    (k .0, record { side = k .1; division = and-elim-left (divides (basinsOf N) (k .0)) _ (k .2); alone = and-elim-right (divides (basinsOf N) (k .0)) _ (k .2) })
 
 -- the basins that pass a test S are such a division if reach i alone crosses S
 pub cut-of : (N : Network) → Accepted N → (i : ℕ) → i < length (N .reaches) → (S : ℕ → Bool) → Alone N S i → Cut N i (keep S (basinsOf N))
@@ -159,7 +136,7 @@ cut-of N ok i l S f =
 
     inside : (x y : ℕ) → List·Memᴰ x (basinsOf N) → List·Memᴰ y (basinsOf N) → S x ≡ true → S y ≡ false → divides (basinsOf N) (keep S (basinsOf N)) ≡ true
     inside x y mx my px py =
-        and-make
+        and-intro
         (some-make (λ b. elem b (keep S (basinsOf N))) mx (elem-keep S mx ∙ px))
         (some-make (λ b. not (elem b (keep S (basinsOf N)))) my (not-passes (elem-keep S my ∙ py)))
 
@@ -176,7 +153,7 @@ pub lone-make : (N : Network) → Accepted N → (i : ℕ) → i < length (N .re
 unfolding isLone
 lone-make N ok i l g S f =
     let c = cut-of N ok i l S f in
-    and-make g (some-make (λ S. divides (basinsOf N) S && crossesAlone N S i) (c .side) (and-make (c .division) (c .alone)))
+    and-intro g (some-make (λ S. divides (basinsOf N) S && crossesAlone N S i) (c .side) (and-intro (c .division) (c .alone)))
 
 -- ---- no plan across a cut
 
@@ -189,16 +166,16 @@ one-arc (suc (suc x)) a b l = absurd (omega arith)
 pub plan-gate-small : (N : Network) (s : List ℕ) (i : ℕ) → isPlan N s ≡ true → i < length (N .reaches) → isGated ((reachAt N i) .kind) ≡ true → getD (ways (N .reaches) s) i 3 ≤ 1
 unfolding isPlan isSetting
 plan-gate-small N s i e l g =
-    let set : isSetting N s ≡ true = and-left (isSetting N s) _ e in
-    gate-small (N .reaches) s i (eqb-true (length s) (gateCount N) (and-left (eqb (length s) (gateCount N)) _ set)) (and-right (eqb (length s) (gateCount N)) _ set) l g
+    let set : isSetting N s ≡ true = and-elim-left (isSetting N s) _ e in
+    gate-small (N .reaches) s i (eqb-true (length s) (gateCount N) (and-elim-left (eqb (length s) (gateCount N)) _ set)) (and-elim-right (eqb (length s) (gateCount N)) _ set) l g
 
 -- If a reach alone crosses a division and passes one way only, not everything reaches everything.
 pub cut-parts : (N : Network) (i : ℕ) (S : List ℕ) → i < length (N .reaches) → Cut N i S → (ws : List ℕ) → getD ws i 3 ≤ 1 → strong (basinsOf N) (arcs (N .reaches) ws) ≡ true → ⊥
 cut-parts N i S l cut ws small e =
     let f = alone-facts N S i l (cut .alone) in
     let one = one-arc (getD ws i 3) ((reachAt N i) .a) ((reachAt N i) .b) small in
-    let u = some-has (λ b. elem b S) (basinsOf N) (and-left (some? (λ b. elem b S) (basinsOf N)) _ (cut .division)) in
-    let v = some-has (λ b. not (elem b S)) (basinsOf N) (and-right (some? (λ b. elem b S) (basinsOf N)) _ (cut .division)) in
+    let u = some-has (λ b. elem b S) (basinsOf N) (and-elim-left (some? (λ b. elem b S) (basinsOf N)) _ (cut .division)) in
+    let v = some-has (λ b. not (elem b S)) (basinsOf N) (and-elim-right (some? (λ b. elem b S) (basinsOf N)) _ (cut .division)) in
     let str = strong-walks (basinsOf N) (arcs (N .reaches) ws) e in
     let alike : elem (u .0) S ≡ elem (v .0) S =
     one-crossing (arcs (N .reaches) ws) (λ b. elem b S) (one .0) (one .1) (u .0) (v .0)
@@ -214,7 +191,7 @@ cut-parts N i S l cut ws small e =
 -- so no setting is a plan if a gated reach does
 pub cut-blocks : (N : Network) (i : ℕ) (S : List ℕ) → i < length (N .reaches) → isGated ((reachAt N i) .kind) ≡ true → Cut N i S → (s : List ℕ) → isPlan N s ≡ true → ⊥
 unfolding isPlan strongUnder
-cut-blocks N i S l g cut s e = cut-parts N i S l cut (ways (N .reaches) s) (plan-gate-small N s i e l g) (and-right (isSetting N s) _ e)
+cut-blocks N i S l g cut s e = cut-parts N i S l cut (ways (N .reaches) s) (plan-gate-small N s i e l g) (and-elim-right (isSetting N s) _ e)
 
 -- a lone reach that is hung, whatever else is
 pub lone-parts : (N : Network) (i : ℕ) → isLone N i ≡ true → (ws : List ℕ) → getD ws i 3 ≤ 1 → strong (basinsOf N) (arcs (N .reaches) ws) ≡ true → ⊥
@@ -245,12 +222,6 @@ cut-unique N ok h str i S S′ f f′ low b m =
 
 -- ---- the side of a lone reach without the lowest basin
 
-differ-not : (x y : Bool) → not (Bool·beq x y) ≡ true → not (Bool·beq (not x) (not y)) ≡ true
-differ-not true true e = e
-differ-not true false e = e
-differ-not false true e = e
-differ-not false false e = e
-
 pub alone-rest : (N : Network) (S : ℕ → Bool) (i : ℕ) → Alone N S i → Alone N (λ b. not (S b)) i
 alone-rest N S i f = record { crossing = differ-not (S ((reachAt N i) .a)) (S ((reachAt N i) .b)) (f .crossing); others = λ j l n. ap not (f .others j l n) }
 
@@ -266,7 +237,7 @@ lone-side N ok i e = found (find test (sides (basinsOf N))) refl
     test S = not (elem (lowestBasin N) S) && (divides (basinsOf N) S && crossesAlone N S i)
 
     passing-test : (S : List ℕ) → Cut N i S → elem (lowestBasin N) S ≡ false → find test (sides (basinsOf N)) ≡ none → ⊥
-    passing-test S c w n = clash (and-make (not-passes w) (and-make (c .division) (c .alone))) (find-none test n (c .side))
+    passing-test S c w n = clash (and-intro (not-passes w) (and-intro (c .division) (c .alone))) (find-none test n (c .side))
 
     some-side : find test (sides (basinsOf N)) ≡ none → ⊥
     some-side n =
@@ -287,8 +258,8 @@ lone-side N ok i e = found (find test (sides (basinsOf N))) refl
           cut =
               record {
                 side = k .0;
-                division = and-left (divides (basinsOf N) S) _ (and-right (not (elem (lowestBasin N) S)) _ (k .1));
-                alone = and-right (divides (basinsOf N) S) _ (and-right (not (elem (lowestBasin N) S)) _ (k .1));
+                division = and-elim-left (divides (basinsOf N) S) _ (and-elim-right (not (elem (lowestBasin N) S)) _ (k .1));
+                alone = and-elim-right (divides (basinsOf N) S) _ (and-elim-right (not (elem (lowestBasin N) S)) _ (k .1));
               };
-          without = not-true (elem (lowestBasin N) S) (and-left (not (elem (lowestBasin N) S)) _ (k .1));
+          without = not-true (elem (lowestBasin N) S) (and-elim-left (not (elem (lowestBasin N) S)) _ (k .1));
         }

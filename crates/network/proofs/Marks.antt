@@ -1,25 +1,25 @@
 -- The laws of marks: which basin each bit stands for, that the ones in the bytes count the basins, and that a word's ones are its bytes'.
 -- Assumes nothing.
 use Prim.Native.Nat.{ℕ, zero, suc, _+_, _-_, _*_, _/_, _%_, _^_, _≤_, _<_}
-use native.Mathlib.Nat.{add-comm, add-assoc, zero-add, add-zero, suc-add, add-suc, pow-suc}
+use native.Mathlib.Nat.{add-comm, zero-add, pow-suc}
 use native.Mathlib.Decide.{decLt}
 use native.Mathlib.Omega.{arith}
-use mathlib.Core.Path.{_≡_, refl, sym, ap, ap₂, _∙_}
+use mathlib.Core.Path.{_≡_, refl, sym, ap, _∙_}
 use mathlib.Core.Bool.{Bool, true, false, cond}
-use mathlib.Core.List.{List, [], _∷_, _++_, map}
+use mathlib.Core.List.{List, [], _∷_, map}
 use lib.ListN.{length, getD, List·getD-eq-default}
 use lib.Dec.{eqb}
-use lib.Pow.{pow-add}
 use lib.Count.{ones, ones-cat, ones-step}
-use Rattle.network.specs.Lists.{range, keep, elem}
+use Rattle.lists.specs.Lists.{range, keep, elem}
 use Rattle.network.specs.Marks.{markBytes, bit, digits, markByte, marksOf, bitAt, marked, onesIn}
-use Rattle.network.specs.Words.{wordOf}
-use Rattle.network.proofs.Bools.{fails}
-use Rattle.network.proofs.Finds.{keep-in, range-has, range-in, elem-in, elem-keep}
+use Rattle.lists.specs.Words.{wordOf}
+use Rattle.lists.proofs.Bools.{fails}
+use Rattle.lists.proofs.Searches.{keep-in, elem-in, elem-keep, keep-same, keep-none, count-append}
+use Rattle.lists.proofs.Ranges.{range-in, range-add, map-range-at, map-range-same}
 
 -- ---- a number by its binary digits: its size and its bits
 
-bit-lt : (x : Bool) → bit x < 2
+pub bit-lt : (x : Bool) → bit x < 2
 bit-lt true = omega arith
 bit-lt false = omega arith
 
@@ -27,9 +27,13 @@ digits-lt : (xs : List Bool) → digits xs < 2 ^ length xs
 digits-lt [] = omega arith
 digits-lt (x ∷ xs) = rw pow-suc (omega (arith, bit-lt x, digits-lt xs))
 
-bit-is : (x : Bool) → eqb (bit x) 1 ≡ x
+pub bit-is : (x : Bool) → eqb (bit x) 1 ≡ x
 bit-is true = refl
 bit-is false = refl
+
+pub bit-0 : (x : Bool) → bit x ≡ 0 → x ≡ false
+bit-0 true e = absurd (omega arith)
+bit-0 false e = refl
 
 bit-of-zero : (j : ℕ) → bitAt j 0 ≡ false
 bit-of-zero zero = refl
@@ -46,45 +50,17 @@ bit-of-digits j [] = bit-of-zero j
 bit-of-digits zero (x ∷ xs) = rw low-digit (bit-is x)
 bit-of-digits (suc j) (x ∷ xs) = rw rest-digits (bit-of-digits j xs)
 
--- ---- lists over the numbers from i on, n of them
-
-module _ {A : Type 0} (f : ℕ → A) where
-  at-range : (d : A) (i n k : ℕ) → k < n → getD (map f (range i n)) k d ≡ f (i + k)
-  at-range d i zero k h = absurd (omega arith)
-  at-range d i (suc n) zero h = ap f (omega arith)
-  at-range d i (suc n) (suc k) h = at-range d (suc i) n k (omega arith) ∙ ap f (omega arith)
-
-  same-map : (g : ℕ → A) (i n : ℕ) → ((j : ℕ) → i ≤ j → j < i + n → f j ≡ g j) → map f (range i n) ≡ map g (range i n)
-  same-map g i zero h = refl
-  same-map g i (suc n) h = ap₂ {C = List A} (λ x xs. x ∷ xs) (h i (omega arith) (omega arith)) (same-map g (suc i) n (λ j l u. h j (omega arith) (omega arith)))
-
-range-add : (i m n : ℕ) → range i (m + n) ≡ range i m ++ range (i + m) n
-range-add i zero n = rw (zero-add, add-zero)
-range-add i (suc m) n = rw (suc-add, range-add (suc i) m n, add-suc, suc-add)
-
 -- ---- how many members pass a test
 
 count-one : (b : Bool) (x : ℕ) (xs : List ℕ) → length (cond b (x ∷ xs) xs) ≡ bit b + length xs
 count-one true x xs = omega arith
 count-one false x xs = omega arith
 
-count-append : (p : ℕ → Bool) (xs ys : List ℕ) → length (keep p (xs ++ ys)) ≡ length (keep p xs) + length (keep p ys)
-count-append p [] ys = omega arith
-count-append p (x ∷ xs) ys = simp (count-one, count-append p xs ys, add-assoc)
-
-count-none : (xs : List ℕ) → length (keep (λ b. false) xs) ≡ 0
-count-none [] = refl
-count-none (x ∷ xs) = count-none xs
-
 -- as many as there are ones in the number whose digits the test gives
 ones-of-digits : (p : ℕ → Bool) (xs : List ℕ) → ones (digits (map p xs)) ≡ length (keep p xs)
 unfolding ones
 ones-of-digits p [] = refl
 ones-of-digits p (x ∷ xs) = rw (ones-step, low-digit, rest-digits, ones-of-digits p xs, count-one)
-
--- tests that agree count the same
-same-count : (p q : ℕ → Bool) (i n : ℕ) → ((j : ℕ) → i ≤ j → j < i + n → p j ≡ q j) → length (keep p (range i n)) ≡ length (keep q (range i n))
-same-count p q i n h = rw (← ones-of-digits p (range i n), same-map p q i n h) (ones-of-digits q (range i n))
 
 -- The ones in the n bytes of marks from byte k on count the members of S from 8 * k on, up to 8 * n further.
 ones-of-bytes : (S : List ℕ) (k n : ℕ) → onesIn (map (markByte S) (range k n)) ≡ length (keep (λ b. elem b S) (range (8 * k) (8 * n)))
@@ -105,7 +81,7 @@ length-marks S = refl
 -- Byte k of the marks.
 byte-is : (S : List ℕ) (k : ℕ) → k < markBytes → getD (marksOf S) k 0 ≡ markByte S k
 unfolding marksOf
-byte-is S k h = at-range (markByte S) 0 0 markBytes k h ∙ ap (markByte S) (zero-add k)
+byte-is S k h = map-range-at (markByte S) 0 0 markBytes k h ∙ ap (markByte S) (zero-add k)
 
 -- Past the marks.
 past-marks : (S : List ℕ) (k : ℕ) → markBytes ≤ k → getD (marksOf S) k 0 ≡ 0
@@ -125,7 +101,7 @@ unfolding marked
 marked-is S b h =
     ap (bitAt (b % 8)) (byte-is S (b / 8) (omega arith))
     ∙ bit-of-digits (b % 8) (map (λ c. elem c S) (range (8 * (b / 8)) 8))
-    ∙ at-range (λ c. elem c S) false (8 * (b / 8)) 8 (b % 8) (omega arith)
+    ∙ map-range-at (λ c. elem c S) false (8 * (b / 8)) 8 (b % 8) (omega arith)
     ∙ ap (λ (c : ℕ). elem c S) (omega arith)
 
 -- No basin past the marks is marked.
@@ -136,8 +112,8 @@ unmarked-past S b h = rw (past-marks S (b / 8) (omega arith)) (bit-of-zero (b % 
 -- Sets with the same basins have the same marks.
 pub marks-same : (S S′ : List ℕ) → ((b : ℕ) → b < 8 * markBytes → elem b S ≡ elem b S′) → marksOf S ≡ marksOf S′
 unfolding marksOf
-marks-same S S′ h = same-map (markByte S) (markByte S′) 0 markBytes
-    (λ k _ u. ap digits (same-map (λ b. elem b S) (λ b. elem b S′) (8 * k) 8 (λ b _ v. h b (omega arith))))
+marks-same S S′ h = map-range-same (markByte S) (markByte S′) 0 markBytes
+    (λ k _ u. ap digits (map-range-same (λ b. elem b S) (λ b. elem b S′) (8 * k) 8 (λ b _ v. h b (omega arith))))
 
 -- Sets with the same marks have the same basins.
 pub marks-inj : (S S′ : List ℕ) → marksOf S ≡ marksOf S′ → (b : ℕ) → b < 8 * markBytes → elem b S ≡ elem b S′
@@ -150,12 +126,12 @@ count-below : (p : ℕ → Bool) (n d : ℕ) → length (keep (λ b. elem b (kee
 count-below p n d =
     let S : List ℕ = keep p (range 0 n) in
     let is : ℕ → Bool = λ b. elem b S in
-    let inside : length (keep is (range 0 n)) ≡ length S = same-count is p 0 n (λ b l u. elem-keep p (range-has 0 n l u)) in
-    let outside : length (keep is (range (0 + n) d)) ≡ 0 =
-    same-count is (λ b. false) (0 + n) d
-    (λ b l u. fails (elem b S) (λ e. let r = range-in 0 n (keep-in p (range 0 n) (elem-in b S e) .0) in omega arith))
-    ∙ count-none (range (0 + n) d) in
-    rw range-add (count-append is (range 0 n) (range (0 + n) d) ∙ omega arith)
+    let inside : keep is (range 0 n) ≡ S = keep-same is p (range 0 n) (λ b m. elem-keep p m) in
+    let outside : keep is (range (0 + n) d) ≡ [] =
+    keep-same is (λ b. false) (range (0 + n) d)
+    (λ b m. fails (elem b S) (λ e. let r = range-in 0 n (keep-in p (range 0 n) (elem-in b S e) .0) in let r′ = range-in (0 + n) d m in omega arith))
+    ∙ keep-none (range (0 + n) d) in
+    rw range-add (count-append is (range 0 n) (range (0 + n) d) ∙ omega (arith, ap length inside, ap length outside))
 
 -- The same in k bytes that have a bit for every basin below n.
 count-in-bytes : (p : ℕ → Bool) (n k : ℕ) → n ≤ 8 * k → onesIn (map (markByte (keep p (range 0 n))) (range 0 k)) ≡ length (keep p (range 0 n))
@@ -177,13 +153,3 @@ word-ones [] h = refl
 word-ones (x ∷ xs) h =
     let turned : x + 256 * wordOf xs ≡ wordOf xs * 2 ^ 8 + x = omega arith in
     rw (turned, ones-cat 8 (wordOf xs) x (h 0), word-ones xs (λ i. h (suc i))) (add-comm (onesIn xs) (ones x))
-
--- A word has 8 bits for each of its bytes.
-pub word-fits : (xs : List ℕ) → ((i : ℕ) → getD xs i 0 < 256) → wordOf xs < 2 ^ (8 * length xs)
-word-fits [] h = omega arith
-word-fits (x ∷ xs) h =
-    let more : 8 * suc (length xs) ≡ 8 * length xs + 8 = omega arith in
-    rw (more, pow-add 2 (8 * length xs) 8) (omega (arith, h 0, word-fits xs (λ i. h (suc i))))
-
-pub word-fits-64 : (xs : List ℕ) → length xs ≡ 8 → ((i : ℕ) → getD xs i 0 < 256) → wordOf xs < 2 ^ 64
-word-fits-64 xs e h = rw e at (word-fits xs h)

@@ -1,7 +1,6 @@
 -- What an accepted network has: its counts and the ends of its reaches, and so of its arcs.
 -- Assumes nothing.
 use Prim.Native.Nat.{ℕ, zero, suc, _≤_, _<_}
-use native.Mathlib.Nat.{not-suc-le-zero, le-of-suc-le-suc}
 use native.Mathlib.Omega.{arith}
 use mathlib.Core.Path.{_≡_, refl, sym, ap, subst, _∙_}
 use mathlib.Core.Bool.{Bool, true, false, not, cond, _&&_}
@@ -11,16 +10,20 @@ use mathlib.Core.List.{List, [], _∷_, List·Memᴰ, List·Memᴰ·not-nil, Lis
 use lib.ListN.{length, getD}
 use lib.Dec.{leb, ltb}
 use borrow.Author.Tests.{leb-true, ltb-true}
+use mathlib.Mathlib.Data.Bool.Basic.{and-elim-right, and-elim-left}
+use Rattle.lists.proofs.Lists.{length-cond-le}
+use Rattle.lists.proofs.Searches.{every-getD}
 use Rattle.network.specs.declared.Reach.{Reach}
 use Rattle.network.specs.declared.Refusal.{Refusal}
 use Rattle.network.specs.declared.Refusal.the-variants.{BasinCount, TooManyReaches, EndOutOfRange}
-use Rattle.network.specs.Lists.{every, range}
 use Rattle.network.specs.Networks.{Network, maxBasins, maxReaches, basinsOf, lowestBasin, goodCount, goodLength, goodEnds, tableFault, Accepted}
+use Rattle.network.specs.Tables.{kindOf}
+use Rattle.network.specs.Settings.{isGated, gatesFrom, gateCount}
 use Rattle.network.specs.Hangings.{arc, passing, arcs}
 use Rattle.network.specs.Lone.{noReach, reachAt}
-use Rattle.network.proofs.Bools.{and-left, and-right}
-use Rattle.network.proofs.Finds.{range-has, range-in}
+use Rattle.lists.proofs.Ranges.{range-has, range-in, range-head}
 use Rattle.network.proofs.Ways.{arcs-in}
+use Rattle.network.proofs.Walks.{arc-from, arc-to}
 
 -- an end is below the basin count
 abbrev pub endsBelow : ℕ → Reach → Bool
@@ -37,25 +40,36 @@ passed : (b : Bool) (r : Refusal) (rest : Option Refusal) → cond (not b) (some
 passed true r rest e = (refl, e)
 passed false r rest e = absurd (Option·some-ne-none r e)
 
-every-reach : (p : Reach → Bool) (t : List Reach) (i : ℕ) → every p t ≡ true → i < length t → p (getD t i noReach) ≡ true
-every-reach p [] i e l = absurd (not-suc-le-zero l)
-every-reach p (r ∷ t) zero e l = and-left (p r) _ e
-every-reach p (r ∷ t) (suc i) e l = every-reach p t i (and-right (p r) _ e) (le-of-suc-le-suc l)
-
 pub accepted : (N : Network) → Accepted N → Facts N
 unfolding tableFault
 accepted N e =
     let one = passed (goodCount N) BasinCount _ e in
     let two = passed (goodLength N) TooManyReaches _ (one .1) in
     let three = passed (goodEnds N) EndOutOfRange none (two .1) in
-    let ends : (i : ℕ) → i < length (N .reaches) → endsBelow (N .basins) (reachAt N i) ≡ true = λ i l. every-reach (endsBelow (N .basins)) (N .reaches) i (three .0) l in
+    let ends : (i : ℕ) → i < length (N .reaches) → endsBelow (N .basins) (reachAt N i) ≡ true = λ i l. every-getD (endsBelow (N .basins)) (N .reaches) i noReach (three .0) l in
     record {
-      some-basin = leb-true 1 (N .basins) (and-left (leb 1 (N .basins)) _ (one .0));
-      few-basins = leb-true (N .basins) maxBasins (and-right (leb 1 (N .basins)) _ (one .0));
+      some-basin = leb-true 1 (N .basins) (and-elim-left (leb 1 (N .basins)) _ (one .0));
+      few-basins = leb-true (N .basins) maxBasins (and-elim-right (leb 1 (N .basins)) _ (one .0));
       few-reaches = leb-true (length (N .reaches)) maxReaches (two .0);
-      end-a = λ i l. ltb-true ((reachAt N i) .a) (N .basins) (and-left (ltb ((reachAt N i) .a) (N .basins)) _ (ends i l));
-      end-b = λ i l. ltb-true ((reachAt N i) .b) (N .basins) (and-right (ltb ((reachAt N i) .a) (N .basins)) _ (ends i l));
+      end-a = λ i l. ltb-true ((reachAt N i) .a) (N .basins) (and-elim-left (ltb ((reachAt N i) .a) (N .basins)) _ (ends i l));
+      end-b = λ i l. ltb-true ((reachAt N i) .b) (N .basins) (and-elim-right (ltb ((reachAt N i) .a) (N .basins)) _ (ends i l));
     }
+
+-- ---- kinds and gates
+
+-- only the kind 0 is gated
+pub not-gated : (k : ℕ) → (k ≡ 0 → ⊥) → isGated (kindOf k) ≡ false
+not-gated zero n = absurd (n refl)
+not-gated (suc zero) n = refl
+not-gated (suc (suc k)) n = refl
+
+-- there are no more gated reaches than reaches, and so no more than a network may have
+pub gates-below : (o : ℕ) (t : List Reach) → length (gatesFrom o t) ≤ length t
+gates-below o [] = omega arith
+gates-below o (r ∷ t) = length-cond-le (isGated (r .kind)) o (gatesFrom (suc o) t) (length t) (gates-below (suc o) t)
+
+pub gates-fit : (N : Network) → Accepted N → gateCount N ≤ maxReaches
+gates-fit N ok = omega (arith, gates-below 0 (N .reaches), accepted N ok .few-reaches)
 
 -- ---- basins
 
@@ -65,13 +79,9 @@ basin-in N b l = range-has 0 (N .basins) (omega arith) (omega arith)
 pub basin-below : (N : Network) (b : ℕ) → List·Memᴰ b (basinsOf N) → b < N .basins
 basin-below N b m = omega (arith, (range-in 0 (N .basins) m) .1)
 
-head-range : (n : ℕ) → getD (range 0 n) 0 0 ≡ 0
-head-range zero = refl
-head-range (suc n) = refl
-
 -- the lowest basin is basin 0
 pub lowest-is-0 : (N : Network) → lowestBasin N ≡ 0
-lowest-is-0 N = head-range (N .basins)
+lowest-is-0 N = range-head (N .basins)
 
 pub lowest-in : (N : Network) → Accepted N → List·Memᴰ (lowestBasin N) (basinsOf N)
 lowest-in N ok = basin-in N (lowestBasin N) (omega (arith, lowest-is-0 N, (accepted N ok) .some-basin))
@@ -86,22 +96,16 @@ passing-ends (suc (suc zero)) a b c d m =
     ⊎-elim (λ e. inl e) (λ m′. ⊎-elim (λ e. inr e) (λ n. absurd (List·Memᴰ·not-nil n)) (List·Memᴰ·cases-cons m′)) (List·Memᴰ·cases-cons m)
 passing-ends (suc (suc (suc x))) a b c d m = absurd (List·Memᴰ·not-nil m)
 
-from-of : {c d a b : ℕ} → arc c d ≡ arc a b → a ≡ c
-from-of e = cc
-
-to-of : {c d a b : ℕ} → arc c d ≡ arc a b → b ≡ d
-to-of e = cc
-
 pub reach-alike : (f : ℕ → Bool) (x a b c d : ℕ) → f a ≡ f b → List·Memᴰ (arc c d) (passing x a b) → f c ≡ f d
 reach-alike f x a b c d same m =
-    ⊎-elim (λ e. sym (ap f (from-of e)) ∙ same ∙ ap f (to-of e)) (λ e. sym (ap f (from-of e)) ∙ sym same ∙ ap f (to-of e)) (passing-ends x a b c d m)
+    ⊎-elim (λ e. ap f (arc-from e) ∙ same ∙ sym (ap f (arc-to e))) (λ e. ap f (arc-from e) ∙ sym same ∙ sym (ap f (arc-to e))) (passing-ends x a b c d m)
 
 -- what holds of both ends of each reach holds of both ends of each arc
 pub arc-ends : (P : ℕ → Type 0) (t : List Reach) (ws : List ℕ) → ((i : ℕ) → i < length t → P ((getD t i noReach) .a) × P ((getD t i noReach) .b)) → (c d : ℕ) → List·Memᴰ (arc c d) (arcs t ws) → P c × P d
 arc-ends P t ws f c d m =
     let s = arcs-in t ws (arc c d) m in
     let p = f (s .reach) (s .below) in
-    ⊎-elim (λ e. (subst P (from-of e) (p .0), subst P (to-of e) (p .1))) (λ e. (subst P (from-of e) (p .1), subst P (to-of e) (p .0))) (passing-ends (getD ws (s .reach) 3) _ _ c d (s .passes))
+    ⊎-elim (λ e. (subst P (sym (arc-from e)) (p .0), subst P (sym (arc-to e)) (p .1))) (λ e. (subst P (sym (arc-from e)) (p .1), subst P (sym (arc-to e)) (p .0))) (passing-ends (getD ws (s .reach) 3) _ _ c d (s .passes))
 
 pub arcs-in-basins : (N : Network) → Accepted N → (ws : List ℕ) (c d : ℕ) → List·Memᴰ (arc c d) (arcs (N .reaches) ws) → List·Memᴰ c (basinsOf N) × List·Memᴰ d (basinsOf N)
 arcs-in-basins N ok ws =

@@ -11,26 +11,27 @@ use native.Mathlib.Omega.{arith}
 use lib.ListN.{length}
 use lib.Dec.{leb, ltb, eqb}
 use borrow.Author.Tests.{ltb-true, ltb-false, leb-true, eqb-true, eq-eqb, lt-ltb}
-use Rattle.network.specs.Lists.{every, find}
+use mathlib.Mathlib.Data.Bool.Basic.{and-intro, and-elim-right, and-elim-left}
+use Rattle.lists.specs.Lists.{every, find}
 use Rattle.network.specs.Networks.{Network}
 use Rattle.network.specs.Settings.{gateCount, isSetting, before, settings}
 use Rattle.network.specs.Plans.{isPlan, strongUnder, firstPlan, nextPlan}
-use Rattle.network.proofs.Bools.{and-left, and-right, and-make, or-cases, or-left, or-right, decide, fails, passes, clash, same-test}
-use Rattle.network.proofs.Finds.{find-some, find-none, find-same, find-append, find-map}
+use Rattle.lists.proofs.Bools.{or-cases, or-left, or-right, decide, fails, passes, clash, same-test}
+use Rattle.lists.proofs.Searches.{find-some, find-none, find-same, find-append, find-map}
 
 -- What before says at the first byte.
 before-cons : (x y : ℕ) (s t : List ℕ) → before (x ∷ s) (y ∷ t) ≡ true → (x < y) ⊎ ((x ≡ y) × (before s t ≡ true))
 before-cons x y s t h =
     ⊎-elim
     (λ e. inl (ltb-true x y e))
-    (λ e. inr (eqb-true x y (and-left (eqb x y) (before s t) e), and-right (eqb x y) (before s t) e))
+    (λ e. inr (eqb-true x y (and-elim-left (eqb x y) (before s t) e), and-elim-right (eqb x y) (before s t) e))
     (or-cases (ltb x y) (eqb x y && before s t) h)
 
 before-less : (x y : ℕ) (s t : List ℕ) → x < y → before (x ∷ s) (y ∷ t) ≡ true
 before-less x y s t h = or-left (eqb x y && before s t) (lt-ltb x y h)
 
 before-rest : (x y : ℕ) (s t : List ℕ) → x ≡ y → before s t ≡ true → before (x ∷ s) (y ∷ t) ≡ true
-before-rest x y s t e h = or-right (ltb x y) (and-make (eq-eqb x y e) h)
+before-rest x y s t e h = or-right (ltb x y) (and-intro (eq-eqb x y e) h)
 
 before-not : (x : ℕ) (s t : List ℕ) → before s t ≡ false → before (x ∷ s) (x ∷ t) ≡ false
 before-not x s t h = fails (before (x ∷ s) (x ∷ t)) (λ k. ⊎-elim (λ l. omega arith) (λ r. clash (r .1) h) (before-cons x x s t k))
@@ -102,8 +103,8 @@ settings-make zero [] e h = List·Memᴰ·head refl
 settings-make zero (x ∷ s) e h = absurd (omega arith)
 settings-make (suc g) [] e h = absurd (omega arith)
 settings-make (suc g) (x ∷ s) e h =
-    let m = settings-make g s (omega arith) (and-right (leb x 1) (every (λ x. leb x 1) s) h) in
-    let l : x ≤ 1 = leb-true x 1 (and-left (leb x 1) (every (λ x. leb x 1) s) h) in
+    let m = settings-make g s (omega arith) (and-elim-right (leb x 1) (every (λ x. leb x 1) s) h) in
+    let l : x ≤ 1 = leb-true x 1 (and-elim-left (leb x 1) (every (λ x. leb x 1) s) h) in
     ⊎-elim
     (λ e. rw e (Memᴰ·append-right (map (λ s. 0 ∷ s) (settings g)) (Memᴰ·map (λ s. 1 ∷ s) m)))
     (λ k. let e : x ≡ 0 = omega arith in rw e (Memᴰ·append-left (map (λ s. 1 ∷ s) (settings g)) (Memᴰ·map (λ s. 0 ∷ s) m)))
@@ -111,14 +112,14 @@ settings-make (suc g) (x ∷ s) e h =
 
 pub setting-length : (N : Network) (s : List ℕ) → isSetting N s ≡ true → length s ≡ gateCount N
 unfolding isSetting
-setting-length N s h = eqb-true (length s) (gateCount N) (and-left (eqb (length s) (gateCount N)) (every (λ x. leb x 1) s) h)
+setting-length N s h = eqb-true (length s) (gateCount N) (and-elim-left (eqb (length s) (gateCount N)) (every (λ x. leb x 1) s) h)
 
 pub settings-has : (N : Network) (s : List ℕ) → isSetting N s ≡ true → List·Memᴰ s (settings (gateCount N))
 unfolding isSetting
-settings-has N s h = settings-make (gateCount N) s (setting-length N s h) (and-right (eqb (length s) (gateCount N)) (every (λ x. leb x 1) s) h)
+settings-has N s h = settings-make (gateCount N) s (setting-length N s h) (and-elim-right (eqb (length s) (gateCount N)) (every (λ x. leb x 1) s) h)
 
 under-in : (b g : ℕ) {s : List ℕ} → leb b 1 ≡ true → ((r : List ℕ) → List·Memᴰ r (settings g) → (length r ≡ g) × (every (λ x. leb x 1) r ≡ true)) → Under b g s → (length s ≡ suc g) × (every (λ x. leb x 1) s ≡ true)
-under-in b g h f u = let r = f (u .0) (u .1) in rw (← u .2) (ap suc (r .0), and-make h (r .1))
+under-in b g h f u = let r = f (u .0) (u .1) in rw (← u .2) (ap suc (r .0), and-intro h (r .1))
 
 pub settings-in : (g : ℕ) {s : List ℕ} → List·Memᴰ s (settings g) → (length s ≡ g) × (every (λ x. leb x 1) s ≡ true)
 settings-in zero m = rw (List·Memᴰ·eq-of-singleton m) (refl, refl)
@@ -157,7 +158,7 @@ earliest-found g p {s} m h k = go (find p (settings g)) refl
 -- A plan is a setting.
 pub plan-setting : (N : Network) (s : List ℕ) → isPlan N s ≡ true → isSetting N s ≡ true
 unfolding isPlan
-plan-setting N s h = and-left (isSetting N s) (strongUnder N s) h
+plan-setting N s h = and-elim-left (isSetting N s) (strongUnder N s) h
 
 pub plan-in : (N : Network) (s : List ℕ) → isPlan N s ≡ true → List·Memᴰ s (settings (gateCount N))
 plan-in N s h = settings-has N s (plan-setting N s h)
@@ -190,24 +191,24 @@ module _ (N : Network) (s : List ℕ) where
   next-passes h = (find-some later-plan (settings (gateCount N)) h) .1
 
   pub next-is-plan : {p : List ℕ} → nextPlan N s ≡ some p → isPlan N p ≡ true
-  next-is-plan {p} h = and-right (before s p) (isPlan N p) (next-passes h)
+  next-is-plan {p} h = and-elim-right (before s p) (isPlan N p) (next-passes h)
 
   pub next-is-later : {p : List ℕ} → nextPlan N s ≡ some p → before s p ≡ true
-  next-is-later {p} h = and-left (before s p) (isPlan N p) (next-passes h)
+  next-is-later {p} h = and-elim-left (before s p) (isPlan N p) (next-passes h)
 
   pub next-is-earliest : {p : List ℕ} → nextPlan N s ≡ some p → (q : List ℕ) → isPlan N q ≡ true → before s q ≡ true → before q p ≡ false
   unfolding nextPlan
-  next-is-earliest h q k l = earliest (gateCount N) later-plan h q (plan-in N q k) (and-make l k)
+  next-is-earliest h q k l = earliest (gateCount N) later-plan h q (plan-in N q k) (and-intro l k)
 
   pub next-none : nextPlan N s ≡ none → (q : List ℕ) → isPlan N q ≡ true → before s q ≡ true → ⊥
   unfolding nextPlan
-  next-none h q k l = clash (and-make l k) (find-none later-plan h (plan-in N q k))
+  next-none h q k l = clash (and-intro l k) (find-none later-plan h (plan-in N q k))
 
   pub next-unique : (p : List ℕ) → isPlan N p ≡ true → before s p ≡ true → ((q : List ℕ) → isPlan N q ≡ true → before s q ≡ true → before q p ≡ false) → nextPlan N s ≡ some p
   unfolding nextPlan
   next-unique p h l k =
-      earliest-found (gateCount N) later-plan (plan-in N p h) (and-make l h)
-      (λ q m e. k q (and-right (before s q) (isPlan N q) e) (and-left (before s q) (isPlan N q) e))
+      earliest-found (gateCount N) later-plan (plan-in N p h) (and-intro l h)
+      (λ q m e. k q (and-elim-right (before s q) (isPlan N q) e) (and-elim-left (before s q) (isPlan N q) e))
 
 -- If a plan comes after s up to and including t, it is no later than the next plan of s and earlier than that of t.
 next-apart : (N : Network) (s t p : List ℕ) → isSetting N t ≡ true → isPlan N p ≡ true → before s p ≡ true → before t p ≡ false → nextPlan N s ≡ nextPlan N t → ⊥
@@ -227,11 +228,11 @@ next-together N s t e h n = find-same (later-plan N s) (later-plan N t) (setting
   where
     forth : (p : List ℕ) → later-plan N s p ≡ true → later-plan N t p ≡ true
     forth p k =
-        let plan = and-right (before s p) (isPlan N p) k in
-        and-make (passes (before t p) (n p plan (and-left (before s p) (isPlan N p) k))) plan
+        let plan = and-elim-right (before s p) (isPlan N p) k in
+        and-intro (passes (before t p) (n p plan (and-elim-left (before s p) (isPlan N p) k))) plan
 
     back : (p : List ℕ) → later-plan N t p ≡ true → later-plan N s p ≡ true
-    back p k = and-make (before-from s t p e h (and-left (before t p) (isPlan N p) k)) (and-right (before t p) (isPlan N p) k)
+    back p k = and-intro (before-from s t p e h (and-elim-left (before t p) (isPlan N p) k)) (and-elim-right (before t p) (isPlan N p) k)
 
 -- Two settings, the first not after the second, have the same next plan exactly if no plan comes after the first up to and including the second.
 pub next-same : (N : Network) (s t : List ℕ) → isSetting N s ≡ true → isSetting N t ≡ true → before t s ≡ false → (nextPlan N s ≡ nextPlan N t) ↔ ((p : List ℕ) → isPlan N p ≡ true → before s p ≡ true → before t p ≡ false → ⊥)

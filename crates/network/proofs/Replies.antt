@@ -10,14 +10,15 @@ use mathlib.Core.List.{List, []}
 use lib.ListN.{length}
 use Rattle.network.specs.declared.Refusal.{Refusal}
 use Rattle.network.specs.declared.Refusal.the-variants.{BasinCount, TooManyReaches, EndOutOfRange, Truncated, UnknownKind, TrailingBytes, ShortBuffer, BadSetting, LastPlan}
-use Rattle.network.specs.Lists.{range}
+use Rattle.lists.specs.Lists.{range}
 use Rattle.network.specs.Networks.{Network, Accepted}
 use Rattle.network.specs.Settings.{isSetting, before}
 use Rattle.network.specs.Plans.{isPlan, passable, firstPlan, nextPlan}
 use Rattle.network.specs.Lone.{isLone, lowestLone}
 use Rattle.network.specs.Replies.{Outcome, plan, shutIn, lone, refused, refusalNumber, number, planIn, reachIn, marksIn, countIn, SameReply, shutInFinding, loneFinding, chosen, orLone, answer, firstAnswer, nextAnswer}
-use Rattle.network.proofs.Bools.{fails, clash}
-use Rattle.network.proofs.Finds.{find-some, find-none, range-has}
+use Rattle.lists.proofs.Bools.{fails, clash}
+use Rattle.lists.proofs.Searches.{find-some, find-none}
+use Rattle.lists.proofs.Ranges.{range-has}
 use Rattle.network.proofs.Order.{first-is-plan, first-none, next-none, next-is-plan, next-is-later, next-same}
 use Rattle.network.proofs.Lone.{lone-below, lone-blocks}
 use Rattle.network.proofs.Theorem.{theorem, plan-passable}

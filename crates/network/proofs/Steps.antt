@@ -13,9 +13,9 @@ use Rattle.network.specs.Settings.{isGated}
 use Rattle.network.specs.Hangings.{Arc, arc, passing, arcs, reached}
 use Rattle.network.specs.Plans.{strong}
 use Rattle.network.specs.Lone.{reachAt, isLone}
-use Rattle.network.proofs.Bools.{same-test}
-use Rattle.network.proofs.Walks.{reached-walk}
-use Rattle.network.proofs.Cuts.{OneMore, TwoMore, strong-walks, walks-strong, detour, came-back, bridge, other-side, reached-self}
+use Rattle.lists.proofs.Bools.{same-test}
+use Rattle.network.proofs.Walks.{reached-walk, reached-refl}
+use Rattle.network.proofs.Cuts.{OneMore, TwoMore, strong-walks, walks-strong, detour, came-back, bridge, other-side}
 use Rattle.network.proofs.Ways.{arcs-has, split-in, split-own, split-rest, passingAt}
 use Rattle.network.proofs.Networks.{accepted, basin-in, arcs-in-basins}
 use Rattle.network.proofs.Lone.{Alone, lone-make}
@@ -85,7 +85,7 @@ module _ (N : Network) (ok : Accepted N) (ws : List ℕ) (i : ℕ) (below : i < 
       (ba : reached (under 3) endB endA ≡ false) (ab : reached (under 3) endA endB ≡ false) where
     -- Where both ways lose something, the reach alone crosses the side that B leads to without it.
     pub stuck-alone : Alone N (reached (under 3) endB) i
-    stuck-alone = record { crossing = rw (ba, reached-self (under 3) endB); others = others }
+    stuck-alone = record { crossing = rw (ba, reached-refl (under 3) endB); others = others }
       where
         level : (c d : ℕ) → List·Memᴰ (arc c d) (under 3) → reached (under 3) endB c ≡ reached (under 3) endB d
         level = bridge (basinsOf N) (under 3) (under 2) endA endB both (strong-walks (basinsOf N) (under 2) str) (arcs-in-basins N ok (set ws i 3)) in-a in-b ba ab

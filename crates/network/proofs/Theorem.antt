@@ -5,30 +5,28 @@ use native.Mathlib.Omega.{arith}
 use native.Mathlib.Nat.{not-suc-le-zero}
 use native.Mathlib.Decide.{ℕ-discrete, decLt, decLe}
 use mathlib.Core.Path.{_≡_, refl, sym, ap, subst, subst⁻¹, _∙_}
-use mathlib.Core.Bool.{Bool, true, false}
+use mathlib.Core.Bool.{true, false}
 use mathlib.Core.Logic.{_⊎_, inl, inr, ⊎-elim, _↔_}
-use mathlib.Core.List.{List, [], _∷_}
-use lib.ListN.{length, getD, set, replicate, length-set, length-replicate, List·getD-eq-default}
+use mathlib.Core.List.{List}
+use lib.ListN.{length, getD, set, length-set, length-replicate, List·getD-eq-default}
 use lib.Seq.{getD-set-same, getD-set-other, set-getD}
 use lib.Dec.{leb, eqb}
 use borrow.Author.Tests.{eqb-true, eq-eqb, leb-true, le-leb}
-use Rattle.network.specs.Lists.{every}
+use mathlib.Mathlib.Data.Bool.Basic.{and-intro, and-elim-right, and-elim-left}
+use Rattle.lists.proofs.Lists.{getD-replicate-all}
 use Rattle.network.specs.Networks.{Network, basinsOf, Accepted}
 use Rattle.network.specs.Settings.{gates, gateCount, isSetting}
 use Rattle.network.specs.Hangings.{Arc, arcs, ways, arcsUnder, reached, isHanging, unhung}
 use Rattle.network.specs.Plans.{strong, strongUnder, isPlan, passable}
 use Rattle.network.specs.Lone.{reachAt, isLone}
-use Rattle.network.proofs.Bools.{and-left, and-right, and-make, decide, fails, clash}
+use Rattle.lists.proofs.Bools.{decide, fails, clash}
 use Rattle.network.proofs.Cuts.{strong-within}
-use Rattle.network.proofs.Ways.{Gate, gate-at, length-ways, way-small, every-getD, Looser, looser-within}
+use Rattle.network.proofs.Ways.{Gate, gate-at, length-ways, way-small, Looser, looser-within}
+use Rattle.lists.proofs.Searches.{every-getD, every-from}
 use Rattle.network.proofs.Lone.{lone-blocks}
 use Rattle.network.proofs.Steps.{hang-drawn, hang-turned, stuck-lone}
 
 -- ---- hangings, byte by byte
-
-pub every-from : (p : ℕ → Bool) (xs : List ℕ) (d : ℕ) → ((i : ℕ) → i < length xs → p (getD xs i d) ≡ true) → every p xs ≡ true
-every-from p [] d f = refl
-every-from p (x ∷ xs) d f = and-make (f 0 (omega arith)) (every-from p xs d (λ i l. f (suc i) (omega arith)))
 
 -- one byte for each gate, each up to 2
 pub record Hung (N : Network) (h : List ℕ) : Type 0 where
@@ -37,33 +35,33 @@ pub record Hung (N : Network) (h : List ℕ) : Type 0 where
 
 pub hanging-hung : (N : Network) (h : List ℕ) → isHanging N h ≡ true → Hung N h
 unfolding isHanging
-hanging-hung N h e = record { size = eqb-true (length h) (gateCount N) (and-left (eqb (length h) (gateCount N)) _ e); small = λ k. at k (decLt k (length h)) }
+hanging-hung N h e = record { size = eqb-true (length h) (gateCount N) (and-elim-left (eqb (length h) (gateCount N)) _ e); small = λ k. at k (decLt k (length h)) }
   where
     at : (k : ℕ) → Dec (k < length h) → getD h k 2 ≤ 2
-    at k (yes l) = leb-true (getD h k 2) 2 (every-getD (λ x. leb x 2) h k 2 (and-right (eqb (length h) (gateCount N)) _ e) l)
+    at k (yes l) = leb-true (getD h k 2) 2 (every-getD (λ x. leb x 2) h k 2 (and-elim-right (eqb (length h) (gateCount N)) _ e) l)
     at k (no n) = rw (List·getD-eq-default h 2 {n = k} (omega arith)) (omega arith)
 
 pub hung-hanging : (N : Network) (h : List ℕ) → Hung N h → isHanging N h ≡ true
 unfolding isHanging
-hung-hanging N h f = and-make (eq-eqb (length h) (gateCount N) (f .size)) (every-from (λ x. leb x 2) h 2 (λ i l. le-leb (getD h i 2) 2 (f .small i)))
+hung-hanging N h f = and-intro (eq-eqb (length h) (gateCount N) (f .size)) (every-from (λ x. leb x 2) h 2 (λ i l. le-leb (getD h i 2) 2 (f .small i)))
 
 -- a hanging with a byte for each gate that is 0 or 1 is a setting
 pub hung-setting : (N : Network) (h : List ℕ) → Hung N h → ((k : ℕ) → k < gateCount N → getD h k 2 ≤ 1) → isSetting N h ≡ true
 unfolding isSetting
-hung-setting N h f small = and-make (eq-eqb (length h) (gateCount N) (f .size)) (every-from (λ x. leb x 1) h 2 (λ i l. le-leb (getD h i 2) 1 (small i (subst (λ (n : ℕ). i < n) (f .size) l))))
+hung-setting N h f small = and-intro (eq-eqb (length h) (gateCount N) (f .size)) (every-from (λ x. leb x 1) h 2 (λ i l. le-leb (getD h i 2) 1 (small i (subst (λ (n : ℕ). i < n) (f .size) l))))
 
 pub setting-byte : (N : Network) (s : List ℕ) → isSetting N s ≡ true → (k : ℕ) → k < gateCount N → getD s k 2 ≤ 1
 unfolding isSetting
 setting-byte N s e k l =
     leb-true (getD s k 2) 1
-    (every-getD (λ x. leb x 1) s k 2 (and-right (eqb (length s) (gateCount N)) _ e) (omega (arith, eqb-true (length s) (gateCount N) (and-left (eqb (length s) (gateCount N)) _ e))))
+    (every-getD (λ x. leb x 1) s k 2 (and-elim-right (eqb (length s) (gateCount N)) _ e) (omega (arith, eqb-true (length s) (gateCount N) (and-elim-left (eqb (length s) (gateCount N)) _ e))))
 
 pub setting-hung : (N : Network) (s : List ℕ) → isSetting N s ≡ true → Hung N s
 unfolding isSetting
 setting-hung N s e = record { size = size; small = λ k. at k (decLt k (gateCount N)) }
   where
     size : length s ≡ gateCount N
-    size = eqb-true (length s) (gateCount N) (and-left (eqb (length s) (gateCount N)) _ e)
+    size = eqb-true (length s) (gateCount N) (and-elim-left (eqb (length s) (gateCount N)) _ e)
 
     at : (k : ℕ) → Dec (k < gateCount N) → getD s k 2 ≤ 2
     at k (yes l) = omega (arith, setting-byte N s e k l)
@@ -77,13 +75,8 @@ hang-set N h k x small f = record { size = length-set h k x ∙ f .size; small =
     at j (yes e) (no n) = rw (List·getD-eq-default (set h k x) 2 {n = j} (omega (arith, length-set h k x, e))) (omega arith)
     at j (no n) d = rw (getD-set-other h k j x 2 n) (f .small j)
 
-replicate-2 : (g k : ℕ) → _≡_ {A = ℕ} (getD (replicate g 2) k 2) 2
-replicate-2 zero k = refl
-replicate-2 (suc g) zero = refl
-replicate-2 (suc g) (suc k) = replicate-2 g k
-
 pub unhung-2 : (N : Network) (k : ℕ) → getD (unhung N) k 2 ≡ 2
-unhung-2 N k = replicate-2 (gateCount N) k
+unhung-2 N k = getD-replicate-all (gateCount N) k 2
 
 pub unhung-hung : (N : Network) → Hung N (unhung N)
 unhung-hung N = record { size = length-replicate (gateCount N) 2; small = λ k. rw (unhung-2 N k) (omega arith) }
@@ -95,7 +88,7 @@ looser-strong N h h′ f e = strong-within (basinsOf N) (arcsUnder N h) (arcsUnd
 
 pub plan-reaches : (N : Network) (s : List ℕ) → isPlan N s ≡ true → strongUnder N s ≡ true
 unfolding isPlan
-plan-reaches N s e = and-right (isSetting N s) _ e
+plan-reaches N s e = and-elim-right (isSetting N s) _ e
 
 -- ---- the step
 
@@ -199,7 +192,7 @@ module _ (N : Network) (ok : Accepted N) (bridgeless : (i : ℕ) → isLone N i 
   complete-from : (n k : ℕ) (h : List ℕ) → k + n ≡ gateCount N → Hung N h → ((j : ℕ) → j < k → getD h j 2 ≤ 1) → strongUnder N h ≡ true → Completed N h
   unfolding isPlan
   complete-from zero k h e hung below str =
-      record { setting = h; is-plan = and-make (hung-setting N h hung (λ j l. below j (omega arith))) str; looser = looser-refl h }
+      record { setting = h; is-plan = and-intro (hung-setting N h hung (λ j l. below j (omega arith))) str; looser = looser-refl h }
   complete-from (suc n) k h e hung below str =
       complete-one k h (omega arith) hung below str (λ h′ hung′ below′ str′. complete-from n (suc k) h′ (omega arith) hung′ below′ str′)
 

@@ -3,12 +3,13 @@
 use Prim.Native.Nat.{ℕ}
 use mathlib.Core.Path.{_≡_, refl, subst}
 use mathlib.Core.Bool.{Bool, true}
-use mathlib.Core.Logic.{_⊎_, ⊎-elim}
+use mathlib.Core.Logic.{⊎-elim}
 use mathlib.Core.List.{List, [], _∷_, List·Memᴰ, List·Memᴰ·head, List·Memᴰ·tail, List·Memᴰ·not-nil, List·Memᴰ·cases-cons}
 use lib.Dec.{eqb}
 use borrow.Author.Tests.{eqb-true, eq-eqb}
+use mathlib.Mathlib.Data.Bool.Basic.{and-intro, and-elim-right, and-elim-left}
 use Rattle.network.specs.Hangings.{Arc, arc, Walk, stay, step, reached}
-use Rattle.network.proofs.Bools.{and-left, and-right, and-make, or-cases, or-left, or-right, same-test}
+use Rattle.lists.proofs.Bools.{or-cases, or-left, or-right, same-test}
 
 -- B has every arc of A
 abbrev pub Within : List Arc → List Arc → Type 0
@@ -34,15 +35,15 @@ pub walk-inside : {A : List Arc} {u v : ℕ} (S : ℕ → Bool) → ((a b : ℕ)
 walk-inside S f stay h = h
 walk-inside S f (step {u = a} {v = b} m p) h = walk-inside S f p (f a b m h)
 
-arc-from : {a b c d : ℕ} → arc a b ≡ arc c d → a ≡ c
+pub arc-from : {a b c d : ℕ} → arc a b ≡ arc c d → a ≡ c
 arc-from e = cc
 
-arc-to : {a b c d : ℕ} → arc a b ≡ arc c d → b ≡ d
+pub arc-to : {a b c d : ℕ} → arc a b ≡ arc c d → b ≡ d
 arc-to e = cc
 
 -- ---- the test decides
 
-reached-refl : (A : List Arc) (u : ℕ) → reached A u u ≡ true
+pub reached-refl : (A : List Arc) (u : ℕ) → reached A u u ≡ true
 reached-refl [] u = eq-eqb u u refl
 reached-refl (arc a b ∷ A) u = or-left _ (reached-refl A u)
 
@@ -52,11 +53,11 @@ reached-trans (arc a b ∷ A) u v w p q =
     ⊎-elim
     (λ uv. ⊎-elim
     (λ vw. or-left _ (reached-trans A u v w uv vw))
-    (λ va-bw. or-right (reached A u w) (and-make (reached-trans A u v a uv (and-left (reached A v a) _ va-bw)) (and-right (reached A v a) _ va-bw)))
+    (λ va-bw. or-right (reached A u w) (and-intro (reached-trans A u v a uv (and-elim-left (reached A v a) _ va-bw)) (and-elim-right (reached A v a) _ va-bw)))
     (or-cases (reached A v w) _ q))
     (λ ua-bv. ⊎-elim
-    (λ vw. or-right (reached A u w) (and-make (and-left (reached A u a) _ ua-bv) (reached-trans A b v w (and-right (reached A u a) _ ua-bv) vw)))
-    (λ va-bw. or-right (reached A u w) (and-make (and-left (reached A u a) _ ua-bv) (and-right (reached A v a) _ va-bw)))
+    (λ vw. or-right (reached A u w) (and-intro (and-elim-left (reached A u a) _ ua-bv) (reached-trans A b v w (and-elim-right (reached A u a) _ ua-bv) vw)))
+    (λ va-bw. or-right (reached A u w) (and-intro (and-elim-left (reached A u a) _ ua-bv) (and-elim-right (reached A v a) _ va-bw)))
     (or-cases (reached A v w) _ q))
     (or-cases (reached A u v) _ p)
 
@@ -64,7 +65,7 @@ reached-arc : (A : List Arc) (u v : ℕ) → List·Memᴰ (arc u v) A → reache
 reached-arc [] u v m = absurd (List·Memᴰ·not-nil m)
 reached-arc (arc a b ∷ A) u v m =
     ⊎-elim
-    (λ e. or-right (reached A u v) (and-make (subst (λ (x : ℕ). reached A u x ≡ true) (arc-from e) (reached-refl A u)) (subst (λ (x : ℕ). reached A x v ≡ true) (arc-to e) (reached-refl A v))))
+    (λ e. or-right (reached A u v) (and-intro (subst (λ (x : ℕ). reached A u x ≡ true) (arc-from e) (reached-refl A u)) (subst (λ (x : ℕ). reached A x v ≡ true) (arc-to e) (reached-refl A v))))
     (λ m′. or-left _ (reached-arc A u v m′))
     (List·Memᴰ·cases-cons m)
 
@@ -80,8 +81,8 @@ reached-walk [] u v e = subst (λ (x : ℕ). Walk [] u x) (eqb-true u v e) stay
 reached-walk (arc a b ∷ A) u v e =
     ⊎-elim
     (λ uv. walk-within (tail-within (arc a b) A) (reached-walk A u v uv))
-    (λ ua-bv. walk-trans (walk-within (tail-within (arc a b) A) (reached-walk A u a (and-left (reached A u a) _ ua-bv)))
-    (step (List·Memᴰ·head refl) (walk-within (tail-within (arc a b) A) (reached-walk A b v (and-right (reached A u a) _ ua-bv)))))
+    (λ ua-bv. walk-trans (walk-within (tail-within (arc a b) A) (reached-walk A u a (and-elim-left (reached A u a) _ ua-bv)))
+    (step (List·Memᴰ·head refl) (walk-within (tail-within (arc a b) A) (reached-walk A b v (and-elim-right (reached A u a) _ ua-bv)))))
     (or-cases (reached A u v) _ e)
 
 -- what is reached depends on which arcs there are, not on their order or number

@@ -4,20 +4,21 @@ use Prim.Native.Nat.{ℕ, zero, suc, _+_, _≤_, _<_}
 use native.Mathlib.Nat.{not-suc-le-zero, le-of-suc-le-suc}
 use native.Mathlib.Omega.{arith}
 use mathlib.Core.Path.{_≡_, refl, sym, ap, subst, _∙_}
-use mathlib.Core.Bool.{Bool, true, false, true≢false, false≢true}
-use mathlib.Core.Logic.{_⊎_, inl, inr, ⊎-elim, _≢_}
+use mathlib.Core.Bool.{true, false, true≢false, false≢true}
+use mathlib.Core.Logic.{_⊎_, inl, inr, ⊎-elim}
 use mathlib.Core.List.{List, [], _∷_, List·Memᴰ, List·Memᴰ·head, List·Memᴰ·tail, List·Memᴰ·not-nil, List·Memᴰ·cases-cons, Memᴰ·append-left, Memᴰ·append-right, List·Memᴰ·append-cases}
 use lib.ListN.{length, getD, set, drop}
 use lib.Dec.{leb}
 use borrow.Author.Tests.{leb-true}
+use Rattle.lists.proofs.Searches.{every-getD}
 use Rattle.network.specs.declared.Kind.{Kind}
 use Rattle.network.specs.declared.Kind.the-variants.{Gated, Flap, TwoWay}
 use Rattle.network.specs.declared.Reach.{Reach}
 use Rattle.network.specs.Settings.{isGated, gatesFrom}
 use Rattle.network.specs.Hangings.{Arc, way, after, ways, passing, arcs}
 use Rattle.network.specs.Lone.{noReach}
-use Rattle.network.specs.Lists.{every}
-use Rattle.network.proofs.Bools.{and-left, and-right, decide}
+use Rattle.lists.specs.Lists.{every}
+use Rattle.lists.proofs.Bools.{decide}
 use Rattle.network.proofs.Walks.{Within}
 
 -- ---- one reach of a table
@@ -195,12 +196,6 @@ gate-way t h i l e =
       byte = subst (λ (j : ℕ). getD (ways t h) j 3 ≡ getD h (r .place) 2) same (g .byte);
       turn = λ x k. subst (λ (j : ℕ). ways t (set h (r .place) x) ≡ set (ways t h) j x) same (g .turn x k);
     }
-
--- what holds of the bytes of a list holds of each place in it
-pub every-getD : (p : ℕ → Bool) (xs : List ℕ) (i d : ℕ) → every p xs ≡ true → i < length xs → p (getD xs i d) ≡ true
-every-getD p [] i d e l = absurd (not-suc-le-zero l)
-every-getD p (x ∷ xs) zero d e l = and-left (p x) _ e
-every-getD p (x ∷ xs) (suc i) d e l = every-getD p xs i d (and-right (p x) _ e) (le-of-suc-le-suc l)
 
 pub plain-small : (d : Kind) → isGated d ≡ false → way d [] ≤ 2
 plain-small Gated e = absurd (true≢false e)

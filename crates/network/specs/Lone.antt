@@ -8,7 +8,7 @@ use lib.ListN.{length, getD}
 use lib.Dec.{eqb}
 use Rattle.network.specs.declared.Kind.the-variants.{Flap}
 use Rattle.network.specs.declared.Reach.{Reach}
-use Rattle.network.specs.Lists.{range, every, some?, find, elem}
+use Rattle.lists.specs.Lists.{range, every, some?, find, elem}
 use Rattle.network.specs.Networks.{Network, basinsOf}
 use Rattle.network.specs.Settings.{isGated}
 

@@ -6,7 +6,7 @@ use mathlib.Core.List.{List, [], _∷_, map}
 use lib.ListN.{getD}
 use lib.Dec.{eqb}
 use lib.Count.{ones}
-use Rattle.network.specs.Lists.{range, elem}
+use Rattle.lists.specs.Lists.{range, elem}
 
 -- "9 and 10 write the 32 bytes of marks."
 abbrev pub markBytes : ℕ

@@ -10,7 +10,7 @@ use lib.Dec.{leb, ltb}
 use Rattle.network.specs.declared.Reach.{Reach}
 use Rattle.network.specs.declared.Refusal.{Refusal}
 use Rattle.network.specs.declared.Refusal.the-variants.{BasinCount, TooManyReaches, EndOutOfRange}
-use Rattle.network.specs.Lists.{range, every}
+use Rattle.lists.specs.Lists.{range, every}
 
 -- "A network has 1 to 256 basins, numbered from 0, and 0 to 1,024 reaches, numbered from 0 in file order."
 abbrev pub maxBasins : ℕ

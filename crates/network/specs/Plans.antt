@@ -4,7 +4,7 @@ use Prim.Native.Nat.{ℕ}
 use mathlib.Core.Bool.{Bool, _&&_}
 use mathlib.Core.List.{List}
 use mathlib.Core.Option.{Option}
-use Rattle.network.specs.Lists.{every, find}
+use Rattle.lists.specs.Lists.{every, find}
 use Rattle.network.specs.Networks.{Network, basinsOf}
 use Rattle.network.specs.Settings.{gateCount, isSetting, before, settings}
 use Rattle.network.specs.Hangings.{Arc, arcsUnder, reached, unhung}

@@ -9,7 +9,7 @@ use lib.ListN.{length, drop}
 use lib.Dec.{leb}
 use Rattle.network.specs.declared.Refusal.{Refusal}
 use Rattle.network.specs.declared.Refusal.the-variants.{BasinCount, TooManyReaches, EndOutOfRange, Truncated, UnknownKind, TrailingBytes, ShortBuffer, BadSetting, LastPlan}
-use Rattle.network.specs.Lists.{find, keep, elem}
+use Rattle.lists.specs.Lists.{find, keep, elem}
 use Rattle.network.specs.Networks.{Network, basinsOf, lowestBasin, tableFault}
 use Rattle.network.specs.Settings.{gateCount, settingFault}
 use Rattle.network.specs.Hangings.{arcsUnder, reached, unhung}

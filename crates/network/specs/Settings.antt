@@ -11,7 +11,7 @@ use Rattle.network.specs.declared.Kind.the-variants.{Gated, Flap, TwoWay
 use Rattle.network.specs.declared.Reach.{Reach}
 use Rattle.network.specs.declared.Refusal.{Refusal}
 use Rattle.network.specs.declared.Refusal.the-variants.{BadSetting}
-use Rattle.network.specs.Lists.{every}
+use Rattle.lists.specs.Lists.{every}
 use Rattle.network.specs.Networks.{Network}
 
 -- The kind is gated: the reach has a byte in a setting.

@@ -18,7 +18,7 @@ use Rattle.network.specs.Hangings.{ways}
 use Rattle.network.specs.Plans.{strongUnder, isPlan}
 use Rattle.network.specs.Lone.{reachAt}
 use Rattle.network.specs.Replies.{plan, nextAnswer}
-use Rattle.network.proofs.Bools.{decide}
+use Rattle.lists.proofs.Bools.{decide}
 use Rattle.network.proofs.Networks.{accepted}
 use Rattle.network.proofs.Order.{setting-length, plan-setting}
 use Rattle.tables.specs.Rows.{netOf, gatesIn, waysRow, bytesRow}

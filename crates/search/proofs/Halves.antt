@@ -10,7 +10,7 @@ use lib.ListN.{length, getD}
 use lib.Dec.{eqb}
 use borrow.Author.Tests.{eqb-true}
 use Rattle.network.specs.Hangings.{Arc, arc, passing}
-use Rattle.network.proofs.Bools.{or-cases}
+use Rattle.lists.proofs.Bools.{or-cases}
 use Rattle.search.specs.Ends.{arcsOf, halves, pick, endOf, otherOf, leaves}
 use Rattle.search.specs.Chains.{Table}
 use Rattle.search.specs.Searches.{Next}

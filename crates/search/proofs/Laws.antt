@@ -8,7 +8,7 @@ use mathlib.Core.List.{List, [], _∷_, _++_, map, List·Memᴰ, List·Memᴰ·h
 use native.Mathlib.Omega.{arith}
 use Rattle.network.specs.declared.Reach.{Reach}
 use Rattle.network.specs.Hangings.{Arc, arc, passing, arcs, Walk, stay, step, reached}
-use Rattle.network.proofs.Bools.{same-test}
+use Rattle.lists.proofs.Bools.{same-test}
 use Rattle.network.proofs.Walks.{Within, walk-trans, walk-arc, walk-reached, reached-walk, reached-same}
 use Rattle.search.specs.Ends.{arcsOf, flipWay}
 use Rattle.search.specs.Chains.{Table}

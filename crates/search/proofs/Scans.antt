@@ -7,7 +7,7 @@ use mathlib.Core.List.{List}
 use native.Mathlib.Decide.{ℕ-discrete, decLt}
 use native.Mathlib.Omega.{arith}
 use lib.ListN.{length}
-use Rattle.network.proofs.Bools.{clash}
+use Rattle.lists.proofs.Bools.{clash}
 use Rattle.search.specs.Ends.{arcsOf, halves, endOf, otherOf, leaves}
 use Rattle.search.specs.Chains.{none, Last, nothing, last}
 use Rattle.search.specs.Searches.{Seen, Next, Visited, Grown, more, Scanned}

@@ -16,7 +16,7 @@ use Rattle.network.specs.Settings.{settingFault}
 use Rattle.network.specs.Plans.{isPlan}
 use Rattle.network.specs.Marks.{marksOf}
 use Rattle.network.specs.Replies.{Outcome, lone, loneSide, firstAnswer}
-use Rattle.network.proofs.Bools.{clash}
+use Rattle.lists.proofs.Bools.{clash}
 use Rattle.network.proofs.Lone.{lone-blocks}
 use Rattle.network.proofs.Order.{plan-setting, first-is-plan}
 use Rattle.network.proofs.Replies.{lowest-is-lone}

@@ -5,7 +5,7 @@ use mathlib.Core.Bool.{true}
 use mathlib.Core.List.{map}
 use lib.Count.{ones}
 use lib.Dec.{eqb}
-use Rattle.network.specs.Lists.{every}
+use Rattle.lists.specs.Lists.{every}
 use Rattle.network.specs.Networks.{tableFault}
 use Rattle.network.specs.Settings.{isSetting}
 use Rattle.network.specs.Plans.{strongUnder, isPlan, passable, firstPlan}

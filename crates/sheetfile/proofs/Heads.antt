@@ -6,7 +6,7 @@ use mathlib.Core.List.{List}
 use lib.ListN.{length, take, drop}
 use borrow.Author.Tests.{eq-eqb, ne-eqb}
 use Rattle.network.specs.declared.Refusal.the-variants.{BadSetting}
-use Rattle.network.specs.Words.{wordOf}
+use Rattle.lists.specs.Words.{wordOf}
 use Rattle.netfile.specs.declared.Taken.the-variants.{Whole}
 use Rattle.netfile.specs.Records.{takeRecord}
 use Rattle.netfile.specs.Answers.{takenAnswer}

@@ -8,7 +8,7 @@ use mathlib.Core.Option.{some}
 use mathlib.Core.Logic.{_⊎_, inl, inr, ⊎-elim}
 use lib.Dec.{eqb}
 use borrow.Author.Tests.{ne-eqb, eqb-true, eqb-false}
-use Rattle.network.proofs.Bools.{or-cases, decide}
+use Rattle.lists.proofs.Bools.{or-cases, decide}
 use Rattle.netfile.specs.Records.{bodyOf}
 use Rattle.sheetfile.specs.declared.Place.{Place}
 use Rattle.sheetfile.specs.declared.Place.the-variants.{Head, Inside}

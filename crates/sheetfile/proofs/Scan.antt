@@ -11,7 +11,7 @@ use lib.Dec.{eqb}
 use borrow.Author.Tests.{eq-eqb, ne-eqb}
 use Rattle.network.specs.declared.Refusal.{Refusal}
 use Rattle.network.specs.declared.Refusal.the-variants.{BadSetting, TrailingBytes}
-use Rattle.network.specs.Words.{wordOf}
+use Rattle.lists.specs.Words.{wordOf}
 use Rattle.netfile.specs.declared.Taken.the-variants.{Broken, Whole}
 use Rattle.netfile.specs.Records.{takeRecord}
 use Rattle.netfile.specs.Answers.{takenAnswer}

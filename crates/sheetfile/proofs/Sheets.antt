@@ -9,14 +9,14 @@ use mathlib.Core.Option.{Option, none, some}
 use lib.ListN.{length, take, drop, length-append}
 use lib.Dec.{leb, eqb}
 use borrow.Author.Tests.{leb-true, le-leb, eqb-true, eqb-false, eq-eqb}
+use mathlib.Mathlib.Data.Bool.Basic.{and-elim-right, and-elim-left}
 use Rattle.network.specs.declared.Refusal.{Refusal}
 use Rattle.network.specs.declared.Refusal.the-variants.{TrailingBytes, BadSetting}
-use Rattle.network.specs.Lists.{every}
+use Rattle.lists.specs.Lists.{every}
 use Rattle.network.specs.Networks.{Network, Accepted, tableFault}
 use Rattle.network.specs.Settings.{gates, gateCount, isSetting}
 use Rattle.network.specs.Plans.{isPlan}
-use Rattle.network.specs.Words.{wordOf}
-use Rattle.network.proofs.Bools.{and-left, and-right}
+use Rattle.lists.specs.Words.{wordOf}
 use Rattle.network.proofs.Order.{setting-length, plan-setting}
 use Rattle.netfile.specs.declared.Taken.{Taken}
 use Rattle.netfile.specs.declared.Taken.the-variants.{Broken, Whole}
@@ -54,7 +54,7 @@ read-gates (i ∷ gs) [] e h = absurd (omega arith)
 read-gates (i ∷ gs) (x ∷ s) e h =
     let rest = gateRecords gs s ++ (9 ∷ []) in
     gate-step (gateRecord i x ++ rest) (hungKind x) (omega arith) (gate-taken i x rest) (hung-no-end x) .next i gs
-    ∙ rw (word-bytes i, eq-eqb i i refl, byte-again x (and-left (leb x 1) _ h), read-gates gs s (omega arith) (and-right (leb x 1) _ h))
+    ∙ rw (word-bytes i, eq-eqb i i refl, byte-again x (and-elim-left (leb x 1) _ h), read-gates gs s (omega arith) (and-elim-right (leb x 1) _ h))
 
 head-taken : (n : ℕ) (rest : List ℕ) → takeRecord (mayStand Head) (16 ∷ (twoBytes n ++ rest)) ≡ whole 16 (twoBytes n) rest
 unfolding bodyOf
@@ -71,7 +71,7 @@ plan-long N s p = setting-length N s (plan-setting N s p)
 
 plan-bits : (N : Network) (s : List ℕ) → isPlan N s ≡ true → every (λ x. leb x 1) s ≡ true
 unfolding isSetting
-plan-bits N s p = and-right (eqb (length s) (gateCount N)) _ (plan-setting N s p)
+plan-bits N s p = and-elim-right (eqb (length s) (gateCount N)) _ (plan-setting N s p)
 
 -- The sheet of a plan of an accepted network is read as that plan.
 pub read-write : (N : Network) (s : List ℕ) → Accepted N → isPlan N s ≡ true → readSheet N (sheetOf N s) ≡ read s

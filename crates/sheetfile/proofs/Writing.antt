@@ -11,7 +11,7 @@ use lib.ListN.{length, getD, take, drop, set, length-set, length-drop, drop-of-l
 use lib.Seq.{sets, sets-eq, take-all, drop-drop, drop-cons}
 use lib.Dec.{ltb}
 use borrow.Author.Tests.{ltb-true, ltb-false}
-use Rattle.network.proofs.Bools.{decide}
+use Rattle.lists.proofs.Bools.{decide}
 use Rattle.netfile.specs.Records.{twoBytes}
 use Rattle.netfile.proofs.Writing.{sets-after, sets-long}
 use Rattle.sheetfile.specs.Sheets.{hungKind, gateRecord, gateRecords}

@@ -8,11 +8,11 @@ use lib.ListN.{length}
 use lib.Dec.{eqb, leb}
 use Rattle.network.specs.declared.Refusal.{Refusal}
 use Rattle.network.specs.declared.Refusal.the-variants.{TrailingBytes, ShortBuffer, BadSetting}
-use Rattle.network.specs.Lists.{elem}
+use Rattle.lists.specs.Lists.{elem}
 use Rattle.network.specs.Networks.{Network, tableFault}
 use Rattle.network.specs.Settings.{gates}
 use Rattle.network.specs.Plans.{isPlan}
-use Rattle.network.specs.Words.{wordOf}
+use Rattle.lists.specs.Words.{wordOf}
 use Rattle.netfile.specs.Records.{Front, broken, whole, takeRecord}
 use Rattle.netfile.specs.Files.{endKind}
 use Rattle.sheetfile.specs.declared.Place.{Place}

@@ -7,7 +7,9 @@ use native.Mathlib.Omega.{arith}
 use lib.ListN.{length, getD, take, drop, set, length-set, drop-of-length-le, take-append-drop}
 use lib.Seq.{drop-set-lt, drop-drop}
 use Rattle.tables.specs.Rows.{gatesIn, bytesRow}
-use Rattle.tables.proofs.Turns.{drop-one, take-stored, not-gated, gates-gate, gates-other, gates-done}
+use Rattle.tables.proofs.Turns.{gates-gate, gates-other, gates-done}
+use Rattle.lists.proofs.Lists.{drop-one, take-stored}
+use Rattle.network.proofs.Networks.{not-gated}
 
 -- The bytes of the gates among the first i reaches are the first k of the plan, and the others are as they were.
 pub record Gathered (ks ws plan₀ plan : List ℕ) (k i : ℕ) : Type 0 where

@@ -9,7 +9,7 @@ use lib.Seq.{take-all, drop-drop}
 use Rattle.network.specs.Tables.{kindOf}
 use Rattle.network.specs.Hangings.{way, after}
 use Rattle.tables.specs.Rows.{waysRow}
-use Rattle.tables.proofs.Turns.{drop-one, take-stored}
+use Rattle.lists.proofs.Lists.{drop-one, take-stored}
 
 -- The ways of the first i reaches are written, with k gates among them.
 pub record Hung (ks s ws₀ ws : List ℕ) (k i : ℕ) : Type 0 where

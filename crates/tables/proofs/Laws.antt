@@ -11,7 +11,7 @@ use lib.Dec.{leb, eqb}
 use Rattle.network.specs.declared.Kind.{Kind}
 use Rattle.network.specs.declared.Kind.the-variants.{Gated, Flap, TwoWay}
 use Rattle.network.specs.declared.Reach.{Reach}
-use Rattle.network.specs.Lists.{every}
+use Rattle.lists.specs.Lists.{every}
 use Rattle.network.specs.Tables.{kindOf, kindNumber, tableOf}
 use Rattle.network.specs.Settings.{isGated, gatesFrom, isSetting}
 use Rattle.network.specs.Hangings.{way, after, ways}

@@ -9,7 +9,7 @@ ghost use mathlib.Core.List.{_++_};
 ghost use Prim.Native.Nat.{_≤_, min};
 ghost use lib.ListN.{length, drop};
 ghost use lib.Dec.{leb, eqb};
-ghost use Rattle.network.specs.Lists.{every};
+ghost use Rattle.lists.specs.Lists.{every};
 ghost use Rattle.network.specs.Networks.{goodEnds, tableFault};
 ghost use Rattle.network.specs.Tables.{kindOf, tableOf};
 ghost use Rattle.network.specs.Hangings.{way};

@@ -10,7 +10,7 @@ use lib.Seq.{length-take-le, take-at, drop-at}
 use lib.Dec.{leb}
 use borrow.Author.Tests.{le-leb, lt-leb, eq-eqb}
 use Rattle.network.specs.declared.Refusal.{Refusal}
-use Rattle.network.specs.Lists.{every}
+use Rattle.lists.specs.Lists.{every}
 use Rattle.network.specs.Networks.{Network, maxReaches, tableFault, Accepted}
 use Rattle.network.specs.Settings.{gateCount, isSetting, settingFault}
 use Rattle.network.specs.Replies.{Outcome, plan, shutIn, lone, refused, planAfter, unless, roomFault, nextAnswer, nextReply}
@@ -24,7 +24,7 @@ use Rattle.planner.specs.Answers.{Written}
 use Rattle.planner.proofs.Calls.{refused-written, next-faulty}
 use Rattle.walker.specs.declared.Walker.{Walker}
 use Rattle.walker.specs.Walkers.{settingIn, stepReply, gatesHeld, advancedBy, Stepping}
-use Rattle.walker.proofs.Makes.{gates-held}
+use Rattle.network.proofs.Networks.{gates-fit}
 
 -- ---- the walker after an answer
 
@@ -53,7 +53,7 @@ walk-on (refused x) w {g} {buffer′} sized e = ap (λ (x : Answer). advancedBy 
 module _ (N : Network) where
   -- of an accepted table the walker holds all gates
   all-held : Accepted N → gatesHeld (N .reaches) ≡ gateCount N
-  all-held ok = omega (arith, gates-held N ok)
+  all-held ok = omega (arith, gates-fit N ok)
 
   -- the reply to the bytes held is the reply to the walker's setting
   pub step-same : (w : List ℕ) (planLength marksLength : ℕ) → nextReply N (take (gatesHeld (N .reaches)) w) planLength marksLength ≡ stepReply N w planLength marksLength
@@ -108,7 +108,7 @@ module _ (N : Network) where
     -- "8 only for a byte over 1"
     pub step-fits : Accepted N → length w ≡ maxReaches → isSetting N (settingIn N w) ≡ every (λ x. leb x 1) (settingIn N w)
     unfolding isSetting
-    step-fits ok size = rw (eq-eqb (length (settingIn N w)) (gateCount N) (length-take-le (gateCount N) w (omega (arith, gates-held N ok))))
+    step-fits ok size = rw (eq-eqb (length (settingIn N w)) (gateCount N) (length-take-le (gateCount N) w (omega (arith, gates-fit N ok))))
 
     module _ (planLength marksLength : ℕ) where
       -- "a given plan becomes the setting of the walker after it"

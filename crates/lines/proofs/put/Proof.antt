@@ -5,12 +5,13 @@ use Prim.Native.Nat.{_-_, _≤_}
 use native.Mathlib.Omega.{arith}
 use mathlib.Core.Path.{refl}
 use borrow.Author.Needs.{needs}
-use Rattle.lines.proofs.Puts.{Laid, laid-none, laid-length, laid-more, laid-end}
+use Rattle.lines.proofs.Puts.{laid-end}
+use Rattle.lists.proofs.Lists.{Copied, copied-none, copied-length, copied-more}
 use Rattle.lines.proofs.put.Statement.{statement}
 use Rattle.lines.proofs.put.Tie as tie
 
 abbrev Inv-loop : tie.InvT-loop
-Inv-loop text out₀ n i₀ out i = (i ≤ n) × Laid text out₀ out i
+Inv-loop text out₀ n i₀ out i = (i ≤ n) × Copied text out₀ out i
 
 abbrev μ-loop : tie.MeasureT-loop
 μ-loop text out₀ n i₀ out i = n - i
@@ -19,13 +20,13 @@ least-requires : tie.Need-least-requires Inv-loop μ-loop
 least-requires c κs = search needs
 
 loop-holds : tie.Need-loop-holds Inv-loop μ-loop
-loop-holds c = (omega arith, laid-none _ _)
+loop-holds c = (omega arith, copied-none _ _)
 
 shared-slice-read-out : tie.Need-shared-slice-read-out Inv-loop μ-loop
 shared-slice-read-out c = omega arith
 
 slice-write-out : tie.Need-slice-write-out Inv-loop μ-loop
-slice-write-out c = omega (arith, laid-length (c .before .before .loop .inv .1))
+slice-write-out c = omega (arith, copied-length (c .before .before .loop .inv .1))
 
 add-i : tie.Need-add-i Inv-loop μ-loop
 add-i c = omega arith
@@ -34,10 +35,10 @@ loop-less : tie.Need-loop-less Inv-loop μ-loop
 loop-less c = omega arith
 
 loop-again : tie.Need-loop-again Inv-loop μ-loop
-loop-again c = (omega arith, laid-more (c .before .before .loop .inv .1) (omega arith) (omega arith) _ (refl))
+loop-again c = (omega arith, copied-more (c .before .before .loop .inv .1) (omega arith) (omega arith) _ (refl))
 
 same-length : tie.Need-same-length Inv-loop μ-loop
-same-length c = laid-length (c .before .loop .inv .1)
+same-length c = copied-length (c .before .loop .inv .1)
 
 returns : tie.Need-returns Inv-loop μ-loop
 returns c = laid-end (c .before .loop .inv .1) (c .before .before .least .ensures) (omega arith)

@@ -2,7 +2,8 @@
 -- Assumes nothing.
 use lib.ListN.{drop-of-length-le}
 use borrow.Author.Needs.{needs}
-use Rattle.lines.proofs.Puts.{put-same, put-nothing, from-on}
+use Rattle.lines.proofs.Puts.{put-same, put-nothing}
+use Rattle.lists.proofs.Lists.{take-rest}
 use Rattle.lines.proofs.put_from.Statement.{statement}
 use Rattle.lines.proofs.put_from.Tie as tie
 
@@ -22,7 +23,7 @@ same-length : tie.Need-same-length
 same-length c = search needs
 
 returns : tie.Need-returns
-returns c = let s = c .before .before .before .before .before .before .before .before .args in put-same (from-on (s .at) (s .text .now)) (c .before .before .put .ensures)
+returns c = let s = c .before .before .before .before .before .before .before .before .args in put-same (take-rest (s .at) (s .text .now)) (c .before .before .put .ensures)
 
 returns-2 : tie.Need-returns-2
 returns-2 c = put-nothing _ (drop-of-length-le _ (c .if1 .left))

@@ -7,7 +7,7 @@ use mathlib.Core.Path.{_≡_, refl, sym, ap, subst, subst⁻¹, _∙_}
 use lib.ListN.{length, take}
 use Rattle.listing.specs.Pending.{gatesHeld}
 use Rattle.listing.specs.Keeping.{Kept}
-use Rattle.lines.proofs.Puts.{laid-length}
+use Rattle.lists.proofs.Lists.{copied-length}
 use Rattle.listing.proofs.Fills.{Printing, print-none, same-net, turned-here, print-turn, print-full, print-laid, place-short, print-more, print-end}
 use Rattle.listing.proofs.print_lines.Statement.{statement}
 use Rattle.listing.proofs.print_lines.Tie as tie
@@ -63,7 +63,7 @@ put-line-requires c κs = omega (arith, c .before .before .before .before .befor
 same-length : tie.Need-same-length Inv-loop μ-loop
 same-length c =
     let e = c .before .before .before in
-    laid-length (print-laid _ _ _ _ _ _ _ _ (turn (turned-at e)) (start e .pre .0) (e .put-line .ensures))
+    copied-length (print-laid _ _ _ _ _ _ _ _ (turn (turned-at e)) (start e .pre .0) (e .put-line .ensures))
 
 same-length-2 : tie.Need-same-length-2 Inv-loop μ-loop
 same-length-2 c = let e = c .before .before .before in turned-at e .turned .kept .1 .1 .1 .1 .1 .1 .0 ∙ loop-at e .loop .inv .2
@@ -82,7 +82,7 @@ returns c =
     let e = c .before .before .before in
     let o = loop-at e .loop in
     print-end _ _ _ _ _ _ _ _ (turn (turned-at e)) (start e .pre .0) (e .put-line .ensures)
-    (omega (arith, e .before .before .before .before .before .before .before .before .before .before .before .before .before .before .before .loop-test .taken, laid-length (o .inv .0 .laid))) (c .if1 .taken) (turned-here _ _ _ _ _ _ _ _ (o .inv .0) (turned-at e .turned .ensures .0) .ended)
+    (omega (arith, e .before .before .before .before .before .before .before .before .before .before .before .before .before .before .before .loop-test .taken, copied-length (o .inv .0 .laid))) (c .if1 .taken) (turned-here _ _ _ _ _ _ _ _ (o .inv .0) (turned-at e .turned .ensures .0) .ended)
 
 add-state : tie.Need-add-state Inv-loop μ-loop
 add-state c =
@@ -98,7 +98,7 @@ add-n c =
 loop-less : tie.Need-loop-less Inv-loop μ-loop
 loop-less c =
     let e = c .before .before .before .before in
-    omega (arith, c .before .if1 .left, e .before .before .before .before .before .before .before .before .before .before .before .before .before .before .before .loop-test .taken, laid-length (loop-at e .loop .inv .0 .laid))
+    omega (arith, c .before .if1 .left, e .before .before .before .before .before .before .before .before .before .before .before .before .before .before .before .loop-test .taken, copied-length (loop-at e .loop .inv .0 .laid))
 
 loop-again : tie.Need-loop-again Inv-loop μ-loop
 loop-again c =
@@ -115,7 +115,7 @@ loop-again c =
     )
 
 same-length-6 : tie.Need-same-length-6 Inv-loop μ-loop
-same-length-6 c = laid-length (c .before .loop .inv .0 .laid)
+same-length-6 c = copied-length (c .before .loop .inv .0 .laid)
 
 same-length-7 : tie.Need-same-length-7 Inv-loop μ-loop
 same-length-7 c = c .before .loop .inv .2
@@ -130,7 +130,7 @@ same-length-10 : tie.Need-same-length-10 Inv-loop μ-loop
 same-length-10 c = c .before .loop .inv .5
 
 returns-2 : tie.Need-returns-2 Inv-loop μ-loop
-returns-2 c = print-full _ _ _ _ _ _ _ _ (c .before .loop .inv .0) (omega (arith, c .loop-test .left, laid-length (c .before .loop .inv .0 .laid)))
+returns-2 c = print-full _ _ _ _ _ _ _ _ (c .before .loop .inv .0) (omega (arith, c .loop-test .left, copied-length (c .before .loop .inv .0 .laid)))
 
 pub print-lines-spec : {M : Type 1} → statement M
 print-lines-spec =

@@ -5,10 +5,11 @@ use native.Mathlib.Omega.{arith}
 use mathlib.Core.Path.{_≡_, refl}
 use mathlib.Core.Bool.{Bool}
 use mathlib.Core.List.{map}
-use Rattle.network.specs.Lists.{range, elem}
+use Rattle.lists.specs.Lists.{range, elem}
 use Rattle.network.specs.Marks.{digits}
 use Rattle.marks.specs.Sets.{markedSet}
-use Rattle.marks.proofs.Bytes.{bit-lt, digits-room, digits-more}
+use Rattle.marks.proofs.Bytes.{digits-room, digits-more}
+use Rattle.network.proofs.Marks.{bit-lt}
 use Rattle.marks.proofs.mark_byte.Statement.{statement}
 use Rattle.marks.proofs.mark_byte.Tie as tie
 

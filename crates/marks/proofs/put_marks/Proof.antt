@@ -5,10 +5,10 @@ use native.Mathlib.Omega.{arith}
 use mathlib.Core.Path.{_≡_, refl, _∙_}
 use mathlib.Core.List.{_++_, map}
 use lib.ListN.{length, drop, length-set}
-use Rattle.network.specs.Lists.{range}
+use Rattle.lists.specs.Lists.{range}
 use Rattle.network.specs.Marks.{markBytes, markByte, marksOf}
 use Rattle.marks.specs.Sets.{markedSet}
-use Rattle.marks.proofs.Bytes.{put-more}
+use Rattle.lists.proofs.Ranges.{put-more}
 use Rattle.marks.proofs.put_marks.Statement.{statement}
 use Rattle.marks.proofs.put_marks.Tie as tie
 

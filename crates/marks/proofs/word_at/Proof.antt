@@ -4,8 +4,8 @@ use Prim.Native.Nat.{_+_, _-_, _^_, _≤_, _<_}
 use native.Mathlib.Omega.{arith}
 use mathlib.Core.Path.{_≡_, refl}
 use lib.ListN.{take, drop}
-use Rattle.network.specs.Words.{wordOf}
-use Rattle.marks.proofs.Counts.{word-room, word-more}
+use Rattle.lists.specs.Words.{wordOf}
+use Rattle.lists.proofs.Words.{word-room, word-more}
 use Rattle.marks.proofs.word_at.Statement.{statement}
 use Rattle.marks.proofs.word_at.Tie as tie
 

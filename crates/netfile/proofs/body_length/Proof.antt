@@ -10,9 +10,10 @@ use lib.Dec.{eqb, ltb}
 use lib.ListN.{getD}
 use borrow.Author.Needs.{needs}
 use borrow.Author.Tests.{eqb-true, ltb-true}
-use Rattle.network.specs.Lists.{range}
-use Rattle.network.proofs.Bools.{and-left, and-right}
-use Rattle.network.proofs.Finds.{every-at, range-has}
+use mathlib.Mathlib.Data.Bool.Basic.{and-elim-right, and-elim-left}
+use Rattle.lists.specs.Lists.{range}
+use Rattle.lists.proofs.Searches.{every-at}
+use Rattle.lists.proofs.Ranges.{range-has}
 use Rattle.netfile.specs.declared.Body.the-variants.{Length, Unknown}
 use Rattle.netfile.specs.Records.{bodyOf}
 use Rattle.netfile.specs.Answers.{bodyAnswer}
@@ -39,14 +40,14 @@ unknown : (o : Option ℕ) (x : ℕ) → stands o x ≡ true → x ≡ 255 → U
 unfolding stands
 unknown none x h e = refl
 unknown (some n) x h e =
-    let same : x ≡ n = eqb-true x n (and-left (eqb x n) _ h) in
-    let small : n < 255 = ltb-true n 255 (and-right (eqb x n) _ h) in
+    let same : x ≡ n = eqb-true x n (and-elim-left (eqb x n) _ h) in
+    let small : n < 255 = ltb-true n 255 (and-elim-right (eqb x n) _ h) in
     absurd (omega arith)
 
 known : (o : Option ℕ) (x : ℕ) → stands o x ≡ true → (x ≡ 255 → ⊥) → Length x ≡ bodyAnswer o
 unfolding stands
 known none x h e = absurd (e (eqb-true x 255 h))
-known (some n) x h e = ap Length (eqb-true x n (and-left (eqb x n) _ h))
+known (some n) x h e = ap Length (eqb-true x n (and-elim-left (eqb x n) _ h))
 
 returns : tie.Need-returns
 returns c = rw (body-above _ (c .if1 .taken))

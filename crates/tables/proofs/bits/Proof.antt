@@ -5,7 +5,7 @@ use native.Mathlib.Omega.{arith}
 use lib.ListN.{length, getD}
 use lib.Dec.{leb}
 use borrow.Author.Tests.{le-leb, lt-leb}
-use Rattle.tables.proofs.Turns.{Passed, passed-none, passed-more, passed-not, passed-all}
+use Rattle.lists.proofs.Searches.{Passed, passed-none, passed-more, passed-not, passed-all}
 use Rattle.tables.proofs.bits.Statement.{statement}
 use Rattle.tables.proofs.bits.Tie as tie
 

@@ -10,7 +10,7 @@ use Rattle.network.specs.Lone.{noReach}
 use Rattle.network.proofs.Networks.{endsBelow}
 use Rattle.tables.proofs.Faults.{ends-good, ends-bad}
 use Rattle.tables.proofs.Laws.{table-short}
-use Rattle.tables.proofs.Turns.{Passed, passed-none, passed-more, passed-not, passed-all}
+use Rattle.lists.proofs.Searches.{Passed, passed-none, passed-more, passed-not, passed-all}
 use Rattle.tables.proofs.good_ends.Statement.{statement}
 use Rattle.tables.proofs.good_ends.Tie as tie
 

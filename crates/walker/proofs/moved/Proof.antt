@@ -4,7 +4,7 @@ use Prim.Native.Nat.{_-_, _≤_}
 use native.Mathlib.Omega.{arith}
 use mathlib.Core.Path.{_≡_, refl}
 use Rattle.walker.proofs.Sizes.{walker-size}
-use Rattle.walker.proofs.Copies.{Copied, copied-more}
+use Rattle.lists.proofs.Lists.{Copied, copied-more}
 use Rattle.walker.proofs.moved.Statement.{statement}
 use Rattle.walker.proofs.moved.Tie as tie
 

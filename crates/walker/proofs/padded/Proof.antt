@@ -4,7 +4,8 @@ use Prim.Native.Nat.{_-_}
 use native.Mathlib.Omega.{arith}
 use mathlib.Core.Path.{refl}
 use lib.ListN.{length}
-use Rattle.walker.proofs.Copies.{Copied, zeros, copied-more, copied-all, length-zeros}
+use Rattle.walker.proofs.Copies.{zeros, copied-all, length-zeros}
+use Rattle.lists.proofs.Lists.{Copied, copied-more}
 use Rattle.walker.proofs.padded.Statement.{statement}
 use Rattle.walker.proofs.padded.Tie as tie
 
