@@ -3,16 +3,18 @@
 --     unpacked         the first n numbers of the rows of a table of n reaches that is not over-full make the table.        packed-count     n is there for every table
 --     unpacked-into, not-unpacked      what rows leave in a table that has room for them, and in one that has not
 -- Assumes nothing.
-use mathlib.Core.Path.{_≡_, refl, sym, _∙_, ap}
-use Prim.Native.Nat.{ℕ, zero, suc, _<_, _≤_, _+_, _-_}
-use native.Mathlib.Nat.{not-suc-le-zero, le-of-suc-le-suc, add-zero, zero-add}
+use mathlib.Core.Path.{_≡_, refl, _∙_, ap}
+use Prim.Native.Nat.{ℕ, zero, suc, _<_, _≤_, _-_}
+use native.Mathlib.Nat.{not-suc-le-zero, le-of-suc-le-suc}
 use native.Mathlib.Omega.{arith}
 use mathlib.Core.Bool.{Bool, true, false, cond}
 use mathlib.Core.List.{List, [], _∷_, map, _++_}
-use lib.ListN.{length, length-map, getD, set, take, drop, replicate}
+use lib.ListN.{length, length-map, getD, set, take, drop, length-append, length-drop}
 use lib.Seq.{length-take-le, take-length, take-at}
 use lib.Dec.{leb}
 use borrow.Author.Tests.{leb-true, le-leb, lt-leb}
+use Rattle.lists.proofs.Lists.{map-more}
+use Rattle.lists.proofs.Ranges.{length-range, map-range-suc, put-suc}
 use Rattle.network.specs.declared.Kind.the-variants.{Gated, TwoWay}
 use Rattle.network.specs.declared.Reach.{Reach}
 use Rattle.lists.specs.Lists.{range}
@@ -42,12 +44,6 @@ pub filled-none : (t : List Reach) → filled t 0 ≡ emptyOf (length t)
 filled-none t = rw (row-none kindIn, row-none (λ r. r .a), row-none (λ r. r .b))
 
 -- One more reach goes into a row.
-row-more : (f : Reach → ℕ) (t : List Reach) (i k : ℕ) → i < length t
-    → set (map f (take i t) ++ replicate (suc k) 0) i (f (getD t i noReach)) ≡ map f (take (suc i) t) ++ replicate k 0
-row-more f [] i k h = absurd (not-suc-le-zero h)
-row-more f (r ∷ t) zero k h = refl
-row-more f (r ∷ t) (suc i) k h = ap (λ xs. f r ∷ xs) (row-more f t i k (le-of-suc-le-suc h))
-
 row-put : (f : Reach → ℕ) (t : List Reach) (i : ℕ) → i < length t → i < maxReaches
     → set (rowOf f (take i t)) i (f (getD t i noReach)) ≡ rowOf f (take (suc i) t)
 unfolding rowOf
@@ -55,7 +51,7 @@ row-put f t i h l =
     let e : length (take i t) ≡ i = length-take-le i t (omega arith) in
     let e′ : length (take (suc i) t) ≡ suc i = length-take-le (suc i) t h in
     let d : maxReaches - i ≡ suc (maxReaches - suc i) = omega arith in
-    rw (e, e′, d) (row-more f t i (maxReaches - suc i) h)
+    rw (e, e′, d) (map-more f t i (maxReaches - suc i) noReach 0 h)
 
 pub filled-more : (t : List Reach) (i : ℕ) → i < length t → i < maxReaches → putAt (filled t i) i (numbersOf (getD t i noReach)) ≡ filled t (suc i)
 filled-more t i h l = rw (row-put kindIn t i h l, row-put (λ r. r .a) t i h l, row-put (λ r. r .b) t i h l)
@@ -106,31 +102,17 @@ stored-fits n room = go (leb n room) refl
     go false e = omega arith
 
 -- One more record is stored.
-into-put : (f : ℕ → Reach) (k i : ℕ) (t : List Reach) → i < length t → set (map f (range k i) ++ drop i t) i (f (k + i)) ≡ map f (range k (suc i)) ++ drop (suc i) t
-into-put f k i [] h = absurd (not-suc-le-zero h)
-into-put f k zero (r ∷ t) h = ap (λ j. f j ∷ t) (add-zero k)
-into-put f k (suc i) (r ∷ t) h = ap (λ rs. f k ∷ rs) (ap (λ j. set (map f (range (suc k) i) ++ drop i t) i (f j)) (omega arith) ∙ into-put f (suc k) i t (le-of-suc-le-suc h))
-
 pub into-more : (p : Packed) (t : List Reach) (i : ℕ) → i < length t → set (into p t i) i (reachIn p i) ≡ into p t (suc i)
-into-more p t i h = ap (λ j. set (into p t i) i (reachIn p j)) (sym (zero-add i)) ∙ into-put (reachIn p) 0 i t h
+into-more p t i h = put-suc (reachIn p) i t h
 
 pub length-into : (p : Packed) (t : List Reach) (i : ℕ) → i ≤ length t → length (into p t i) ≡ length t
-length-into p t i h = go 0 i t h
-  where
-    go : (k i : ℕ) (t : List Reach) → i ≤ length t → length (map (reachIn p) (range k i) ++ drop i t) ≡ length t
-    go k zero t h = refl
-    go k (suc i) [] h = absurd (not-suc-le-zero h)
-    go k (suc i) (r ∷ t) h = ap suc (go (suc k) i t (le-of-suc-le-suc h))
+length-into p t i h = omega (arith, length-append (map (reachIn p) (range 0 i)) (drop i t), length-map (range 0 i) (reachIn p), length-range 0 i, length-drop i t)
 
 pub into-all : (p : Packed) (t : List Reach) → into p t (storedOf (p .n) (length t)) ≡ unpackedInto p t
 unfolding unpackedInto
 into-all p t = refl
 
 -- The records that rows leave in a table are the table of the rows.
-range-next : (f : ℕ → Reach) (k n : ℕ) → map f (range (suc k) n) ≡ map (λ i. f (suc i)) (range k n)
-range-next f k zero = refl
-range-next f k (suc n) = ap (λ rs. f (suc k) ∷ rs) (range-next f (suc k) n)
-
 reaches-of : (ks xs ys : List ℕ) (n : ℕ) → n ≤ length ks → n ≤ length xs → n ≤ length ys
     → map (λ i. record { kind = kindOf (getD ks i 0); a = getD xs i 0; b = getD ys i 0 }) (range 0 n) ≡ tableOf (take n ks) (take n xs) (take n ys)
 reaches-of ks xs ys zero hk hx hy = refl
@@ -139,7 +121,7 @@ reaches-of (k ∷ ks) [] ys (suc n) hk hx hy = absurd (not-suc-le-zero hx)
 reaches-of (k ∷ ks) (x ∷ xs) [] (suc n) hk hx hy = absurd (not-suc-le-zero hy)
 reaches-of (k ∷ ks) (x ∷ xs) (y ∷ ys) (suc n) hk hx hy =
     ap (λ rs. record { kind = kindOf k; a = x; b = y } ∷ rs)
-    (range-next _ 0 n ∙ reaches-of ks xs ys n (le-of-suc-le-suc hk) (le-of-suc-le-suc hx) (le-of-suc-le-suc hy))
+    (map-range-suc _ 0 n ∙ reaches-of ks xs ys n (le-of-suc-le-suc hk) (le-of-suc-le-suc hx) (le-of-suc-le-suc hy))
 
 pub unpacked-into : (p : Packed) (t : List Reach) → p .n ≤ length t → p .n ≤ maxReaches → p .n ≤ length (p .kinds) → p .n ≤ length (p .a) → p .n ≤ length (p .b)
     → unpackedInto p t ≡ tableOf (take (p .n) (p .kinds)) (take (p .n) (p .a)) (take (p .n) (p .b)) ++ drop (p .n) t

@@ -8,8 +8,7 @@ use lib.ListN.{length, take, drop, length-map, length-append, drop-of-length-le}
 use lib.Seq.{drop-append-le}
 use borrow.Author.Tests.{lt-ltb, le-ltb}
 use Rattle.lines.specs.Listings.{line, character, planText, refusedText}
-use Rattle.lines.proofs.Puts.{digits-from}
-use Rattle.lists.proofs.Lists.{take-rest}
+use Rattle.lists.proofs.Lists.{take-rest, drop-map}
 
 -- ---- a plan
 
@@ -34,7 +33,7 @@ module _ (s : List ℕ) (n : length s ≡ 0 → ⊥) (at : ℕ) where
   plan-from l =
       sym
       (rw (plan-digits s n)
-      (drop-append-le at (map character s) (10 ∷ []) (omega (arith, length-map s character)) ∙ ap (λ (t : List ℕ). t ++ (10 ∷ [])) (digits-from at s ∙ ap (map character) (sym (take-rest at s)))))
+      (drop-append-le at (map character s) (10 ∷ []) (omega (arith, length-map s character)) ∙ ap (λ (t : List ℕ). t ++ (10 ∷ [])) (drop-map character at s ∙ ap (map character) (sym (take-rest at s)))))
 
 -- ---- a refusal, with one digit and with two
 

@@ -17,8 +17,8 @@ use Rattle.lines.specs.declared.Due.{Due}
 use Rattle.lines.specs.declared.Due.the-variants as D
 use Rattle.lines.specs.Listings.{line, character, planText}
 use Rattle.lines.specs.Puts.{Put}
-use Rattle.lines.proofs.Puts.{laid-end, put-laid}
 use Rattle.lists.proofs.Lists.{Copied, copied-none, copied-length, take-rest}
+use Rattle.lines.proofs.Puts.{copied-end, put-copied}
 use Rattle.listing.specs.declared.Lister.{Lister}
 use Rattle.listing.specs.declared.Filled.{Filled}
 use Rattle.listing.specs.Pending.{lineOf, linesAfter, gatesHeld, planIn, restOf, pendingOf, lentNet, pending, Filling}
@@ -78,7 +78,7 @@ module _ (l : Lister) (kinds a b out : List ℕ) where
 
     -- the buffer is full
     pub print-full : length out ≤ n → Filling l kinds a b out out′ (record { lister = state; count = n })
-    print-full full = printed-in out′ (laid-end (p .laid) (omega (arith, p .laid .within, p .laid .room)) (omega arith))
+    print-full full = printed-in out′ (copied-end (p .laid) (omega (arith, p .laid .within, p .laid .room)) (omega arith))
 
     -- the first bytes of what is left of the line go into the rest of the buffer
     module _ {g k : ℕ} {part : List ℕ} (held : g ≡ gatesHeld N) (put : Put (drop (state .at) (lineOf (state .due) (take g (state .setting)))) (take (length out′ - n) (drop n out′)) part k) where
@@ -163,7 +163,7 @@ module _ (l : Lister) (kinds a b out : List ℕ) where
           let gone : restOf N state ≡ [] = empty (restOf N state) (omega (arith, rest-put .count, length-drop n out′, copied-length (p .laid))) in
           let same : n + k ≡ n = omega arith in
           printed-in filled
-          (laid-end (subst (λ (m : ℕ). Copied text out filled m) same print-laid)
+          (copied-end (subst (λ (m : ℕ). Copied text out filled m) same print-laid)
           (omega (arith, p .laid .within, ap length (sym (p .left) ∙ ended gone), length-drop n text))
           (omega arith))
 
@@ -172,7 +172,7 @@ module _ (l : Lister) (kinds a b out : List ℕ) where
 module _ {l : Lister} {kinds a b out out′ : List ℕ} {r : Filled} (f : Filling l kinds a b out out′ r) where
   -- the buffer keeps its length, and the bytes lie within it
   pub fill-length : length out′ ≡ length out
-  fill-length = copied-length (put-laid (f .printed))
+  fill-length = copied-length (put-copied (f .printed))
 
   pub fill-within : r .count ≤ length out′
   fill-within = omega (arith, fill-length, f .printed .count)

@@ -11,7 +11,7 @@ use lib.ListN.{length, getD, take, drop}
 use lib.Seq.{drop-cons}
 use lib.Dec.{ltb, leb}
 use borrow.Author.Tests.{ne-eqb, ltb-true, leb-true, lt-ltb}
-use mathlib.Mathlib.Data.Bool.Basic.{and-intro, and-elim-right, and-elim-left}
+use mathlib.Mathlib.Data.Bool.Basic.{and-elim-left, and-elim-right, and-intro}
 use Rattle.lists.specs.Lists.{every}
 use Rattle.lists.specs.Words.{wordOf}
 use Rattle.lists.proofs.Searches.{every-getD}

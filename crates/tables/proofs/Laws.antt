@@ -2,12 +2,13 @@
 -- Assumes nothing.
 use Prim.Native.Nat.{ℕ, zero, suc, min, _≤_, _<_}
 use mathlib.Core.Path.{_≡_, refl, ap}
-use mathlib.Core.Bool.{Bool, true, false, cond, _&&_}
+use mathlib.Core.Bool.{cond, _&&_}
 use mathlib.Core.List.{List, [], _∷_, map}
 use native.Mathlib.Nat.{not-suc-le-zero, le-of-suc-le-suc}
 use native.Mathlib.Omega.{arith}
 use lib.ListN.{length, getD, take, replicate}
 use lib.Dec.{leb, eqb}
+use Rattle.lists.proofs.Lists.{length-cond}
 use Rattle.network.specs.declared.Kind.{Kind}
 use Rattle.network.specs.declared.Kind.the-variants.{Gated, Flap, TwoWay}
 use Rattle.network.specs.declared.Reach.{Reach}
@@ -70,10 +71,6 @@ rows P z s (k ∷ ks) [] ys e f = absurd (omega arith)
 rows P z s (k ∷ ks) (x ∷ xs) [] e f = absurd (omega arith)
 rows P z s (k ∷ ks) (x ∷ xs) (y ∷ ys) e f = s k x y ks xs ys (rows P z s ks xs ys (omega arith) (omega arith))
 
-length-gate : (b : Bool) (o : ℕ) (l : List ℕ) {n : ℕ} → length l ≡ n → length (cond b (o ∷ l) l) ≡ cond b (suc n) n
-length-gate true o l e = ap suc e
-length-gate false o l e = e
-
 module _ (ks xs ys : List ℕ) (e : length xs ≡ length ks) (f : length ys ≡ length ks) where
   pub row-length : length (tableOf ks xs ys) ≡ length ks
   row-length = omega (arith, table-short ks xs ys)
@@ -89,7 +86,7 @@ module _ (ks xs ys : List ℕ) (e : length xs ≡ length ks) (f : length ys ≡ 
 
   pub row-gates : (o : ℕ) → length (gatesFrom o (tableOf ks xs ys)) ≡ gatesIn ks
   row-gates =
-      rows (λ ks xs ys. (o : ℕ) → length (gatesFrom o (tableOf ks xs ys)) ≡ gatesIn ks) (λ o. refl) (λ k x y ks xs ys r o. length-gate (isGated (kindOf k)) o (gatesFrom (suc o) (tableOf ks xs ys)) (r (suc o))) ks xs ys e f
+      rows (λ ks xs ys. (o : ℕ) → length (gatesFrom o (tableOf ks xs ys)) ≡ gatesIn ks) (λ o. refl) (λ k x y ks xs ys r o. length-cond (isGated (kindOf k)) o (gatesFrom (suc o) (tableOf ks xs ys)) (r (suc o))) ks xs ys e f
 
   -- its members
   row-reach : (i : ℕ) → i < length ks → getD (tableOf ks xs ys) i noReach ≡ reachOf (getD ks i 0) (getD xs i 0) (getD ys i 0)

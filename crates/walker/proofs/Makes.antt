@@ -1,40 +1,25 @@
 -- The making of a walker, and how many bytes of it a table uses.
 -- Assumes nothing.
-use Prim.Native.Nat.{ℕ, suc, _≤_}
+use Prim.Native.Nat.{ℕ, _≤_}
 use native.Mathlib.Omega.{arith}
 use mathlib.Core.Path.{_≡_, refl, sym, ap, _∙_}
 use mathlib.Core.Bool.{Bool, true, false, cond}
 use mathlib.Core.Option.{Option, none, some, Option·some-ne-none}
-use mathlib.Core.List.{List, [], _∷_}
+use mathlib.Core.List.{List, []}
 use lib.ListN.{length, take}
 use lib.Seq.{take-length}
-use Rattle.network.specs.declared.Reach.{Reach}
 use Rattle.network.specs.declared.Refusal.{Refusal}
 use Rattle.network.specs.declared.Refusal.the-variants.{BadSetting}
 use Rattle.network.specs.Networks.{Network, maxReaches, tableFault, Accepted}
-use Rattle.network.specs.Settings.{isGated, gatesFrom, gateCount, isSetting, settingFault}
+use Rattle.network.specs.Settings.{isSetting, settingFault}
 use Rattle.network.specs.Plans.{isPlan}
-use Rattle.network.proofs.Networks.{accepted}
+use Rattle.network.proofs.Networks.{gates-fit}
 use Rattle.network.proofs.Order.{setting-length}
 use Rattle.planner.specs.Answers.{yesOr, unlessRefused, checkOf}
 use Rattle.walker.specs.declared.MakeAnswer.{MakeAnswer}
 use Rattle.walker.specs.declared.MakeAnswer.the-variants as M
 use Rattle.walker.specs.declared.Walker.{Walker}
 use Rattle.walker.specs.Walkers.{walkerOf, faultOr, makeFault, makeOf, walkerMade, keptOf, Making}
-
--- ---- the gates of an accepted table
-
-gate-few : (b : Bool) (o : ℕ) (l : List ℕ) (n : ℕ) → length l ≤ n → length (cond b (o ∷ l) l) ≤ suc n
-gate-few true o l n e = omega arith
-gate-few false o l n e = omega arith
-
-gates-few : (o : ℕ) (t : List Reach) → length (gatesFrom o t) ≤ length t
-gates-few o [] = omega arith
-gates-few o (r ∷ t) = gate-few (isGated (r .kind)) o (gatesFrom (suc o) t) (length t) (gates-few (suc o) t)
-
--- a walker holds a byte for each
-pub gates-held : (N : Network) → Accepted N → gateCount N ≤ maxReaches
-gates-held N ok = omega (arith, gates-few 0 (N .reaches), accepted N ok .few-reaches)
 
 -- ---- what the making answers
 
@@ -68,7 +53,7 @@ module _ (N : Network) (s : List ℕ) where
   made-held e = go (tableFault N) refl (isSetting N s) refl e
     where
       go : (f : Option Refusal) → tableFault N ≡ f → (b : Bool) → isSetting N s ≡ b → faultOr f (cond b none (some BadSetting)) ≡ none → length s ≤ maxReaches
-      go none ok true fit e = omega (arith, gates-held N ok, setting-length N s fit)
+      go none ok true fit e = omega (arith, gates-fit N ok, setting-length N s fit)
       go none ok false fit e = absurd (Option·some-ne-none BadSetting e)
       go (some r) bad true fit e = absurd (Option·some-ne-none r e)
       go (some r) bad false fit e = absurd (Option·some-ne-none r e)

@@ -5,7 +5,7 @@ use Prim.Native.Nat.{_-_, _≤_}
 use native.Mathlib.Omega.{arith}
 use mathlib.Core.Path.{refl}
 use borrow.Author.Needs.{needs}
-use Rattle.lines.proofs.Puts.{laid-end}
+use Rattle.lines.proofs.Puts.{copied-end}
 use Rattle.lists.proofs.Lists.{Copied, copied-none, copied-length, copied-more}
 use Rattle.lines.proofs.put.Statement.{statement}
 use Rattle.lines.proofs.put.Tie as tie
@@ -41,7 +41,7 @@ same-length : tie.Need-same-length Inv-loop μ-loop
 same-length c = copied-length (c .before .loop .inv .1)
 
 returns : tie.Need-returns Inv-loop μ-loop
-returns c = laid-end (c .before .loop .inv .1) (c .before .before .least .ensures) (omega arith)
+returns c = copied-end (c .before .loop .inv .1) (c .before .before .least .ensures) (omega arith)
 
 pub put-spec : {M : Type 1} → statement M
 put-spec =

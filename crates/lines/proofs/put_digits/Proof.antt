@@ -8,8 +8,8 @@ use mathlib.Core.List.{map}
 use lib.ListN.{length, length-map}
 use Rattle.lines.specs.Listings.{character}
 use borrow.Author.Needs.{needs}
-use Rattle.lines.proofs.Puts.{laid-end, digit-at}
-use Rattle.lists.proofs.Lists.{Copied, copied-none, copied-length, copied-more}
+use Rattle.lines.proofs.Puts.{copied-end}
+use Rattle.lists.proofs.Lists.{Copied, copied-none, copied-length, copied-more, getD-map}
 use Rattle.lines.proofs.put_digits.Statement.{statement}
 use Rattle.lines.proofs.put_digits.Tie as tie
 
@@ -41,13 +41,13 @@ loop-less : tie.Need-loop-less Inv-loop μ-loop
 loop-less c = omega arith
 
 loop-again : tie.Need-loop-again Inv-loop μ-loop
-loop-again c = (omega arith, copied-more (c .before .before .before .loop .inv .1) (omega (arith, length-map (c .before .before .before .before .before .before .before .args .setting .now) character)) (omega arith) _ (c .digit .ensures ∙ sym (digit-at (c .before .before .before .before .before .before .before .args .setting .now) _ (omega arith))))
+loop-again c = (omega arith, copied-more (c .before .before .before .loop .inv .1) (omega (arith, length-map (c .before .before .before .before .before .before .before .args .setting .now) character)) (omega arith) _ (c .digit .ensures ∙ sym (getD-map character (c .before .before .before .before .before .before .before .args .setting .now) _ 0 0 (omega arith))))
 
 same-length : tie.Need-same-length Inv-loop μ-loop
 same-length c = copied-length (c .before .loop .inv .1)
 
 returns : tie.Need-returns Inv-loop μ-loop
-returns c = laid-end (c .before .loop .inv .1) (c .before .before .least .ensures ∙ ap (λ (k : ℕ). min k (length (c .before .before .before .before .before .args .out .now))) (sym (length-map (c .before .before .before .before .before .args .setting .now) character))) (omega arith)
+returns c = copied-end (c .before .loop .inv .1) (c .before .before .least .ensures ∙ ap (λ (k : ℕ). min k (length (c .before .before .before .before .before .args .out .now))) (sym (length-map (c .before .before .before .before .before .args .setting .now) character))) (omega arith)
 
 pub put-digits-spec : {M : Type 1} → statement M
 put-digits-spec =

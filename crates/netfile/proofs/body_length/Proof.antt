@@ -10,7 +10,7 @@ use lib.Dec.{eqb, ltb}
 use lib.ListN.{getD}
 use borrow.Author.Needs.{needs}
 use borrow.Author.Tests.{eqb-true, ltb-true}
-use mathlib.Mathlib.Data.Bool.Basic.{and-elim-right, and-elim-left}
+use mathlib.Mathlib.Data.Bool.Basic.{and-elim-left, and-elim-right}
 use Rattle.lists.specs.Lists.{range}
 use Rattle.lists.proofs.Searches.{every-at}
 use Rattle.lists.proofs.Ranges.{range-has}

@@ -4,7 +4,7 @@ use Prim.Native.Nat.{_-_, _≤_}
 use native.Mathlib.Omega.{arith}
 use mathlib.Core.Path.{_≡_, refl}
 use Rattle.walker.proofs.Sizes.{walker-size}
-use Rattle.lists.proofs.Lists.{Copied, copied-more}
+use Rattle.lists.proofs.Lists.{Copied, copied-more, copied-none}
 use Rattle.walker.proofs.moved.Statement.{statement}
 use Rattle.walker.proofs.moved.Tie as tie
 
@@ -15,7 +15,7 @@ abbrev μ-loop : tie.MeasureT-loop
 μ-loop plan g bytes₀ i₀ bytes i = g - i
 
 loop-holds : tie.Need-loop-holds Inv-loop μ-loop
-loop-holds c = (omega arith, record { within = omega arith; bytes = refl })
+loop-holds c = (omega arith, copied-none _ _)
 
 shared-slice-read-bytes : tie.Need-shared-slice-read-bytes Inv-loop μ-loop
 shared-slice-read-bytes c = omega arith
@@ -32,7 +32,7 @@ loop-less c = omega arith
 loop-again : tie.Need-loop-again Inv-loop μ-loop
 loop-again c =
     let s = c .before .before .before .before in
-    (omega arith, copied-more (c .before .before .loop .inv .1) (omega arith) (omega (arith, walker-size (s .args .walker) (s .good .0))))
+    (omega arith, copied-more (c .before .before .loop .inv .1) (omega arith) (omega (arith, walker-size (s .args .walker) (s .good .0))) _ refl)
 
 returns : tie.Need-returns Inv-loop μ-loop
 returns c =

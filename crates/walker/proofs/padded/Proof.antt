@@ -5,7 +5,7 @@ use native.Mathlib.Omega.{arith}
 use mathlib.Core.Path.{refl}
 use lib.ListN.{length}
 use Rattle.walker.proofs.Copies.{zeros, copied-all, length-zeros}
-use Rattle.lists.proofs.Lists.{Copied, copied-more}
+use Rattle.lists.proofs.Lists.{Copied, copied-more, copied-none}
 use Rattle.walker.proofs.padded.Statement.{statement}
 use Rattle.walker.proofs.padded.Tie as tie
 
@@ -17,7 +17,7 @@ abbrev μ-loop : tie.MeasureT-loop
 
 loop-holds : tie.Need-loop-holds Inv-loop μ-loop
 unfolding zeros
-loop-holds c = record { within = omega arith; bytes = refl }
+loop-holds c = copied-none _ _
 
 shared-slice-read-bytes : tie.Need-shared-slice-read-bytes Inv-loop μ-loop
 shared-slice-read-bytes c = omega arith
@@ -32,7 +32,7 @@ loop-less : tie.Need-loop-less Inv-loop μ-loop
 loop-less c = omega arith
 
 loop-again : tie.Need-loop-again Inv-loop μ-loop
-loop-again c = copied-more (c .before .before .loop .inv) (c .before .loop-test .taken) (omega (arith, length-zeros))
+loop-again c = copied-more (c .before .before .loop .inv) (c .before .loop-test .taken) (omega (arith, length-zeros)) _ refl
 
 returns : tie.Need-returns Inv-loop μ-loop
 returns c = copied-all (c .before .loop .inv) (c .loop-test .left)
