@@ -10,6 +10,7 @@ use mathlib.Core.List.{List, []}
 use lib.ListN.{length, getD}
 use lib.Dec.{eqb}
 use borrow.Author.Tests.{eq-eqb, ne-eqb}
+use mathlib.Mathlib.Data.Bool.Basic.{bool-eq-false}
 use Rattle.lists.specs.Lists.{range, find, keep, elem}
 use Rattle.network.specs.Networks.{Network, basinsOf, lowestBasin, Accepted}
 use Rattle.network.specs.Hangings.{Arc, ways, arcs, arcsUnder, reached, unhung}
@@ -18,7 +19,7 @@ use Rattle.network.specs.Lone.{crossesAlone, isLone, lowestLone}
 use Rattle.network.specs.Marks.{bit, markBytes, marksOf}
 use Rattle.network.specs.Settings.{gateCount}
 use Rattle.network.specs.Replies.{shutInBasin, shutInSide, loneSide, answer, firstAnswer}
-use Rattle.lists.proofs.Bools.{fails, clash, not-passes, not-fails}
+use Rattle.lists.proofs.Bools.{clash}
 use Rattle.lists.proofs.Searches.{every-at, every-make, find-is, find-lowest, keep-in, keep-same, elem-in, elem-keep}
 use Rattle.lists.proofs.Ranges.{range-has, range-in}
 use Rattle.network.proofs.Marks.{marks-same}
@@ -49,7 +50,7 @@ strong-weakest n A r w = go (decLt r n)
   where
     go : Dec (r < n) → strong (range 0 n) A ≡ eqb r n
     go (yes l) =
-        fails (strong (range 0 n) A) (λ e. clash (every-at (reachesAll (range 0 n) A) e (range-has 0 n (omega arith) (omega arith))) (w .at l))
+        bool-eq-false {b = strong (range 0 n) A} (λ e. clash (every-at (reachesAll (range 0 n) A) e (range-has 0 n (omega arith) (omega arith))) (w .at l))
         ∙ sym (ne-eqb r n (omega arith))
     go (no k) =
         every-make (reachesAll (range 0 n) A) (range 0 n) (λ u m. w .lower u (omega (arith, w .bound, (range-in 0 n m) .1)))
@@ -77,7 +78,7 @@ module _ (N : Network) where
       at : shutInBasin N ≡ some r
       at =
           ap (λ (A : List Arc). find (test A) (basinsOf N)) opened-is
-          ∙ find-lowest (test opened) 0 (N .basins) r (omega arith) (omega arith) (not-passes (w .at l)) (λ j a b. not-fails (w .lower j b))
+          ∙ find-lowest (test opened) 0 (N .basins) r (omega arith) (omega arith) (ap not (w .at l)) (λ j a b. ap not (w .lower j b))
 
       side : shutInSide N ≡ markedSet (N .basins) seen 1
       side =
@@ -104,8 +105,8 @@ module _ (N : Network) where
                 elem-keep P (basin-in N b k)
                 ∙ cut-unique N ok (unhung N) pass r P (λ x. elem x (loneSide N r)) alone (alone-facts N (loneSide N r) r (lone-below N r e) (side .cut .alone)) (out ∙ sym (side .without)) b (basin-in N b k)
             go (no k) =
-                fails (elem b (keep P (basinsOf N))) (λ y. k (basin-below N b ((keep-in P (basinsOf N) (elem-in b (keep P (basinsOf N)) y)) .0)))
-                ∙ sym (fails (elem b (loneSide N r)) (λ y. k (basin-below N b (side-basins (basinsOf N) (loneSide N r) (side .cut .side) b (elem-in b (loneSide N r) y)))))
+                bool-eq-false {b = elem b (keep P (basinsOf N))} (λ y. k (basin-below N b ((keep-in P (basinsOf N) (elem-in b (keep P (basinsOf N)) y)) .0)))
+                ∙ sym (bool-eq-false {b = elem b (loneSide N r)} (λ y. k (basin-below N b (side-basins (basinsOf N) (loneSide N r) (side .cut .side) b (elem-in b (loneSide N r) y)))))
 
     -- bytes 0 and 1: the one or the other
     eqb-other : (x : ℕ) → x ≤ 1 → eqb x 0 ≡ not (eqb x 1)
@@ -134,7 +135,7 @@ module _ (N : Network) where
 
     no-lone : (s : List ℕ) → isPlan N s ≡ true → lowestLone N ≡ none
     unfolding lowestLone
-    no-lone s e = find-is (isLone N) (range 0 (length (N .reaches))) (λ i m. fails (isLone N i) (λ y. lone-blocks N i y s e))
+    no-lone s e = find-is (isLone N) (range 0 (length (N .reaches))) (λ i m. bool-eq-false {b = isLone N i} (λ y. lone-blocks N i y s e))
 
     lowest-at : (r : ℕ) → isLone N r ≡ true → r < length (N .reaches) → ((j : ℕ) → 0 ≤ j → j < r → isLone N j ≡ false) → lowestLone N ≡ some r
     unfolding lowestLone

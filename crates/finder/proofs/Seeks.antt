@@ -11,7 +11,7 @@ use lib.Dec.{eqb}
 use lib.ListN.{length, getD, set, drop}
 use lib.Seq.{drop-cons}
 use borrow.Author.Tests.{eq-eqb, ne-eqb}
-use mathlib.Mathlib.Data.Bool.Basic.{and-intro}
+use mathlib.Mathlib.Data.Bool.Basic.{and-intro, bool-eq-false}
 use Rattle.network.specs.Networks.{Network, Accepted}
 use Rattle.network.specs.Settings.{isSetting}
 use Rattle.network.specs.Hangings.{ways}
@@ -19,7 +19,7 @@ use Rattle.network.specs.Plans.{strongUnder, isPlan, nextPlan}
 use Rattle.network.specs.Lone.{isLone}
 use Rattle.network.specs.declared.Refusal.the-variants.{LastPlan}
 use Rattle.network.specs.Replies.{plan, refused, answer, nextAnswer}
-use Rattle.lists.proofs.Bools.{clash, fails}
+use Rattle.lists.proofs.Bools.{clash}
 use Rattle.network.proofs.Networks.{accepted}
 use Rattle.network.proofs.Order.{plan-setting}
 use Rattle.network.proofs.Lone.{lone-blocks}
@@ -91,7 +91,7 @@ module _ (N : Network) where
 
   -- no reach is lone, since there is a plan
   pub none-lone : SomePlan N → NoneLone N
-  none-lone p j = fails (isLone N j) (λ y. lone-blocks N j y (p .plan) (p .is-plan))
+  none-lone p j = bool-eq-false {b = isLone N j} (λ y. lone-blocks N j y (p .plan) (p .is-plan))
 
   module _ (ok : Accepted N) where
     -- it is left nowhere: no plan is later

@@ -10,6 +10,7 @@ use mathlib.Core.List.{List, []}
 use lib.ListN.{length, getD, set, length-set}
 use lib.Seq.{getD-set-same, getD-set-other, set-getD}
 use lib.Dec.{eqb}
+use mathlib.Mathlib.Data.Bool.Basic.{bool-eq-false}
 use Rattle.lists.specs.Lists.{keep}
 use Rattle.network.specs.Networks.{Network, basinsOf, Accepted}
 use Rattle.network.specs.Settings.{isGated}
@@ -17,7 +18,7 @@ use Rattle.network.specs.Hangings.{way, arcs, reached}
 use Rattle.network.specs.Plans.{strong}
 use Rattle.network.specs.Lone.{reachAt, crossesAlone, isLone}
 use Rattle.network.specs.Marks.{bit}
-use Rattle.lists.proofs.Bools.{decide, clash, fails}
+use Rattle.lists.proofs.Bools.{decide, clash}
 use Rattle.lists.proofs.Searches.{keep-same}
 use Rattle.network.proofs.Ways.{plain-small}
 use Rattle.network.proofs.Networks.{basin-below}
@@ -85,7 +86,7 @@ module _ (N : Network) (ok : Accepted N) (ws : List ℕ) (i : ℕ) (below : i < 
 
     -- hung without loss, it is not lone
     not-lone : (x : ℕ) → x ≤ 1 → strong (basinsOf N) (arcs (N .reaches) (set ws i x)) ≡ true → isLone N i ≡ false
-    not-lone x small str = fails (isLone N i) (λ e. lone-parts N i e (set ws i x) (rw (getD-set-same ws i x 3 room) small) str)
+    not-lone x small str = bool-eq-false {b = isLone N i} (λ e. lone-parts N i e (set ws i x) (rw (getD-set-same ws i x 3 room) small) str)
 
     -- the ways of all reaches are 0, 1 or 2
     all-small : (j : ℕ) → j < length (N .reaches) → getD ws j 3 ≤ 2
@@ -134,7 +135,7 @@ module _ (N : Network) (ok : Accepted N) (ws₀ : List ℕ) (from : ℕ) (ws : L
       go (no m) = w .clear j l (omega arith)
 
   plain-not-lone : isGated ((reachAt N i) .kind) ≡ false → isLone N i ≡ false
-  plain-not-lone n = fails (isLone N i) (λ e. clash (lone-gated N i e) n)
+  plain-not-lone n = bool-eq-false {b = isLone N i} (λ e. clash (lone-gated N i e) n)
 
   pub going-plain : isGated ((reachAt N i) .kind) ≡ false → Going N ws₀ from ws (suc i)
   going-plain n = record { begun = begun-plain N ok ws i below (w .begun) n; onward = w .onward; clear = clear-more (plain-not-lone n) }

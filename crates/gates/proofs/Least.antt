@@ -13,7 +13,7 @@ use lib.ListN.{length, getD, set}
 use lib.Seq.{getD-set-same, getD-set-other, ext-getD}
 use lib.Dec.{leb, ltb, eqb}
 use borrow.Author.Tests.{le-leb, lt-ltb, le-ltb, eq-eqb, ne-eqb}
-use mathlib.Mathlib.Data.Bool.Basic.{and-intro}
+use mathlib.Mathlib.Data.Bool.Basic.{and-intro, or-inl, or-inr}
 use Rattle.network.specs.declared.Kind.{Kind}
 use Rattle.network.specs.declared.Kind.the-variants.{Gated, Flap, TwoWay}
 use Rattle.network.specs.declared.Reach.{Reach}
@@ -23,7 +23,7 @@ use Rattle.network.specs.Settings.{isGated, gatesFrom, gateCount, isSetting, be
 use Rattle.network.specs.Hangings.{way, ways, arcs}
 use Rattle.network.specs.Plans.{strong, strongUnder, isPlan, firstPlan}
 use Rattle.network.specs.Lone.{noReach, reachAt}
-use Rattle.lists.proofs.Bools.{decide, clash, or-left, or-right}
+use Rattle.lists.proofs.Bools.{decide, clash}
 use Rattle.network.proofs.Cuts.{strong-within}
 use Rattle.network.proofs.Walks.{Within}
 use Rattle.network.proofs.Ways.{passingAt, arcs-in, arcs-has, passing-either, length-ways, plain-way, gate-way}
@@ -59,9 +59,9 @@ ways-order o (r ∷ t) p q e f = go (r .kind) (r .a) (r .b) p q e f (λ p′ q�
 pub before-at : (xs ys : List ℕ) (i d : ℕ) → i < length xs → i < length ys → ((j : ℕ) → j < i → getD xs j d ≡ getD ys j d) → getD xs i d < getD ys i d → before xs ys ≡ true
 before-at [] ys i d l k f h = absurd (not-suc-le-zero l)
 before-at (x ∷ xs) [] i d l k f h = absurd (not-suc-le-zero k)
-before-at (x ∷ xs) (y ∷ ys) zero d l k f h = or-left _ (lt-ltb x y h)
+before-at (x ∷ xs) (y ∷ ys) zero d l k f h = or-inl _ _ (lt-ltb x y h)
 before-at (x ∷ xs) (y ∷ ys) (suc i) d l k f h =
-    or-right (ltb x y) (and-intro (eq-eqb x y (f 0 (omega arith))) (before-at xs ys i d (le-of-suc-le-suc l) (le-of-suc-le-suc k) (λ j jl. f (suc j) (omega arith)) h))
+    or-inr (ltb x y) _ (and-intro (eq-eqb x y (f 0 (omega arith))) (before-at xs ys i d (le-of-suc-le-suc l) (le-of-suc-le-suc k) (λ j jl. f (suc j) (omega arith)) h))
 
 -- the first of two lists in order is not above the second where they first differ
 pub before-up : (xs ys : List ℕ) (i d : ℕ) → i < length xs → i < length ys → ((j : ℕ) → j < i → getD xs j d ≡ getD ys j d) → before xs ys ≡ true → getD xs i d ≤ getD ys i d

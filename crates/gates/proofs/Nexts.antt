@@ -13,14 +13,14 @@ use lib.ListN.{length, getD, set, take, drop, length-set, length-append, length-
 use lib.Seq.{getD-set-same, getD-set-other, set-getD, ext-getD, getD-take, getD-drop, getD-append-add, length-take-le}
 use lib.Dec.{eqb}
 use borrow.Author.Tests.{eqb-true}
-use mathlib.Mathlib.Data.Bool.Basic.{and-elim-left, and-elim-right}
+use mathlib.Mathlib.Data.Bool.Basic.{and-elim-left, and-elim-right, bool-eq-false}
 use Rattle.network.specs.declared.Reach.{Reach}
 use Rattle.network.specs.Networks.{Network, basinsOf}
 use Rattle.network.specs.Settings.{isGated, gateCount, isSetting, before}
 use Rattle.network.specs.Hangings.{way, ways, arcs}
 use Rattle.network.specs.Plans.{strong, isPlan, nextPlan}
 use Rattle.network.specs.Lone.{reachAt}
-use Rattle.lists.proofs.Bools.{decide, clash, fails}
+use Rattle.lists.proofs.Bools.{decide, clash}
 use Rattle.network.proofs.Ways.{length-ways, plain-way, gate-way, gate-small}
 use Rattle.network.proofs.Order.{before-irrefl, setting-length, plan-setting, next-is-plan, next-is-later, next-unique}
 use Rattle.network.proofs.Lone.{plan-gate-small}
@@ -211,7 +211,7 @@ module _ (N : Network) (s : List ℕ) where
         later = sym (order r (m .is-plan)) ∙ before-at (ways t s) (ways t r) i 3 (omega (arith, length-ways t s)) (omega (arith, length-ways t r)) r-alike (omega (arith, r-at, zero-at))
 
         earliest : (q : List ℕ) → isPlan N q ≡ true → before s q ≡ true → before q r ≡ false
-        earliest q e after-s = fails (before q r) (λ below-r. go below-r (ℕ-discrete (getD (ways t q) i 3) (getD (ways t s) i 3)))
+        earliest q e after-s = bool-eq-false {b = before q r} (λ below-r. go below-r (ℕ-discrete (getD (ways t q) i 3) (getD (ways t s) i 3)))
           where
             q-alike : before q r ≡ true → Alike N s q i
             q-alike below-r =

@@ -7,13 +7,14 @@ use mathlib.Core.Bool.{Bool, true, false}
 use mathlib.Core.List.{List}
 use lib.ListN.{length, getD, set}
 use lib.Seq.{set-set}
+use mathlib.Mathlib.Data.Bool.Basic.{bool-eq-false}
 use Rattle.lists.specs.Lists.{range}
 use Rattle.network.specs.Tables.{kindOf}
 use Rattle.network.specs.Settings.{isGated}
 use Rattle.network.specs.Hangings.{Arc, reached}
 use Rattle.network.specs.Plans.{reachesAll}
 use Rattle.network.specs.Marks.{bit}
-use Rattle.lists.proofs.Bools.{fails, clash}
+use Rattle.lists.proofs.Bools.{clash}
 use Rattle.lists.proofs.Searches.{every-at, every-make}
 use Rattle.lists.proofs.Ranges.{range-has, range-in}
 use Rattle.network.proofs.Walks.{walk-trans, walk-reached, reached-walk}
@@ -133,7 +134,7 @@ weakest-0 {A} {n} {r} m l =
     record {
       bound = omega arith;
       lower = λ u k. absurd (omega arith);
-      at = λ k. fails (reachesAll (range 0 n) A 0) (λ e. clash (every-at (reached A 0) e (range-has 0 n (omega arith) (omega arith))) (m .at l));
+      at = λ k. bool-eq-false {b = reachesAll (range 0 n) A 0} (λ e. clash (every-at (reached A 0) e (range-has 0 n (omega arith) (omega arith))) (m .at l));
     }
 
 -- it does, and so does each basin that leads to it
@@ -147,6 +148,6 @@ weakest-back {A} {B} {n} {r} pos m against k =
           walk-reached
           (walk-trans (reached-walk A u 0 (sym (against 0 u) ∙ k .lower u l)) (reached-walk A 0 v (m .lower v (omega (arith, (range-in 0 n mv) .1))))));
       at = λ l.
-          fails (reachesAll (range 0 n) A r)
+          bool-eq-false {b = reachesAll (range 0 n) A r}
           (λ e. clash (every-at (reached A r) e (range-has 0 n (omega arith) (omega arith))) (sym (against 0 r) ∙ k .at l));
     }

@@ -15,7 +15,7 @@ use lib.Dec.{leb}
 use borrow.Author.Tests.{leb-true, le-leb, lt-leb}
 use Rattle.lists.proofs.Lists.{map-more}
 use Rattle.lists.proofs.Ranges.{length-range, map-range-suc, put-suc}
-use Rattle.network.specs.declared.Kind.the-variants.{Gated, TwoWay}
+use Rattle.network.specs.declared.Kind.the-variants.{TwoWay}
 use Rattle.network.specs.declared.Reach.{Reach}
 use Rattle.lists.specs.Lists.{range}
 use Rattle.network.specs.Networks.{maxReaches}
@@ -23,10 +23,7 @@ use Rattle.network.specs.Tables.{kindOf, tableOf}
 use Rattle.tables.proofs.Laws.{table-of-rows}
 use Rattle.lent.specs.declared.Packed.{Packed}
 use Rattle.lent.specs.Rows.{heldOf, rowOf, kindIn, packedOf, zeros, emptyOf, numbersOf, putAt, reachIn, storedOf, into, unpackedInto}
-
--- What stands for a reach where a table has none.
-abbrev pub noReach : Reach
-noReach = record { kind = Gated; a = 0; b = 0 }
+use Rattle.network.specs.Lone.{noReach}
 
 abbrev pub filled : List Reach → ℕ → Packed
 filled t i = record {

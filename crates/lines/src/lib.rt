@@ -3,9 +3,9 @@
 use network::Refusal;
 use planner::Answer;
 use planner::Verdict;
+use tables::least;
 ghost use mathlib.Core.Path.{_≡_};
 ghost use mathlib.Core.List.{map};
-ghost use Prim.Native.Nat.{min};
 ghost use lib.ListN.{drop};
 ghost use Rattle.network.specs.Replies.{refusalNumber};
 ghost use Rattle.lines.specs.Listings.{line, character, planText, endText, moreText, refusedText};
@@ -35,13 +35,6 @@ fn number_of(r: Refusal) -> u8
         Refusal::BadSetting => 8,
         Refusal::LastPlan => 11,
     }
-}
-
-// The smaller of two counts.
-pub fn least(x: usize, y: usize) -> usize
-    ensures { λ r. ⌜ r ≡ min x y ⌝ }
-{
-    if x < y { x } else { y }
 }
 
 // Puts the first bytes of a text to the front of the buffer, as many as it holds.

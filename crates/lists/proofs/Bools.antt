@@ -8,26 +8,10 @@ pub or-cases : (a b : Bool) → a || b ≡ true → (a ≡ true) ⊎ (b ≡ true
 or-cases true b e = inl refl
 or-cases false b e = inr e
 
-pub or-left : {a : Bool} (b : Bool) → a ≡ true → a || b ≡ true
-or-left b p = rw p
-
-pub or-right : (a : Bool) {b : Bool} → b ≡ true → a || b ≡ true
-or-right true p = refl
-or-right false p = p
-
 -- a test passes or fails
 pub decide : (b : Bool) → (b ≡ true) ⊎ (b ≡ false)
 decide true = inl refl
 decide false = inr refl
-
--- a test that cannot pass fails, and one that cannot fail passes
-pub fails : (b : Bool) → (b ≡ true → ⊥) → b ≡ false
-fails true n = absurd (n refl)
-fails false n = refl
-
-pub passes : (b : Bool) → (b ≡ false → ⊥) → b ≡ true
-passes true n = refl
-passes false n = absurd (n refl)
 
 pub clash {ℓ} : {A : Type ℓ} {b : Bool} → b ≡ true → b ≡ false → A
 clash {b} p q = absurd (true≢false (cc))
@@ -37,12 +21,6 @@ pub same-test : (a b : Bool) → (a ≡ true → b ≡ true) → (b ≡ true →
 same-test true b f g = rw (f refl)
 same-test false true f g = g refl
 same-test false false f g = refl
-
-pub not-passes : {b : Bool} → b ≡ false → not b ≡ true
-not-passes p = rw p
-
-pub not-fails : {b : Bool} → b ≡ true → not b ≡ false
-not-fails p = rw p
 
 -- ---- tests that are the same, and tests that differ
 

@@ -1,14 +1,14 @@
 -- Laws of lists by place: getD, take, drop, set, ++, map and replicate, beyond those of lib.ListN and lib.Seq.
 -- Assumes nothing.
-use Prim.Native.Nat.{ℕ, zero, suc, _+_, _-_, _≤_, _<_}
-use native.Mathlib.Nat.{not-suc-le-zero, le-of-suc-le-suc, sub-zero, zero-sub, suc-sub-suc}
+use Prim.Native.Nat.{ℕ, zero, suc, min, _+_, _-_, _≤_, _<_}
+use native.Mathlib.Nat.{not-suc-le-zero, le-of-suc-le-suc, sub-zero, zero-sub, suc-sub-suc, suc-ne-zero, min-zero, suc-min-suc}
 use native.Mathlib.Numerals.{add-one}
 use native.Mathlib.Omega.{arith}
 use mathlib.Core.Path.{_≡_, refl, ap, _∙_}
 use mathlib.Core.Bool.{Bool, true, false, cond}
 use mathlib.Core.List.{List, [], _∷_, _++_, map}
-use lib.ListN.{length, getD, take, drop, set, replicate, length-append, length-take, length-drop}
-use lib.Seq.{take-all, take-suc, take-suc-set, drop-cons, set-at, append-snoc, length-take-le}
+use lib.ListN.{length, getD, take, drop, set, replicate, length-append, length-take, length-drop, length-set, List·getD-append}
+use lib.Seq.{sets, length-sets, getD-take, getD-drop, getD-append-add, take-nil, take-all, take-suc, take-suc-set, drop-cons, set-at, append-snoc, length-take-le}
 
 module _ {A : Type 0} where
   -- ---- getD
@@ -25,7 +25,26 @@ module _ {A : Type 0} where
   getD-replicate-all (suc n) zero a = refl
   getD-replicate-all (suc n) (suc i) a = getD-replicate-all n i a
 
+  -- in the front of one list before the back of another
+  pub getD-front : (xs ys : List A) (i j : ℕ) (d : A) → i ≤ length xs → j < i → getD (take i xs ++ drop i ys) j d ≡ getD xs j d
+  getD-front xs ys i j d l k = List·getD-append (take i xs) (drop i ys) d j (omega (arith, length-take-le i xs l)) ∙ getD-take i xs j d k
+
+  pub getD-back : (xs ys : List A) (i j : ℕ) (d : A) → i ≤ length xs → i ≤ j → getD (take i xs ++ drop i ys) j d ≡ getD ys j d
+  getD-back xs ys i j d l k =
+      let at : j ≡ length (take i xs) + (j - i) = omega (arith, length-take-le i xs l) in
+      ap (λ (m : ℕ). getD (take i xs ++ drop i ys) m d) at ∙ getD-append-add (take i xs) (drop i ys) (j - i) d ∙ getD-drop i ys (j - i) d ∙ ap (λ (m : ℕ). getD ys m d) (omega arith)
+
   -- ---- take and drop
+
+  pub nil-of-length : (l : List A) → length l ≡ 0 → l ≡ []
+  nil-of-length [] e = refl
+  nil-of-length (x ∷ l) e = absurd (suc-ne-zero (length l) e)
+
+  -- as many members as there are, at most n
+  pub take-min : (n : ℕ) (l : List A) → take (min (length l) n) l ≡ take n l
+  take-min zero l = ap (λ (k : ℕ). take k l) (min-zero (length l))
+  take-min (suc n) [] = take-nil (min (length {A = A} []) (suc n))
+  take-min (suc n) (x ∷ l) = ap (λ (k : ℕ). take k (x ∷ l)) (suc-min-suc (length l) n) ∙ ap (λ (t : List A). x ∷ t) (take-min n l)
 
   -- the next member, and what is left after it
   pub drop-one : (l : List A) (i : ℕ) (d : A) → i < length l → drop i l ≡ getD l i d ∷ drop (i + 1) l
@@ -51,6 +70,23 @@ module _ {A : Type 0} where
   copy-more s old i d l k =
       rw (add-one, drop-cons old i d k, take-suc s i d l, append-snoc)
       (set-at (take i s) (getD old i d) (drop (suc i) old) (getD s i d) i (length-take-le i s (omega arith)))
+
+  -- a run of stores after a run of stores
+  sets-append : (l : List A) (i : ℕ) (xs ys : List A) → sets (sets l i xs) (i + length xs) ys ≡ sets l i (xs ++ ys)
+  sets-append l i [] ys = ap (λ j. sets l j ys) (omega arith)
+  sets-append l i (x ∷ xs) ys =
+      let next : i + suc (length xs) ≡ suc i + length xs = omega arith in
+      rw next (sets-append (set l i x) (suc i) xs ys)
+
+  pub sets-after : (l : List A) (i j : ℕ) (xs ys : List A) → j ≡ i + length xs → sets (sets l i xs) j ys ≡ sets l i (xs ++ ys)
+  sets-after l i j xs ys e = rw e (sets-append l i xs ys)
+
+  -- stores keep the length
+  pub sets-long : (l l₁ : List A) (i : ℕ) (vs : List A) → l₁ ≡ sets l i vs → length l₁ ≡ length l
+  sets-long l l₁ i vs e = ap length e ∙ length-sets l i vs
+
+  pub set-sets-long : (l l₁ : List A) (at : ℕ) (k : A) (i : ℕ) (vs : List A) → l₁ ≡ sets (set l at k) i vs → length l₁ ≡ length l
+  set-sets-long l l₁ at k i vs e = sets-long (set l at k) l₁ i vs e ∙ length-set l at k
 
   -- ---- a list that may have one member more
 

@@ -8,14 +8,13 @@ use mathlib.Core.List.{List, [], _∷_, _++_, map, List·Memᴰ, List·Memᴰ·h
 use mathlib.Core.Option.{none, some, Option·some-injective, Option·none-ne-some, Option·some-ne-none}
 use native.Mathlib.Nat.{not-suc-le-zero, le-of-suc-le-suc}
 use native.Mathlib.Omega.{arith}
-use mathlib.Mathlib.Data.Bool.Basic.{and-elim-left, and-elim-right, and-intro}
+use mathlib.Mathlib.Data.Bool.Basic.{and-elim-left, and-elim-right, and-intro, or-inl, or-inr, bool-eq-false}
 use lib.ListN.{length, getD, drop, drop-of-length-le, length-append}
 use lib.Dec.{eqb}
 use borrow.Author.Tests.{eqb-true, eqb-false, eq-eqb}
 use Rattle.lists.specs.Lists.{range, every, some?, find, keep, elem}
-use Rattle.lists.proofs.Bools.{or-left, or-right, decide, fails, clash, same-test}
+use Rattle.lists.proofs.Bools.{decide, clash, same-test}
 use Rattle.lists.proofs.Lists.{drop-one}
-use Rattle.lists.proofs.Ranges.{range-has, range-in}
 
 module _ {A : Type 0} (p : A → Bool) where
   -- every: what holds of each member, and the other way round
@@ -47,8 +46,8 @@ module _ {A : Type 0} (p : A → Bool) where
 
   -- some?: a member of which the test holds
   pub some-make : {x : A} {xs : List A} → List·Memᴰ x xs → p x ≡ true → some? p xs ≡ true
-  some-make (List·Memᴰ·head {x = y} {xs = ys} e) h = or-left (some? p ys) (rw e at h)
-  some-make (List·Memᴰ·tail {x = y} {xs = ys} m) h = or-right (p y) (some-make m h)
+  some-make (List·Memᴰ·head {x = y} {xs = ys} e) h = or-inl _ (some? p ys) (rw e at h)
+  some-make (List·Memᴰ·tail {x = y} {xs = ys} m) h = or-inr (p y) _ (some-make m h)
 
   pub some-has : (xs : List A) → some? p xs ≡ true → (x : A) × List·Memᴰ x xs × (p x ≡ true)
   some-has [] h = absurd (false≢true h)
@@ -59,7 +58,7 @@ module _ {A : Type 0} (p : A → Bool) where
       (decide (p x))
 
   pub some-none : {x : A} {xs : List A} → some? p xs ≡ false → List·Memᴰ x xs → p x ≡ false
-  some-none {x} h m = fails (p x) (λ e. clash (some-make m e) h)
+  some-none {x} h m = bool-eq-false {b = p x} (λ e. clash (some-make m e) h)
 
   -- find: what it does at one member
   pub find-yes : {x : A} (xs : List A) → p x ≡ true → find p (x ∷ xs) ≡ some x
@@ -78,7 +77,7 @@ module _ {A : Type 0} (p : A → Bool) where
       (decide (p y))
 
   pub find-none : {x : A} {xs : List A} → find p xs ≡ none → List·Memᴰ x xs → p x ≡ false
-  find-none h (List·Memᴰ·head {x = y} {xs = ys} e) = rw e (fails (p y) (λ t. Option·some-ne-none y (sym (find-yes ys t) ∙ h)))
+  find-none h (List·Memᴰ·head {x = y} {xs = ys} e) = rw e (bool-eq-false {b = p y} (λ t. Option·some-ne-none y (sym (find-yes ys t) ∙ h)))
   find-none h (List·Memᴰ·tail {x = y} {xs = ys} m) =
       ⊎-elim
       (λ e. absurd (Option·some-ne-none y (sym (find-yes ys e) ∙ h)))

@@ -1,6 +1,6 @@
 -- Laws of bytes read as one number: how large a word is, and a word taken in from its highest byte on.
 -- Assumes nothing.
-use Prim.Native.Nat.{ℕ, zero, suc, _+_, _-_, _*_, _^_, _≤_, _<_}
+use Prim.Native.Nat.{ℕ, zero, suc, _+_, _-_, _*_, _/_, _%_, _^_, _≤_, _<_}
 use native.Mathlib.Numerals.{add-one}
 use native.Mathlib.Omega.{arith}
 use mathlib.Core.Path.{_≡_}
@@ -47,3 +47,19 @@ word-more at j m room h =
     let this : at + 8 - (j + 1) ≡ at + 7 - j = omega arith in
     let next : at + 8 - j ≡ suc (at + 7 - j) = omega arith in
     rw (this, next, add-one j, drop-cons m (at + 7 - j) 0 (omega arith)) (omega arith)
+
+-- ---- words of two bytes
+
+front-two : (f : List ℕ) (i : ℕ) → i + 1 < length f → take 2 (drop i f) ≡ getD f i 0 ∷ getD f (i + 1) 0 ∷ []
+front-two f i h = rw (drop-cons f i 0 (omega arith), drop-cons f (suc i) 0 (omega arith), add-one)
+
+-- the two bytes at a place of a list
+pub word-two : (f : List ℕ) (i : ℕ) → i + 1 < length f → getD f i 0 + 256 * getD f (i + 1) 0 ≡ wordOf (take 2 (drop i f))
+word-two f i h = rw (front-two f i h) (omega arith)
+
+-- two bytes are those of the number that they are read as
+pub low-byte : (x y : ℕ) → x < 256 → wordOf (x ∷ y ∷ []) % 256 ≡ x
+low-byte x y h = omega arith
+
+pub high-byte : (x y : ℕ) → x < 256 → wordOf (x ∷ y ∷ []) / 256 ≡ y
+high-byte x y h = omega arith

@@ -10,9 +10,9 @@ use mathlib.Core.List.{List, map}
 use lib.ListN.{getD}
 use lib.Dec.{eqb}
 use lib.Pow.{pow-mono}
+use mathlib.Mathlib.Data.Bool.Basic.{bool-eq-false}
 use Rattle.lists.specs.Lists.{range, elem}
 use Rattle.network.specs.Marks.{bit, digits}
-use Rattle.lists.proofs.Bools.{fails}
 use Rattle.lists.proofs.Searches.{keep-in, elem-in, elem-keep}
 use Rattle.lists.proofs.Ranges.{range-has, range-in}
 use Rattle.marks.specs.Sets.{markedSet}
@@ -27,7 +27,7 @@ module _ (n : ℕ) (seen : List ℕ) (x b : ℕ) where
 
   -- no basin from n on is marked
   pub marked-past : n ≤ b → elem b (markedSet n seen x) ≡ false
-  marked-past h = fails (elem b (markedSet n seen x))
+  marked-past h = bool-eq-false {b = elem b (markedSet n seen x)}
       (λ e. let r = range-in 0 n (keep-in (λ k. eqb (getD seen k 0) x) (range 0 n) (elem-in b (markedSet n seen x) e) .0) in omega arith)
 
 -- ---- eight basins

@@ -3,9 +3,9 @@
 use mathlib.Core.Path.{_≡_, sym, _∙_}
 use mathlib.Core.Bool.{true}
 use mathlib.Core.Option.{some, Option·some-ne-none}
+use mathlib.Mathlib.Data.Bool.Basic.{eq-true-of-not-eq-false}
 use Rattle.network.specs.declared.Refusal.{Refusal}
 use Rattle.network.specs.Networks.{Network, goodCount, goodLength, goodEnds, tableFault, Accepted}
-use Rattle.lists.proofs.Bools.{passes}
 use Rattle.tables.specs.declared.TableAnswer.the-variants as T
 use Rattle.tables.proofs.Faults.{fault-count, fault-length, fault-ends}
 
@@ -21,10 +21,10 @@ good N h = record { count = count; few = few; ends = ends }
     not-refused r e = Option·some-ne-none r (sym e ∙ h)
 
     count : goodCount N ≡ true
-    count = passes (goodCount N) (λ e. not-refused _ (fault-count N e))
+    count = eq-true-of-not-eq-false {b = goodCount N} (λ e. not-refused _ (fault-count N e))
 
     few : goodLength N ≡ true
-    few = passes (goodLength N) (λ e. not-refused _ (fault-length N count e))
+    few = eq-true-of-not-eq-false {b = goodLength N} (λ e. not-refused _ (fault-length N count e))
 
     ends : goodEnds N ≡ true
-    ends = passes (goodEnds N) (λ e. not-refused _ (fault-ends N count few e))
+    ends = eq-true-of-not-eq-false {b = goodEnds N} (λ e. not-refused _ (fault-ends N count few e))

@@ -11,6 +11,7 @@ use mathlib.Core.Option.{Option, none, some, Option·getD}
 use mathlib.Core.List.{List, List·Memᴰ}
 use lib.ListN.{length}
 use borrow.Author.Tests.{not-false, not-true}
+use mathlib.Mathlib.Data.Bool.Basic.{bool-eq-false}
 use Rattle.lists.specs.Lists.{keep, elem}
 use Rattle.network.specs.Networks.{Network, basinsOf, Accepted}
 use Rattle.network.specs.Settings.{isGated, isSetting}
@@ -19,7 +20,7 @@ use Rattle.network.specs.Plans.{reachesAll, strongUnder, isPlan, passabl
 use Rattle.network.specs.Lone.{reachAt, isLone, lowestLone}
 use Rattle.network.specs.Marks.{markBytes, marksOf, marked, onesIn}
 use Rattle.network.specs.Replies.{shutIn, lone, shutInBasin, shutInSide, loneSide, shutInFinding, loneFinding}
-use Rattle.lists.proofs.Bools.{fails, clash, not-passes}
+use Rattle.lists.proofs.Bools.{clash}
 use Rattle.lists.proofs.Searches.{every-fails, find-some, find-none, find-first, keep-in, keep-same, elem-in, elem-keep}
 use Rattle.network.proofs.Marks.{marked-is, unmarked-past, marks-same, count-is}
 use Rattle.network.proofs.Cuts.{reached-on}
@@ -61,8 +62,8 @@ module _ (N : Network) (ok : Accepted N) (S : List ℕ) (basins : (b : ℕ) → 
           go : Dec (b < N .basins) → elem b S ≡ elem b (keep (λ b. elem b S) (basinsOf N))
           go (yes below) = sym (elem-keep (λ b. elem b S) (basin-in N b below))
           go (no n) =
-              fails (elem b S) (λ e. n (basin-below N b (basins b (elem-in b S e))))
-              ∙ sym (fails (elem b (keep (λ b. elem b S) (basinsOf N))) (λ e. n (basin-below N b ((keep-in (λ b. elem b S) (basinsOf N) (elem-in b (keep (λ b. elem b S) (basinsOf N)) e)) .0))))
+              bool-eq-false {b = elem b S} (λ e. n (basin-below N b (basins b (elem-in b S e))))
+              ∙ sym (bool-eq-false {b = elem b (keep (λ b. elem b S) (basinsOf N))} (λ e. n (basin-below N b ((keep-in (λ b. elem b S) (basinsOf N) (elem-in b (keep (λ b. elem b S) (basinsOf N)) e)) .0))))
 
 -- ---- shut in
 
@@ -94,7 +95,7 @@ shut-in-at N n = go (shutInBasin N) refl
     go : (o : Option ℕ) → shutInBasin N ≡ o → (u : ℕ) × ShutInAt N u
     go none e =
         let k = every-fails (reachesAll (basinsOf N) (arcsUnder N (unhung N))) (basinsOf N) n in
-        clash (not-passes (k .2)) (find-none test e (k .1))
+        clash (ap not (k .2)) (find-none test e (k .1))
     go (some u) e =
         let k = find-some test (basinsOf N) e in (
           u,

@@ -6,10 +6,10 @@ use mathlib.Core.Bool.{Bool, true, false, not, _&&_, _||_}
 use mathlib.Core.Logic.{_⊎_, ⊎-elim}
 use mathlib.Core.List.{List, List·Memᴰ, Memᴰ·cast}
 use borrow.Author.Tests.{not-true}
-use mathlib.Mathlib.Data.Bool.Basic.{and-intro, and-elim-right, and-elim-left}
+use mathlib.Mathlib.Data.Bool.Basic.{and-elim-left, and-elim-right, and-intro, or-inl, or-inr, bool-eq-false, eq-true-of-not-eq-false}
 use Rattle.network.specs.Hangings.{Arc, arc, Walk, reached}
 use Rattle.network.specs.Plans.{reachesAll, strong}
-use Rattle.lists.proofs.Bools.{or-cases, or-left, or-right, fails, passes, clash, same-test, not-passes}
+use Rattle.lists.proofs.Bools.{or-cases, clash, same-test}
 use Rattle.lists.proofs.Searches.{every-at, every-make}
 use Rattle.network.proofs.Walks.{Within, walk-trans, walk-arc, walk-along, walk-within, walk-inside, walk-reached, reached-walk, arc-from, arc-to, reached-refl}
 
@@ -57,7 +57,7 @@ detour {R} {A₁} {A₂} {a} {b} one two back p = walk-along over p
 
 -- With only the arc from a to b more, b leads to a just if it did before.
 pub came-back : {R A : List Arc} {a b : ℕ} → OneMore R A a b → Walk A b a → reached R b a ≡ true
-came-back {R} {A} {a} {b} one p = passes (reached R b a) (λ n. clash (walk-inside (reached R b) (closed n) p (reached-refl R b)) n)
+came-back {R} {A} {a} {b} one p = eq-true-of-not-eq-false {b = reached R b a} (λ n. clash (walk-inside (reached R b) (closed n) p (reached-refl R b)) n)
   where
     closed : reached R b a ≡ false → (c d : ℕ) → List·Memᴰ (arc c d) A → reached R b c ≡ true → reached R b d ≡ true
     closed n c d m e =
@@ -73,15 +73,15 @@ module _ (bs : List ℕ) (R A : List Arc) (a b : ℕ) (two : TwoMore R A a b) (s
     (ba : reached R b a ≡ false) (ab : reached R a b ≡ false) where
   -- either leads to each basin
   cover : (v : ℕ) → List·Memᴰ v bs → reached R b v || reached R a v ≡ true
-  cover v mv = walk-inside (λ x. reached R b x || reached R a x) closed (str b v inb mv) (or-left _ (reached-refl R b))
+  cover v mv = walk-inside (λ x. reached R b x || reached R a x) closed (str b v inb mv) (or-inl _ _ (reached-refl R b))
     where
       closed : (c d : ℕ) → List·Memᴰ (arc c d) A → reached R b c || reached R a c ≡ true → reached R b d || reached R a d ≡ true
       closed c d m e =
           ⊎-elim
-          (λ same. subst (λ (x : ℕ). reached R b x || reached R a x ≡ true) (sym (arc-to same)) (or-left _ (reached-refl R b)))
+          (λ same. subst (λ (x : ℕ). reached R b x || reached R a x ≡ true) (sym (arc-to same)) (or-inl _ _ (reached-refl R b)))
           (⊎-elim
-          (λ same. subst (λ (x : ℕ). reached R b x || reached R a x ≡ true) (sym (arc-to same)) (or-right (reached R b a) (reached-refl R a)))
-          (λ m′. ⊎-elim (λ p. or-left _ (reached-on R b c d m′ p)) (λ p. or-right (reached R b d) (reached-on R a c d m′ p)) (or-cases (reached R b c) _ e)))
+          (λ same. subst (λ (x : ℕ). reached R b x || reached R a x ≡ true) (sym (arc-to same)) (or-inr (reached R b a) _ (reached-refl R a)))
+          (λ m′. ⊎-elim (λ p. or-inl _ _ (reached-on R b c d m′ p)) (λ p. or-inr (reached R b d) _ (reached-on R a c d m′ p)) (or-cases (reached R b c) _ e)))
           (two (arc c d) m)
 
   -- and never both
@@ -111,7 +111,7 @@ module _ (bs : List ℕ) (R A : List Arc) (a b : ℕ) (two : TwoMore R A a b) (s
   pub other-side : (v : ℕ) → List·Memᴰ v bs → reached R a v ≡ not (reached R b v)
   other-side v mv =
       same-test (reached R a v) (not (reached R b v))
-      (λ pa. not-passes (fails (reached R b v) (λ pb. apart v mv pb pa)))
+      (λ pa. ap not (bool-eq-false {b = reached R b v} (λ pb. apart v mv pb pa)))
       (λ n. ⊎-elim (λ pb. clash pb (not-true (reached R b v) n)) (λ pa. pa) (or-cases (reached R b v) _ (cover v mv)))
 
 -- If only one arc of A crosses a side, two basins that reach each other are on one side.
@@ -122,11 +122,11 @@ one-crossing A S p q u v f there back = go (S p) refl
     inside n c d m e = ⊎-elim (λ same. clash e (ap S (arc-from same) ∙ n)) (λ same. sym same ∙ e) (f c d m)
 
     outside : S p ≡ true → (c d : ℕ) → List·Memᴰ (arc c d) A → not (S c) ≡ true → not (S d) ≡ true
-    outside y c d m e = ⊎-elim (λ same. clash (ap S (arc-from same) ∙ y) (not-true (S c) e)) (λ same. not-passes (sym same ∙ not-true (S c) e)) (f c d m)
+    outside y c d m e = ⊎-elim (λ same. clash (ap S (arc-from same) ∙ y) (not-true (S c) e)) (λ same. ap not (sym same ∙ not-true (S c) e)) (f c d m)
 
     go : (b : Bool) → S p ≡ b → S u ≡ S v
     go false n = same-test (S u) (S v) (walk-inside S (inside n) there) (walk-inside S (inside n) back)
     go true y =
         same-test (S u) (S v)
-        (λ e. passes (S v) (λ n. clash e (not-true (S u) (walk-inside (λ x. not (S x)) (outside y) back (not-passes n)))))
-        (λ e. passes (S u) (λ n. clash e (not-true (S v) (walk-inside (λ x. not (S x)) (outside y) there (not-passes n)))))
+        (λ e. eq-true-of-not-eq-false {b = S v} (λ n. clash e (not-true (S u) (walk-inside (λ x. not (S x)) (outside y) back (ap not n)))))
+        (λ e. eq-true-of-not-eq-false {b = S u} (λ n. clash e (not-true (S v) (walk-inside (λ x. not (S x)) (outside y) there (ap not n)))))

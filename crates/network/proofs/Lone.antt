@@ -11,7 +11,7 @@ use mathlib.Core.List.{List, [], _∷_, map, List·Memᴰ, List·Memᴰ·head, L
 use lib.ListN.{length, getD, List·getD-eq-default}
 use lib.Dec.{eqb}
 use borrow.Author.Tests.{eqb-true, eq-eqb, ne-eqb, not-false, not-true}
-use mathlib.Mathlib.Data.Bool.Basic.{and-intro, and-elim-right, and-elim-left}
+use mathlib.Mathlib.Data.Bool.Basic.{and-elim-left, and-elim-right, and-intro, eq-true-of-not-eq-false}
 use Rattle.network.specs.declared.Reach.{Reach}
 use Rattle.lists.specs.Lists.{range, some?, find, keep, elem}
 use Rattle.network.specs.Networks.{Network, basinsOf, lowestBasin, Accepted}
@@ -20,7 +20,7 @@ use Rattle.network.specs.Hangings.{Arc, arc, passing, arcs, ways, arcsUn
 use Rattle.network.specs.Plans.{strong, strongUnder, isPlan}
 use Rattle.network.specs.Lone.{sides, divides, crosses, noReach, reachAt, crossesAlone, isLone}
 use Rattle.network.specs.Replies.{loneSide}
-use Rattle.lists.proofs.Bools.{decide, passes, clash, not-passes, not-fails, beq-true, beq-make, both-differ, differ-not}
+use Rattle.lists.proofs.Bools.{decide, clash, beq-true, beq-make, both-differ, differ-not}
 use Rattle.lists.proofs.Searches.{every-at, every-make, some-make, some-has, find-some, find-none, elem-keep}
 use Rattle.lists.proofs.Ranges.{range-has, range-in}
 use Rattle.network.proofs.Walks.{walk-inside}
@@ -81,7 +81,7 @@ alone-test N S i f = every-make (λ j. Bool·beq (crosses S (reachAt N j)) (eqb 
         go (yes e) = beq-make (crosses S (reachAt N j)) (eqb j i) (subst⁻¹ (λ (x : ℕ). crosses S (reachAt N x) ≡ true) e (f .crossing) ∙ sym (eq-eqb j i e))
         go (no n) =
             beq-make (crosses S (reachAt N j)) (eqb j i)
-            (not-fails (beq-make _ _ (f .others j (omega (arith, (range-in 0 (length (N .reaches)) m) .1)) n)) ∙ sym (ne-eqb j i n))
+            (ap not (beq-make _ _ (f .others j (omega (arith, (range-in 0 (length (N .reaches)) m) .1)) n)) ∙ sym (ne-eqb j i n))
 
 -- a side that agrees with S on the basins is crossed like S
 pub alone-same : (N : Network) → Accepted N → (S S′ : ℕ → Bool) (i : ℕ) → i < length (N .reaches) → ((b : ℕ) → List·Memᴰ b (basinsOf N) → S′ b ≡ S b) → Alone N S i → Alone N S′ i
@@ -138,7 +138,7 @@ cut-of N ok i l S f =
     inside x y mx my px py =
         and-intro
         (some-make (λ b. elem b (keep S (basinsOf N))) mx (elem-keep S mx ∙ px))
-        (some-make (λ b. not (elem b (keep S (basinsOf N)))) my (not-passes (elem-keep S my ∙ py)))
+        (some-make (λ b. not (elem b (keep S (basinsOf N)))) my (ap not (elem-keep S my ∙ py)))
 
     go : (x y : Bool) → S ((reachAt N i) .a) ≡ x → S ((reachAt N i) .b) ≡ y → not (Bool·beq x y) ≡ true → divides (basinsOf N) (keep S (basinsOf N)) ≡ true
     go true true ea eb e = absurd (false≢true e)
@@ -237,7 +237,7 @@ lone-side N ok i e = found (find test (sides (basinsOf N))) refl
     test S = not (elem (lowestBasin N) S) && (divides (basinsOf N) S && crossesAlone N S i)
 
     passing-test : (S : List ℕ) → Cut N i S → elem (lowestBasin N) S ≡ false → find test (sides (basinsOf N)) ≡ none → ⊥
-    passing-test S c w n = clash (and-intro (not-passes w) (and-intro (c .division) (c .alone))) (find-none test n (c .side))
+    passing-test S c w n = clash (and-intro (ap not w) (and-intro (c .division) (c .alone))) (find-none test n (c .side))
 
     some-side : find test (sides (basinsOf N)) ≡ none → ⊥
     some-side n =
@@ -246,7 +246,7 @@ lone-side N ok i e = found (find test (sides (basinsOf N))) refl
         ⊎-elim
         (λ y.
         passing-test (keep (λ b. not (elem b (c .0))) (basinsOf N)) (cut-of N ok i (lone-below N i e) (λ b. not (elem b (c .0))) (alone-rest N (λ b. elem b (c .0)) i f))
-        (elem-keep (λ b. not (elem b (c .0))) (lowest-in N ok) ∙ not-fails y) n)
+        (elem-keep (λ b. not (elem b (c .0))) (lowest-in N ok) ∙ ap not y) n)
         (λ w. passing-test (c .0) (c .1) w n)
         (decide (elem (lowestBasin N) (c .0)))
 

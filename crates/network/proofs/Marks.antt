@@ -10,10 +10,10 @@ use mathlib.Core.List.{List, [], _∷_, map}
 use lib.ListN.{length, getD, List·getD-eq-default}
 use lib.Dec.{eqb}
 use lib.Count.{ones, ones-cat, ones-step}
+use mathlib.Mathlib.Data.Bool.Basic.{bool-eq-false}
 use Rattle.lists.specs.Lists.{range, keep, elem}
 use Rattle.network.specs.Marks.{markBytes, bit, digits, markByte, marksOf, bitAt, marked, onesIn}
 use Rattle.lists.specs.Words.{wordOf}
-use Rattle.lists.proofs.Bools.{fails}
 use Rattle.lists.proofs.Searches.{keep-in, elem-in, elem-keep, keep-same, keep-none, count-append}
 use Rattle.lists.proofs.Ranges.{range-in, range-add, map-range-at, map-range-same}
 
@@ -129,7 +129,7 @@ count-below p n d =
     let inside : keep is (range 0 n) ≡ S = keep-same is p (range 0 n) (λ b m. elem-keep p m) in
     let outside : keep is (range (0 + n) d) ≡ [] =
     keep-same is (λ b. false) (range (0 + n) d)
-    (λ b m. fails (elem b S) (λ e. let r = range-in 0 n (keep-in p (range 0 n) (elem-in b S e) .0) in let r′ = range-in (0 + n) d m in omega arith))
+    (λ b m. bool-eq-false {b = elem b S} (λ e. let r = range-in 0 n (keep-in p (range 0 n) (elem-in b S e) .0) in let r′ = range-in (0 + n) d m in omega arith))
     ∙ keep-none (range (0 + n) d) in
     rw range-add (count-append is (range 0 n) (range (0 + n) d) ∙ omega (arith, ap length inside, ap length outside))
 

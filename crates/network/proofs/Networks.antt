@@ -10,7 +10,7 @@ use mathlib.Core.List.{List, [], _∷_, List·Memᴰ, List·Memᴰ·not-nil, Lis
 use lib.ListN.{length, getD}
 use lib.Dec.{leb, ltb}
 use borrow.Author.Tests.{leb-true, ltb-true}
-use mathlib.Mathlib.Data.Bool.Basic.{and-elim-right, and-elim-left}
+use mathlib.Mathlib.Data.Bool.Basic.{and-elim-left, and-elim-right}
 use Rattle.lists.proofs.Lists.{length-cond-le}
 use Rattle.lists.proofs.Searches.{every-getD}
 use Rattle.network.specs.declared.Reach.{Reach}

@@ -11,12 +11,12 @@ use native.Mathlib.Omega.{arith}
 use lib.ListN.{length}
 use lib.Dec.{leb, ltb, eqb}
 use borrow.Author.Tests.{ltb-true, ltb-false, leb-true, eqb-true, eq-eqb, lt-ltb}
-use mathlib.Mathlib.Data.Bool.Basic.{and-intro, and-elim-right, and-elim-left}
+use mathlib.Mathlib.Data.Bool.Basic.{and-elim-left, and-elim-right, and-intro, or-inl, or-inr, bool-eq-false, eq-true-of-not-eq-false}
 use Rattle.lists.specs.Lists.{every, find}
 use Rattle.network.specs.Networks.{Network}
 use Rattle.network.specs.Settings.{gateCount, isSetting, before, settings}
 use Rattle.network.specs.Plans.{isPlan, strongUnder, firstPlan, nextPlan}
-use Rattle.lists.proofs.Bools.{or-cases, or-left, or-right, decide, fails, passes, clash, same-test}
+use Rattle.lists.proofs.Bools.{or-cases, decide, clash, same-test}
 use Rattle.lists.proofs.Searches.{find-some, find-none, find-same, find-append, find-map}
 
 -- What before says at the first byte.
@@ -28,13 +28,13 @@ before-cons x y s t h =
     (or-cases (ltb x y) (eqb x y && before s t) h)
 
 before-less : (x y : ℕ) (s t : List ℕ) → x < y → before (x ∷ s) (y ∷ t) ≡ true
-before-less x y s t h = or-left (eqb x y && before s t) (lt-ltb x y h)
+before-less x y s t h = or-inl _ (eqb x y && before s t) (lt-ltb x y h)
 
 before-rest : (x y : ℕ) (s t : List ℕ) → x ≡ y → before s t ≡ true → before (x ∷ s) (y ∷ t) ≡ true
-before-rest x y s t e h = or-right (ltb x y) (and-intro (eq-eqb x y e) h)
+before-rest x y s t e h = or-inr (ltb x y) _ (and-intro (eq-eqb x y e) h)
 
 before-not : (x : ℕ) (s t : List ℕ) → before s t ≡ false → before (x ∷ s) (x ∷ t) ≡ false
-before-not x s t h = fails (before (x ∷ s) (x ∷ t)) (λ k. ⊎-elim (λ l. omega arith) (λ r. clash (r .1) h) (before-cons x x s t k))
+before-not x s t h = bool-eq-false {b = before (x ∷ s) (x ∷ t)} (λ k. ⊎-elim (λ l. omega arith) (λ r. clash (r .1) h) (before-cons x x s t k))
 
 -- One of the two is before the other, or they are equal.
 abbrev Compared : List ℕ → List ℕ → Type 0
@@ -56,7 +56,7 @@ before-trans (x ∷ s) (y ∷ t) (z ∷ u) h k =
     (before-cons x y s t h)
 
 pub before-asym : (s t : List ℕ) → before s t ≡ true → before t s ≡ false
-before-asym s t h = fails (before t s) (λ k. clash (before-trans s t s h k) (before-irrefl s))
+before-asym s t h = bool-eq-false {b = before t s} (λ k. clash (before-trans s t s h k) (before-irrefl s))
 
 total-rest : (x y : ℕ) (s t : List ℕ) → (y ≡ x) ⊎ (y < x) → Compared s t → Compared (x ∷ s) (y ∷ t)
 total-rest x y s t (inr l) r = inr (inr (before-less y x t s l))
@@ -229,7 +229,7 @@ next-together N s t e h n = find-same (later-plan N s) (later-plan N t) (setting
     forth : (p : List ℕ) → later-plan N s p ≡ true → later-plan N t p ≡ true
     forth p k =
         let plan = and-elim-right (before s p) (isPlan N p) k in
-        and-intro (passes (before t p) (n p plan (and-elim-left (before s p) (isPlan N p) k))) plan
+        and-intro (eq-true-of-not-eq-false {b = before t p} (n p plan (and-elim-left (before s p) (isPlan N p) k))) plan
 
     back : (p : List ℕ) → later-plan N t p ≡ true → later-plan N s p ≡ true
     back p k = and-intro (before-from s t p e h (and-elim-left (before t p) (isPlan N p) k)) (and-elim-right (before t p) (isPlan N p) k)

@@ -8,6 +8,7 @@ use mathlib.Core.Logic.{_↔_}
 use mathlib.Core.Option.{Option, none, some}
 use mathlib.Core.List.{List, []}
 use lib.ListN.{length}
+use mathlib.Mathlib.Data.Bool.Basic.{bool-eq-false}
 use Rattle.network.specs.declared.Refusal.{Refusal}
 use Rattle.network.specs.declared.Refusal.the-variants.{BasinCount, TooManyReaches, EndOutOfRange, Truncated, UnknownKind, TrailingBytes, ShortBuffer, BadSetting, LastPlan}
 use Rattle.lists.specs.Lists.{range}
@@ -15,13 +16,18 @@ use Rattle.network.specs.Networks.{Network, Accepted}
 use Rattle.network.specs.Settings.{isSetting, before}
 use Rattle.network.specs.Plans.{isPlan, passable, firstPlan, nextPlan}
 use Rattle.network.specs.Lone.{isLone, lowestLone}
-use Rattle.network.specs.Replies.{Outcome, plan, shutIn, lone, refused, refusalNumber, number, planIn, reachIn, marksIn, countIn, SameReply, shutInFinding, loneFinding, chosen, orLone, answer, firstAnswer, nextAnswer}
-use Rattle.lists.proofs.Bools.{fails, clash}
+use Rattle.network.specs.Replies.{Outcome, plan, shutIn, lone, refused, refusalNumber, number, planIn, reachIn, marksIn, countIn, SameReply, shutInFinding, loneFinding, chosen, orLone, answer, firstAnswer, nextAnswer, unless}
+use Rattle.lists.proofs.Bools.{clash}
 use Rattle.lists.proofs.Searches.{find-some, find-none}
 use Rattle.lists.proofs.Ranges.{range-has}
 use Rattle.network.proofs.Order.{first-is-plan, first-none, next-none, next-is-plan, next-is-later, next-same}
 use Rattle.network.proofs.Lone.{lone-below, lone-blocks}
 use Rattle.network.proofs.Theorem.{theorem, plan-passable}
+
+-- A plan is replied only where nothing is refused.
+pub unless-plan : (f : Option Refusal) (o : Outcome) {p : List ℕ} → unless f o ≡ plan p → (f ≡ none) × (o ≡ plan p)
+unless-plan none o e = (refl, e)
+unless-plan (some r) o e = (cc, cc)
 
 -- ---- equality of replies
 
@@ -86,7 +92,7 @@ lowest-is-lone N e = (find-some (isLone N) (range 0 (length (N .reaches))) e) .1
 
 pub no-lowest : (N : Network) → lowestLone N ≡ none → (i : ℕ) → isLone N i ≡ false
 unfolding lowestLone
-no-lowest N e i = fails (isLone N i) (λ y. clash y (find-none (isLone N) e (range-has 0 (length (N .reaches)) (omega arith) (omega (arith, lone-below N i y)))))
+no-lowest N e i = bool-eq-false {b = isLone N i} (λ y. clash y (find-none (isLone N) e (range-has 0 (length (N .reaches)) (omega arith) (omega (arith, lone-below N i y)))))
 
 -- An accepted network has a plan and gets the plan that is asked for, or has none and gets its finding, whatever is asked for.
 pub data Verdict (N : Network) : Type 0 where

@@ -12,14 +12,14 @@ use lib.ListN.{length, getD, set, length-set, length-replicate, List·getD-eq-de
 use lib.Seq.{getD-set-same, getD-set-other, set-getD}
 use lib.Dec.{leb, eqb}
 use borrow.Author.Tests.{eqb-true, eq-eqb, leb-true, le-leb}
-use mathlib.Mathlib.Data.Bool.Basic.{and-intro, and-elim-right, and-elim-left}
+use mathlib.Mathlib.Data.Bool.Basic.{and-elim-left, and-elim-right, and-intro, bool-eq-false}
 use Rattle.lists.proofs.Lists.{getD-replicate-all}
 use Rattle.network.specs.Networks.{Network, basinsOf, Accepted}
 use Rattle.network.specs.Settings.{gates, gateCount, isSetting}
 use Rattle.network.specs.Hangings.{Arc, arcs, ways, arcsUnder, reached, isHanging, unhung}
 use Rattle.network.specs.Plans.{strong, strongUnder, isPlan, passable}
 use Rattle.network.specs.Lone.{reachAt, isLone}
-use Rattle.lists.proofs.Bools.{decide, fails, clash}
+use Rattle.lists.proofs.Bools.{decide, clash}
 use Rattle.network.proofs.Cuts.{strong-within}
 use Rattle.network.proofs.Ways.{Gate, gate-at, length-ways, way-small, Looser, looser-within}
 use Rattle.lists.proofs.Searches.{every-getD, every-from}
@@ -214,6 +214,6 @@ plan-passable N s e = looser-strong N s (unhung N) (λ k. inl (unhung-2 N k)) (p
 pub theorem : (N : Network) → Accepted N → ((s : List ℕ) × (isPlan N s ≡ true)) ↔ ((passable N ≡ true) × ((i : ℕ) → isLone N i ≡ false))
 unfolding passable
 theorem N ok = (
-  λ p. (plan-passable N (p .0) (p .1), λ i. fails (isLone N i) (λ e. lone-blocks N i e (p .0) (p .1))),
+  λ p. (plan-passable N (p .0) (p .1), λ i. bool-eq-false {b = isLone N i} (λ e. lone-blocks N i e (p .0) (p .1))),
   λ q. let c = complete N ok (λ i e. clash e (q .1 i)) (unhung N) (unhung-hung N) (q .0) in (c .setting, c .is-plan),
 )

@@ -7,9 +7,9 @@ use mathlib.Core.Logic.{⊎-elim}
 use mathlib.Core.List.{List, [], _∷_, List·Memᴰ, List·Memᴰ·head, List·Memᴰ·tail, List·Memᴰ·not-nil, List·Memᴰ·cases-cons}
 use lib.Dec.{eqb}
 use borrow.Author.Tests.{eqb-true, eq-eqb}
-use mathlib.Mathlib.Data.Bool.Basic.{and-intro, and-elim-right, and-elim-left}
+use mathlib.Mathlib.Data.Bool.Basic.{and-elim-left, and-elim-right, and-intro, or-inl, or-inr}
 use Rattle.network.specs.Hangings.{Arc, arc, Walk, stay, step, reached}
-use Rattle.lists.proofs.Bools.{or-cases, or-left, or-right, same-test}
+use Rattle.lists.proofs.Bools.{or-cases, same-test}
 
 -- B has every arc of A
 abbrev pub Within : List Arc → List Arc → Type 0
@@ -45,19 +45,19 @@ arc-to e = cc
 
 pub reached-refl : (A : List Arc) (u : ℕ) → reached A u u ≡ true
 reached-refl [] u = eq-eqb u u refl
-reached-refl (arc a b ∷ A) u = or-left _ (reached-refl A u)
+reached-refl (arc a b ∷ A) u = or-inl _ _ (reached-refl A u)
 
 reached-trans : (A : List Arc) (u v w : ℕ) → reached A u v ≡ true → reached A v w ≡ true → reached A u w ≡ true
 reached-trans [] u v w p q = subst (λ (x : ℕ). eqb u x ≡ true) (eqb-true v w q) p
 reached-trans (arc a b ∷ A) u v w p q =
     ⊎-elim
     (λ uv. ⊎-elim
-    (λ vw. or-left _ (reached-trans A u v w uv vw))
-    (λ va-bw. or-right (reached A u w) (and-intro (reached-trans A u v a uv (and-elim-left (reached A v a) _ va-bw)) (and-elim-right (reached A v a) _ va-bw)))
+    (λ vw. or-inl _ _ (reached-trans A u v w uv vw))
+    (λ va-bw. or-inr (reached A u w) _ (and-intro (reached-trans A u v a uv (and-elim-left (reached A v a) _ va-bw)) (and-elim-right (reached A v a) _ va-bw)))
     (or-cases (reached A v w) _ q))
     (λ ua-bv. ⊎-elim
-    (λ vw. or-right (reached A u w) (and-intro (and-elim-left (reached A u a) _ ua-bv) (reached-trans A b v w (and-elim-right (reached A u a) _ ua-bv) vw)))
-    (λ va-bw. or-right (reached A u w) (and-intro (and-elim-left (reached A u a) _ ua-bv) (and-elim-right (reached A v a) _ va-bw)))
+    (λ vw. or-inr (reached A u w) _ (and-intro (and-elim-left (reached A u a) _ ua-bv) (reached-trans A b v w (and-elim-right (reached A u a) _ ua-bv) vw)))
+    (λ va-bw. or-inr (reached A u w) _ (and-intro (and-elim-left (reached A u a) _ ua-bv) (and-elim-right (reached A v a) _ va-bw)))
     (or-cases (reached A v w) _ q))
     (or-cases (reached A u v) _ p)
 
@@ -65,8 +65,8 @@ reached-arc : (A : List Arc) (u v : ℕ) → List·Memᴰ (arc u v) A → reache
 reached-arc [] u v m = absurd (List·Memᴰ·not-nil m)
 reached-arc (arc a b ∷ A) u v m =
     ⊎-elim
-    (λ e. or-right (reached A u v) (and-intro (subst (λ (x : ℕ). reached A u x ≡ true) (arc-from e) (reached-refl A u)) (subst (λ (x : ℕ). reached A x v ≡ true) (arc-to e) (reached-refl A v))))
-    (λ m′. or-left _ (reached-arc A u v m′))
+    (λ e. or-inr (reached A u v) _ (and-intro (subst (λ (x : ℕ). reached A u x ≡ true) (arc-from e) (reached-refl A u)) (subst (λ (x : ℕ). reached A x v ≡ true) (arc-to e) (reached-refl A v))))
+    (λ m′. or-inl _ _ (reached-arc A u v m′))
     (List·Memᴰ·cases-cons m)
 
 pub walk-reached : {A : List Arc} {u v : ℕ} → Walk A u v → reached A u v ≡ true

@@ -8,14 +8,13 @@ use mathlib.Core.Option.{Option, none, some}
 use lib.ListN.{length, getD}
 use lib.Dec.{leb, ltb}
 use borrow.Author.Tests.{leb-true, ltb-true, le-leb, lt-ltb}
-use mathlib.Mathlib.Data.Bool.Basic.{and-intro, and-elim-right, and-elim-left}
+use mathlib.Mathlib.Data.Bool.Basic.{and-elim-left, and-elim-right, and-intro, bool-eq-false}
 use Rattle.network.specs.declared.Refusal.{Refusal}
 use Rattle.network.specs.declared.Refusal.the-variants.{BasinCount, TooManyReaches, EndOutOfRange}
 use Rattle.network.specs.Networks.{Network, maxBasins, goodCount, goodLength, goodEnds, tableFault}
 use Rattle.network.specs.Tables.{tableOf}
 use Rattle.network.specs.Lone.{noReach}
 use Rattle.network.proofs.Networks.{endsBelow}
-use Rattle.lists.proofs.Bools.{fails}
 use Rattle.tables.specs.declared.TableAnswer.the-variants as T
 use Rattle.tables.specs.Answers.{answerOf}
 use Rattle.tables.proofs.Laws.{table-at}
@@ -28,7 +27,7 @@ module _ (N : Network) where
   pub count-bad : (1 ≤ N .basins → N .basins ≤ maxBasins → ⊥) → goodCount N ≡ false
   count-bad n =
       let some-basin = leb 1 (N .basins) in
-      fails (goodCount N) (λ e. n (leb-true 1 (N .basins) (and-elim-left some-basin _ e)) (leb-true (N .basins) maxBasins (and-elim-right some-basin _ e)))
+      bool-eq-false {b = goodCount N} (λ e. n (leb-true 1 (N .basins) (and-elim-left some-basin _ e)) (leb-true (N .basins) maxBasins (and-elim-right some-basin _ e)))
 
   -- the first test that fails decides
   pub fault-count : goodCount N ≡ false → tableFault N ≡ some BasinCount
@@ -55,7 +54,7 @@ module _ (n i : ℕ) (ks xs ys : List ℕ) (l : i < length (tableOf ks xs ys)) w
   pub ends-bad : (getD xs i 0 < n → getD ys i 0 < n → ⊥) → endsBelow n (getD (tableOf ks xs ys) i noReach) ≡ false
   ends-bad f =
       let below = ltb (getD xs i 0) n in
-      rw (table-at i ks xs ys l) (fails (below && ltb (getD ys i 0) n) (λ e. f (ltb-true (getD xs i 0) n (and-elim-left below _ e)) (ltb-true (getD ys i 0) n (and-elim-right below _ e))))
+      rw (table-at i ks xs ys l) (bool-eq-false {b = below && ltb (getD ys i 0) n} (λ e. f (ltb-true (getD xs i 0) n (and-elim-left below _ e)) (ltb-true (getD ys i 0) n (and-elim-right below _ e))))
 
 -- what the answer says of the fault
 pub answer-refused : (o : Option Refusal) (r : Refusal) → answerOf o ≡ T.Refused r → o ≡ some r

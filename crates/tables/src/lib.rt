@@ -31,7 +31,7 @@ pub enum TableAnswer {
 }
 
 // The smaller of two counts.
-fn smaller(x: usize, y: usize) -> usize
+pub fn least(x: usize, y: usize) -> usize
     ensures { λ r. ⌜ r ≡ min x y ⌝ }
 {
     if x < y { x } else { y }
@@ -41,7 +41,7 @@ fn smaller(x: usize, y: usize) -> usize
 pub fn row_count(kinds: &[u8], a: &[u16], b: &[u16]) -> usize
     ensures { λ r. ⌜ r ≡ length (tableOf (now (kinds .entry)) (now (a .entry)) (now (b .entry))) ⌝ }
 {
-    smaller(kinds.len(), smaller(a.len(), b.len()))
+    least(kinds.len(), least(a.len(), b.len()))
 }
 
 // Whether both ends of every reach are below the basin count.

@@ -15,7 +15,7 @@ use Rattle.network.specs.Networks.{Network, maxReaches, tableFault, Accepted}
 use Rattle.network.specs.Settings.{gateCount, isSetting, settingFault}
 use Rattle.network.specs.Replies.{Outcome, plan, shutIn, lone, refused, planAfter, unless, roomFault, nextAnswer, nextReply}
 use Rattle.network.proofs.Order.{setting-length, plan-setting, next-is-plan}
-use Rattle.network.proofs.Replies.{next-given}
+use Rattle.network.proofs.Replies.{next-given, unless-plan}
 use Rattle.planner.specs.declared.Verdict.the-variants.{Plan}
 use Rattle.planner.specs.declared.Reply.{Reply}
 use Rattle.planner.specs.declared.Answer.{Answer}
@@ -70,14 +70,10 @@ module _ (N : Network) where
   step-given w planLength marksLength {p} e =
       let s = settingIn N w in
       let room = unless (roomFault N planLength marksLength) (nextAnswer N s) in
-      let table = passed (tableFault N) (unless (settingFault N s) room) e in
-      let fits = passed (settingFault N s) room (table .1) in
-      let given = passed (roomFault N planLength marksLength) (nextAnswer N s) (fits .1) in
+      let table = unless-plan (tableFault N) (unless (settingFault N s) room) e in
+      let fits = unless-plan (settingFault N s) room (table .1) in
+      let given = unless-plan (roomFault N planLength marksLength) (nextAnswer N s) (fits .1) in
       (table .0, setting-length N p (plan-setting N p (next-is-plan N s ((next-given N (table .0) s p) .0 (given .1)))))
-    where
-      passed : (f : Option Refusal) (o : Outcome) → unless f o ≡ plan p → (f ≡ none) × (o ≡ plan p)
-      passed none o e = (refl, e)
-      passed (some r) o e = (cc, cc)
 
   module _ (w : List ℕ) {buffer marks buffer′ marks′ : List ℕ} {r : Answer} where
     -- the walker advanced by the answer has what the reply leaves

@@ -54,7 +54,7 @@ use Rattle.lent.proofs.Packed.Laws as P′
 use Rattle.lent.proofs.Numbers as N
 use Rattle.lent.proofs.Numbers.Laws as N′
 use Rattle.lent.proofs.Arrays.{element}
-use Rattle.lent.proofs.Rows.{noReach, filled, filled-none, filled-more, filled-all, held-fits}
+use Rattle.lent.proofs.Rows.{filled, filled-none, filled-more, filled-all, held-fits}
 use Rattle.lent.proofs.Records.{reachVals, reach-tells, reach-copy, reach-made, rows-made, reach-typed, rows-typed, numbers-typed, Sized, sized, is-sized, sized-put, row-room, stored, Up, up-wf, leaving}
 use Rattle.lent.proofs.Locals.{Cell, Content, Blocks, room, full, locals, blocks, holding, fresh, allots, takes-in, within, known, copied, copies, fills, clears, frees-all}
 use Rattle.lent.proofs.Calls.{Promise, meets, ending, calls-plain}
@@ -68,6 +68,7 @@ use Rattle.lent.proofs.numbers_of as numbers-of
 use Rattle.lent.proofs.numbers_of.Symbol as numbers-of-def
 use Rattle.lent.proofs.numbers_of.Met as numbers-of-thm
 use Rattle.lent.proofs.pack.Key.{name as #name}
+use Rattle.network.specs.Lone.{noReach}
 use Rattle.lent.proofs.pack as f
 use Rattle.lent.proofs.pack.Statement as stated
 use Rattle.lent.proofs.pack.Code as code

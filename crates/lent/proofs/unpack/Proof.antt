@@ -47,7 +47,7 @@ use Rattle.lent.specs.Rows.{reachIn, storedOf, into}
 use Rattle.lent.proofs.Packed as P
 use Rattle.lent.proofs.Packed.Laws as P′
 use Rattle.lent.proofs.Arrays.{element}
-use Rattle.lent.proofs.Rows.{noReach, stored-fits, into-more, into-all, length-into}
+use Rattle.lent.proofs.Rows.{stored-fits, into-more, into-all, length-into}
 use Rattle.lent.proofs.Records.{reachVals, reach-tells, reach-made, reach-typed, rows-typed, Sized, sized, below-at, row-room, at-map, Up, up-wf, leaving}
 use Rattle.lent.proofs.Locals.{Blocks, room, full, locals, blocks, holding, fresh, allots, takes-in, within, known, copied, copies, fills, clears, frees-all}
 use Rattle.lent.proofs.Calls.{Promise, meets, ending, calls-plain}
@@ -58,6 +58,7 @@ use Rattle.lent.proofs.reach_of as reach-of
 use Rattle.lent.proofs.reach_of.Symbol as reach-of-def
 use Rattle.lent.proofs.reach_of.Met as reach-of-thm
 use Rattle.lent.proofs.unpack.Key.{name as #name}
+use Rattle.network.specs.Lone.{noReach}
 use Rattle.lent.proofs.unpack as f
 use Rattle.lent.proofs.unpack.Statement as stated
 use Rattle.lent.proofs.unpack.Code as code

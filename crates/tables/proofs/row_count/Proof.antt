@@ -6,11 +6,11 @@ use borrow.Author.Needs.{needs}
 use Rattle.tables.proofs.row_count.Statement.{statement}
 use Rattle.tables.proofs.row_count.Tie as tie
 
-smaller-requires : tie.Need-smaller-requires
-smaller-requires c κs = search needs
+least-requires : tie.Need-least-requires
+least-requires c κs = search needs
 
-smaller-requires-2 : tie.Need-smaller-requires-2
-smaller-requires-2 c κs = search needs
+least-requires-2 : tie.Need-least-requires-2
+least-requires-2 c κs = search needs
 
 returns : tie.Need-returns
 returns c =
@@ -18,4 +18,4 @@ returns c =
     omega (arith, table-short (s .kinds .now) (s .a .now) (s .b .now))
 
 pub row-count-spec : {M : Type 1} → statement M
-row-count-spec = tie.close (tie.spec smaller-requires smaller-requires-2 returns)
+row-count-spec = tie.close (tie.spec least-requires least-requires-2 returns)
