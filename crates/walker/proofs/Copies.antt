@@ -22,4 +22,4 @@ pub copied-all : {s new : List ℕ} {i : ℕ} → Copied s zeros new i → lengt
 unfolding zeros walkerOf
 copied-all {s} {new} {i} c l =
     let e : i ≡ length s = omega arith in
-    c .bytes ∙ rw (e, take-length s, drop-replicate (length s) maxReaches 0)
+    c .bytes ∙ rw (e, take-length s, drop-replicate {A = ℕ} (length s) maxReaches 0)
