@@ -2,7 +2,7 @@
 -- it reads or writes a field by `sub`.
 --     element          element i of an array's cell that p finds
 -- Assumes `Given` (of it `at-elems`, `elems-at`).
-use mathlib.Core.Path.{_≡_, refl, _∙_, ap, subst}
+use mathlib.Core.Path.{_≡_, _∙_, ap, subst}
 use Prim.Native.Nat.{ℕ, zero, suc, _+_, _<_}
 use native.Mathlib.Nat.{not-suc-le-zero, le-of-suc-le-suc}
 use mathlib.Core.List.{List, [], _∷_}
@@ -20,12 +20,7 @@ use types.Kit.{Given, Item, ‵, raw, _⊛_, mean, _$_, _∵_, !, qed, move, use
 use types.Part.{Part}
 use denote.Array.{arrayVal}
 use denote.Index.{place}
-
--- an element that is put back
-set-same : (us : List Val) (i : ℕ) → i < length us → set us i (getD us i vunit) ≡ us
-set-same [] i l = absurd (not-suc-le-zero l)
-set-same (u ∷ us) zero l = refl
-set-same (u ∷ us) (suc i) l = ap (λ ws. u ∷ ws) (set-same us i (le-of-suc-le-suc l))
+use lib.Seq.{set-getD}
 
 module _ {M : Type 1} (𝓤 : URA M) (H : Heap 𝓤) (A : Atoms 𝓤) (W : Given 𝓤 H A) (q : Share) (τ : Ty) where
   -- the way back to the elements, with any value at i
@@ -59,7 +54,7 @@ module _ {M : Type 1} {𝓤 : URA M} {H : Heap 𝓤} {A : Atoms 𝓤} {K : Type 
         use1 W (‵ (fat q (tyArray τ n) b o (arrayVal (set us i u)))) (whole u) $
         move ! (1 ∷ []) $ use1 W (raw (Entry (arrayVal (set us i u)))) (allE 𝓤 Entry (arrayVal (set us i u))) $ move ! (1 ∷ 0 ∷ []) $
         use2 W (back (arrayVal (set us i u))) (apply∗ 𝓤 (H .at q (tyArray τ n) b o (arrayVal (set us i u))) (mean 𝓤 H A (back (arrayVal (set us i u))))) $ done !);
-    same = ap (λ ws. back (arrayVal ws)) (set-same us i l) ∙ p .same;
+    same = ap (λ ws. back (arrayVal ws)) (set-getD us i vunit) ∙ p .same;
   }
     where
       Entry : Val → SProp 𝓤

@@ -15,7 +15,6 @@ use lib.Dec.{leb}
 use borrow.Author.Tests.{leb-true, le-leb, lt-leb}
 use Rattle.lists.proofs.Lists.{map-more}
 use Rattle.lists.proofs.Ranges.{length-range, map-range-suc, put-suc}
-use Rattle.network.specs.declared.Kind.the-variants.{TwoWay}
 use Rattle.network.specs.declared.Reach.{Reach}
 use Rattle.lists.specs.Lists.{range}
 use Rattle.network.specs.Networks.{maxReaches}
@@ -84,12 +83,6 @@ unfolding packedOf
 packed-count t = refl
 
 -- ---- rows into a table
--- a number that is neither 0 nor 1 is two-way
-pub kind-other : (k : ℕ) → (k ≡ 0 → ⊥) → (k ≡ 1 → ⊥) → TwoWay ≡ kindOf k
-kind-other zero n₀ n₁ = absurd (n₀ refl)
-kind-other (suc zero) n₀ n₁ = absurd (n₁ refl)
-kind-other (suc (suc k)) n₀ n₁ = refl
-
 -- What is stored has room, in the table and in the rows.
 pub stored-fits : (n room : ℕ) → (storedOf n room ≤ room) × (storedOf n room ≤ maxReaches)
 stored-fits n room = go (leb n room) refl

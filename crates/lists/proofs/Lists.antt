@@ -7,7 +7,7 @@ use native.Mathlib.Omega.{arith}
 use mathlib.Core.Path.{_≡_, refl, ap, _∙_}
 use mathlib.Core.Bool.{Bool, true, false, cond}
 use mathlib.Core.List.{List, [], _∷_, _++_, map}
-use lib.ListN.{length, getD, take, drop, set, replicate, length-append, length-take, length-drop, length-set, List·getD-append}
+use lib.ListN.{length, getD, take, drop, set, replicate, length-append, length-take, length-drop, length-set, drop-of-length-le, List·getD-append}
 use lib.Seq.{sets, length-sets, getD-take, getD-drop, getD-append-add, take-nil, take-all, take-suc, take-suc-set, drop-cons, set-at, append-snoc, length-take-le}
 
 module _ {A : Type 0} where
@@ -50,9 +50,13 @@ module _ {A : Type 0} where
   pub drop-one : (l : List A) (i : ℕ) (d : A) → i < length l → drop i l ≡ getD l i d ∷ drop (i + 1) l
   drop-one l i d h = rw (add-one, drop-cons l i d)
 
-  -- what is left from a place on has no more than the rest's length
+  -- what is left from a place on, cut to the length that is left
   pub take-rest : (i : ℕ) (l : List A) → take (length l - i) (drop i l) ≡ drop i l
   take-rest i l = take-all (length l - i) (drop i l) (omega (arith, length-drop i l))
+
+  -- and nothing after it
+  pub drop-rest : (i : ℕ) (l : List A) → drop (length l - i) (drop i l) ≡ []
+  drop-rest i l = drop-of-length-le (drop i l) (omega (arith, length-drop i l))
 
   pub drop-replicate : (i n : ℕ) (a : A) → drop i (replicate n a) ≡ replicate (n - i) a
   drop-replicate zero n a = rw (sub-zero n)
@@ -105,6 +109,11 @@ module _ {A B : Type 0} (f : A → B) where
   getD-map [] i d e h = absurd (not-suc-le-zero h)
   getD-map (x ∷ l) zero d e h = refl
   getD-map (x ∷ l) (suc i) d e h = getD-map l i d e (le-of-suc-le-suc h)
+
+  pub set-map : (l : List A) (i : ℕ) (x : A) → set (map f l) i (f x) ≡ map f (set l i x)
+  set-map [] i x = refl
+  set-map (y ∷ l) zero x = refl
+  set-map (y ∷ l) (suc i) x = ap (λ ys. f y ∷ ys) (set-map l i x)
 
   pub drop-map : (i : ℕ) (l : List A) → drop i (map f l) ≡ map f (drop i l)
   drop-map zero l = refl

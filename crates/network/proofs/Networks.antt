@@ -13,6 +13,7 @@ use borrow.Author.Tests.{leb-true, ltb-true}
 use mathlib.Mathlib.Data.Bool.Basic.{and-elim-left, and-elim-right}
 use Rattle.lists.proofs.Lists.{length-cond-le}
 use Rattle.lists.proofs.Searches.{every-getD}
+use Rattle.network.specs.declared.Kind.the-variants.{TwoWay}
 use Rattle.network.specs.declared.Reach.{Reach}
 use Rattle.network.specs.declared.Refusal.{Refusal}
 use Rattle.network.specs.declared.Refusal.the-variants.{BasinCount, TooManyReaches, EndOutOfRange}
@@ -62,6 +63,12 @@ pub not-gated : (k : ℕ) → (k ≡ 0 → ⊥) → isGated (kindOf k) ≡ false
 not-gated zero n = absurd (n refl)
 not-gated (suc zero) n = refl
 not-gated (suc (suc k)) n = refl
+
+-- a number that is neither 0 nor 1 is two-way
+pub kind-other : (k : ℕ) → (k ≡ 0 → ⊥) → (k ≡ 1 → ⊥) → TwoWay ≡ kindOf k
+kind-other zero m n = absurd (m refl)
+kind-other (suc zero) m n = absurd (n refl)
+kind-other (suc (suc k)) m n = refl
 
 -- there are no more gated reaches than reaches, and so no more than a network may have
 pub gates-below : (o : ℕ) (t : List Reach) → length (gatesFrom o t) ≤ length t

@@ -1,6 +1,6 @@
 -- The replies of first and next: equality of replies, which reply is given when, and demand 3 over the definition of next.
 -- Assumes nothing.
-use Prim.Native.Nat.{ℕ, zero, suc}
+use Prim.Native.Nat.{ℕ, zero, suc, _≤_}
 use native.Mathlib.Omega.{arith}
 use mathlib.Core.Path.{_≡_, refl, sym, ap, _∙_}
 use mathlib.Core.Bool.{Bool, true, false, cond}
@@ -9,25 +9,33 @@ use mathlib.Core.Option.{Option, none, some}
 use mathlib.Core.List.{List, []}
 use lib.ListN.{length}
 use mathlib.Mathlib.Data.Bool.Basic.{bool-eq-false}
+use borrow.Author.Tests.{le-leb}
 use Rattle.network.specs.declared.Refusal.{Refusal}
 use Rattle.network.specs.declared.Refusal.the-variants.{BasinCount, TooManyReaches, EndOutOfRange, Truncated, UnknownKind, TrailingBytes, ShortBuffer, BadSetting, LastPlan}
 use Rattle.lists.specs.Lists.{range}
-use Rattle.network.specs.Networks.{Network, Accepted}
-use Rattle.network.specs.Settings.{isSetting, before}
+use Rattle.network.specs.Networks.{Network, Accepted, maxReaches}
+use Rattle.network.specs.Settings.{isSetting, before, gateCount}
 use Rattle.network.specs.Plans.{isPlan, passable, firstPlan, nextPlan}
 use Rattle.network.specs.Lone.{isLone, lowestLone}
-use Rattle.network.specs.Replies.{Outcome, plan, shutIn, lone, refused, refusalNumber, number, planIn, reachIn, marksIn, countIn, SameReply, shutInFinding, loneFinding, chosen, orLone, answer, firstAnswer, nextAnswer, unless}
+use Rattle.network.specs.Replies.{Outcome, plan, shutIn, lone, refused, refusalNumber, number, planIn, reachIn, marksIn, countIn, SameReply, shutInFinding, loneFinding, chosen, orLone, answer, firstAnswer, nextAnswer, unless, roomFault}
 use Rattle.lists.proofs.Bools.{clash}
 use Rattle.lists.proofs.Searches.{find-some, find-none}
 use Rattle.lists.proofs.Ranges.{range-has}
 use Rattle.network.proofs.Order.{first-is-plan, first-none, next-none, next-is-plan, next-is-later, next-same}
 use Rattle.network.proofs.Lone.{lone-below, lone-blocks}
 use Rattle.network.proofs.Theorem.{theorem, plan-passable}
+use Rattle.network.specs.Marks.{markBytes}
+use Rattle.network.proofs.Networks.{gates-fit}
 
 -- A plan is replied only where nothing is refused.
 pub unless-plan : (f : Option Refusal) (o : Outcome) {p : List ℕ} → unless f o ≡ plan p → (f ≡ none) × (o ≡ plan p)
 unless-plan none o e = (refl, e)
 unless-plan (some r) o e = (cc, cc)
+
+-- Buffers of the largest lengths have room for the plans and the marks of every accepted network.
+pub room-enough : (N : Network) → Accepted N → (planLength marksLength : ℕ) → maxReaches ≤ planLength → markBytes ≤ marksLength → roomFault N planLength marksLength ≡ none
+unfolding roomFault
+room-enough N ok planLength marksLength l m = rw (le-leb (gateCount N) planLength (omega (arith, gates-fit N ok)), le-leb markBytes marksLength m)
 
 -- ---- equality of replies
 

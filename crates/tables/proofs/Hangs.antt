@@ -1,7 +1,7 @@
 -- Ways that are written reach by reach under a setting.
 -- Assumes nothing.
 use Prim.Native.Nat.{ℕ, zero, suc, _+_, _≤_, _<_}
-use mathlib.Core.Path.{_≡_, refl}
+use mathlib.Core.Path.{_≡_, refl, ap}
 use mathlib.Core.List.{List, _++_, append-nil}
 use native.Mathlib.Omega.{arith}
 use lib.ListN.{length, getD, take, drop, set, length-set, drop-of-length-le}
@@ -10,6 +10,7 @@ use Rattle.network.specs.Tables.{kindOf}
 use Rattle.network.specs.Hangings.{way, after}
 use Rattle.tables.specs.Rows.{waysRow}
 use Rattle.lists.proofs.Lists.{drop-one, take-stored}
+use Rattle.network.proofs.Networks.{kind-other}
 
 -- The ways of the first i reaches are written, with k gates among them.
 pub record Hung (ks s ws₀ ws : List ℕ) (k i : ℕ) : Type 0 where
@@ -29,9 +30,7 @@ pub way-free : (d k : ℕ) (s : List ℕ) → d ≡ 0 → length s ≤ k → 2 �
 way-free d k s e l = rw (e, drop-of-length-le s l)
 
 pub way-two : (d : ℕ) (h : List ℕ) → (d ≡ 1 → ⊥) → (d ≡ 0 → ⊥) → 2 ≡ way (kindOf d) h
-way-two zero h m n = absurd (n refl)
-way-two (suc zero) h m n = absurd (m refl)
-way-two (suc (suc d)) h m n = refl
+way-two d h m n = ap (λ k. way k h) (kind-other d n m)
 
 -- the bytes after a gate, and after another reach
 pub after-gate : (d k : ℕ) (s : List ℕ) → d ≡ 0 → after (kindOf d) (drop k s) ≡ drop (k + 1) s

@@ -1,6 +1,6 @@
 -- `lent::kind_of` meets its contract: one case of `kindOf` for each arm.
 -- Assumes nothing.
-use Rattle.lent.proofs.Rows.{kind-other}
+use Rattle.network.proofs.Networks.{kind-other}
 use borrow.Author.Needs.{needs}
 use Rattle.lent.proofs.kind_of.Statement.{statement}
 use Rattle.lent.proofs.kind_of.Tie as tie

@@ -29,6 +29,7 @@ use contract.Running.{givenOf, tables, tablesOf}
 use types.Kit.{Given, Item, ‵, _⊛_, Post, Sq, runs, anyQ, post, atRet, _$_, _∵_, !, qed, by, move, keep, drop, split, join, rewrite, use1, fsplit, fjoin, feqI}
 use types.Part.{sub, look-in}
 use types.Run.{store-raw, unit-lit, stop, hop, fld, from, load, lit, of-opd, addr, bin, assigns, assigns-last, land, first, blocks as block, loops, Below, again, stays, leaves-loop, exec, returns, enter}
+use Rattle.lists.proofs.Lists.{getD-map}
 use denote.RattleType.{owns}
 use denote.Laws.{Is, shows}
 use denote.Plain.{uint-makes, uint-lawful}
@@ -48,7 +49,7 @@ use Rattle.lent.proofs.Packed as P
 use Rattle.lent.proofs.Packed.Laws as P′
 use Rattle.lent.proofs.Arrays.{element}
 use Rattle.lent.proofs.Rows.{stored-fits, into-more, into-all, length-into}
-use Rattle.lent.proofs.Records.{reachVals, reach-tells, reach-made, reach-typed, rows-typed, Sized, sized, below-at, row-room, at-map, Up, up-wf, leaving}
+use Rattle.lent.proofs.Records.{reachVals, reach-tells, reach-made, reach-typed, rows-typed, Sized, sized, below-at, row-room, Up, up-wf, leaving}
 use Rattle.lent.proofs.Locals.{Blocks, room, full, locals, blocks, holding, fresh, allots, takes-in, within, known, copied, copies, fills, clears, frees-all}
 use Rattle.lent.proofs.Calls.{Promise, meets, ending, calls-plain}
 use Rattle.lent.proofs.stored as stored
@@ -139,17 +140,17 @@ module _ {M : Type 1} (𝓤 : URA M) (H : Heap 𝓤) (A : Atoms 𝓤) (mem : Mem
             -- the three numbers
             assigns ! (addr ! (from ! (fld ! refl (stop !)))) (from ! (stop !)) (fills ! 10 refl (tt, tt)) $
             assigns ! (known ! (ap (vptr pb) (sym (place-byte 8 i))) (bin ! (copied ! 10 refl) (copied ! 6 refl) tt)) (from ! (stop !)) (fills ! 11 refl (tt, tt)) $
-            assigns ! (known ! (at-map (vint w8) (p .kinds) i in-kinds) (of-opd ! (load ! (from ! (hop ! (look-in ! 0 (within ! 11 refl)) (stop !))) (look-in ! 0 (element ! (map (vint w8) (p .kinds)) i (kinds .0) (kinds .1) (sub ! 1 refl (within ! 3 refl)))))))
+            assigns ! (known ! (getD-map (vint w8) (p .kinds) i 0 vunit in-kinds) (of-opd ! (load ! (from ! (hop ! (look-in ! 0 (within ! 11 refl)) (stop !))) (look-in ! 0 (element ! (map (vint w8) (p .kinds)) i (kinds .0) (kinds .1) (sub ! 1 refl (within ! 3 refl)))))))
             (from ! (stop !)) (fills ! 12 refl (tt, record { fits = kind })) $
             assigns ! (bin ! (copied ! 6 refl) (lit ! tt) (record { fits = twice })) (from ! (stop !)) (fills ! 13 refl (tt, record { fits = twice })) $
             assigns ! (addr ! (from ! (fld ! refl (stop !)))) (from ! (stop !)) (fills ! 14 refl (tt, tt)) $
             assigns ! (known ! (ap (vptr pb) (sym (place-is 2 1032 i))) (bin ! (copied ! 14 refl) (copied ! 13 refl) tt)) (from ! (stop !)) (fills ! 15 refl (tt, tt)) $
-            assigns ! (known ! (at-map (vint w16) (p .a) i in-a) (of-opd ! (load ! (from ! (hop ! (look-in ! 0 (within ! 15 refl)) (stop !))) (look-in ! 0 (element ! (map (vint w16) (p .a)) i (ends-a .0) (ends-a .1) (sub ! 2 refl (within ! 3 refl)))))))
+            assigns ! (known ! (getD-map (vint w16) (p .a) i 0 vunit in-a) (of-opd ! (load ! (from ! (hop ! (look-in ! 0 (within ! 15 refl)) (stop !))) (look-in ! 0 (element ! (map (vint w16) (p .a)) i (ends-a .0) (ends-a .1) (sub ! 2 refl (within ! 3 refl)))))))
             (from ! (stop !)) (fills ! 16 refl (tt, record { fits = end-a })) $
             assigns ! (bin ! (copied ! 6 refl) (lit ! tt) (record { fits = twice })) (from ! (stop !)) (fills ! 17 refl (tt, record { fits = twice })) $
             assigns ! (addr ! (from ! (fld ! refl (stop !)))) (from ! (stop !)) (fills ! 18 refl (tt, tt)) $
             assigns ! (known ! (ap (vptr pb) (sym (place-is 2 3080 i))) (bin ! (copied ! 18 refl) (copied ! 17 refl) tt)) (from ! (stop !)) (fills ! 19 refl (tt, tt)) $
-            assigns ! (known ! (at-map (vint w16) (p .b) i in-b) (of-opd ! (load ! (from ! (hop ! (look-in ! 0 (within ! 19 refl)) (stop !))) (look-in ! 0 (element ! (map (vint w16) (p .b)) i (ends-b .0) (ends-b .1) (sub ! 3 refl (within ! 3 refl)))))))
+            assigns ! (known ! (getD-map (vint w16) (p .b) i 0 vunit in-b) (of-opd ! (load ! (from ! (hop ! (look-in ! 0 (within ! 19 refl)) (stop !))) (look-in ! 0 (element ! (map (vint w16) (p .b)) i (ends-b .0) (ends-b .1) (sub ! 3 refl (within ! 3 refl)))))))
             (from ! (stop !)) (fills ! 20 refl (tt, record { fits = end-b })) $
             calls-plain ! reach-of.ended (reach-of.clauses 𝓤 H A mem run) (tt, tt, tt, (getD (p .kinds) i 0, (getD (p .a) i 0, (getD (p .b) i 0, tt))), (vint w8 (getD (p .kinds) i 0) ∷ [], (vint w16 (getD (p .a) i 0) ∷ [], (vint w16 (getD (p .b) i 0) ∷ [], tt)))) tt
             (fmOf 𝓤 H (W .laws) 𝓣) known-reach-of (id⊢ 𝓤 _) (uint-makes 𝓤 H A W w8, (uint-makes 𝓤 H A W w16, (uint-makes 𝓤 H A W w16, tt))) ((refl, kind), ((refl, end-a), ((refl, end-b), tt)))
