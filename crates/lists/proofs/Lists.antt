@@ -56,7 +56,7 @@ module _ {A : Type 0} where
 
   -- and nothing after it
   pub drop-rest : (i : ℕ) (l : List A) → drop (length l - i) (drop i l) ≡ []
-  drop-rest i l = drop-of-length-le (drop i l) (omega (arith, length-drop i l))
+  drop-rest i l = drop-of-length-le (drop i l) {i = length l - i} (omega (arith, length-drop i l))
 
   pub drop-replicate : (i n : ℕ) (a : A) → drop i (replicate n a) ≡ replicate (n - i) a
   drop-replicate zero n a = rw (sub-zero n)
