@@ -1,4 +1,4 @@
--- Document 01's definitions, in its order. A reader who believes these files knows what every promise says.
+-- Document 01's definitions, in its order. A reader who believes these files, and the searches of the crate lists that they cite, knows what every promise says.
 pub mod Networks
 pub mod Tables
 pub mod Settings
