@@ -11,7 +11,7 @@ long : (c : tie.After-held) → Cut (c .before .before .before .args .p) (c .hel
 long c = cut _ _ (c .before .before .before .good .1 .0) (c .held .ensures)
 
 held-requires : tie.Need-held-requires
-held-requires c κs = search needs
+held-requires c κs = tt
 
 array-share-prefix-kinds : tie.Need-array-share-prefix-kinds
 array-share-prefix-kinds c = long (c .before .before .before) .kinds .within
@@ -32,7 +32,7 @@ slice-aggregate-first-plan-rows-3 : tie.Need-slice-aggregate-first-plan-rows-3
 slice-aggregate-first-plan-rows-3 c = long (c .before .before .before .before .before .before) .b .counted
 
 first-plan-rows-requires : tie.Need-first-plan-rows-requires
-first-plan-rows-requires c κs = search needs
+first-plan-rows-requires c κs = tt
 
 same-length : tie.Need-same-length
 same-length c = search needs

@@ -11,7 +11,7 @@ long : (c : tie.After-held) → Cut (c .before .before .before .before .args .p)
 long c = cut _ _ (c .before .before .before .before .good .1 .0) (c .held .ensures)
 
 held-requires : tie.Need-held-requires
-held-requires c κs = search needs
+held-requires c κs = tt
 
 array-share-prefix-kinds : tie.Need-array-share-prefix-kinds
 array-share-prefix-kinds c = long (c .before .before .before) .kinds .within
@@ -32,7 +32,7 @@ slice-aggregate-next-plan-rows-3 : tie.Need-slice-aggregate-next-plan-rows-3
 slice-aggregate-next-plan-rows-3 c = long (c .before .before .before .before .before .before) .b .counted
 
 next-plan-rows-requires : tie.Need-next-plan-rows-requires
-next-plan-rows-requires c κs = search needs
+next-plan-rows-requires c κs = tt
 
 same-length : tie.Need-same-length
 same-length c = search needs

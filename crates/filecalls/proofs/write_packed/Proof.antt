@@ -29,7 +29,7 @@ long : (c : tie.After-held) → Cut (c .before .before .args .p) (c .held .resul
 long c = cut _ _ (c .before .before .good .1 .0) (c .held .ensures)
 
 held-requires : tie.Need-held-requires
-held-requires c κs = search needs
+held-requires c κs = tt
 
 array-share-prefix-kinds : tie.Need-array-share-prefix-kinds
 array-share-prefix-kinds c = long (c .before .before .before) .kinds .within
@@ -50,7 +50,7 @@ slice-aggregate-write-network-rows-3 : tie.Need-slice-aggregate-write-network-ro
 slice-aggregate-write-network-rows-3 c = long (c .before .before .before .before .before .before) .b .counted
 
 write-network-rows-requires : tie.Need-write-network-rows-requires
-write-network-rows-requires c κs = search needs
+write-network-rows-requires c κs = tt
 
 same-length : tie.Need-same-length
 same-length c = search needs

@@ -1,6 +1,5 @@
 -- `walker::make_packed` meets its contract: what is promised of the rows, cut to the reaches that they hold, is promised of the table.
 -- Assumes nothing.
-use borrow.Author.Needs.{needs}
 use Rattle.lent.proofs.Packings.{Cut, cut, of-rows}
 use Rattle.walker.proofs.Makes.{make-alike}
 use Rattle.walker.proofs.make_packed.Statement.{statement}
@@ -11,7 +10,7 @@ long : (c : tie.After-held) → Cut (c .before .before .args .p) (c .held .resul
 long c = cut _ _ (c .before .before .good .1 .0) (c .held .ensures)
 
 held-requires : tie.Need-held-requires
-held-requires c κs = search needs
+held-requires c κs = tt
 
 array-share-prefix-kinds : tie.Need-array-share-prefix-kinds
 array-share-prefix-kinds c = long (c .before .before .before) .kinds .within
@@ -32,7 +31,7 @@ slice-aggregate-make-rows-3 : tie.Need-slice-aggregate-make-rows-3
 slice-aggregate-make-rows-3 c = long (c .before .before .before .before .before .before) .b .counted
 
 make-rows-requires : tie.Need-make-rows-requires
-make-rows-requires c κs = search needs
+make-rows-requires c κs = tt
 
 returns : tie.Need-returns
 returns c = of-rows (long (c .before .before .before .before .before .before .before)) (c .make-rows .ensures) (make-alike _)
