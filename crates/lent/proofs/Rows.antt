@@ -1,6 +1,6 @@
 -- Laws of the rows of a table: how they are filled, one reach after the other, and that the table can be read off them.
 --     filled t i       the rows with the first i reaches of t in them
---     unpacked         the first numbers of the rows of a table make its front.        packed-count     and n is how many they are
+--     unpacked         the first numbers of the rows that a table is packed into make its front.        packed-count     and n is how many they are
 --     unpacked-into, not-unpacked      what rows leave in a table that has room for them, and in one that has not
 -- Assumes nothing.
 use mathlib.Core.Path.{_≡_, refl, sym, _∙_, ap}
@@ -68,7 +68,7 @@ take-held t = ap (take (heldOf (length t))) (sym (take-append-drop maxRows t)) �
 
 pub filled-all : (t : List Reach) → filled t (heldOf (length t)) ≡ packedOf t
 unfolding packedOf
-filled-all t = rw (take-held t)
+filled-all t = rw (take-held t, front-length t)
 
 -- The front of the table is read off the rows.
 row-front : (f : Reach → ℕ) (t : List Reach) → take (length t) (rowOf f t) ≡ map f t
@@ -81,7 +81,7 @@ unpacked t = rw (row-front kindIn (front t), row-front (λ r. r .a) (front t), r
 
 pub packed-count : (t : List Reach) → packedOf t .n ≡ length (front t)
 unfolding packedOf
-packed-count t = sym (front-length t)
+packed-count t = refl
 
 -- ---- rows into a table
 -- a number that is neither 0 nor 1 is two-way

@@ -16,10 +16,7 @@ use Rattle.lent.specs.declared.Numbers.{Numbers}
 abbrev pub maxRows : ℕ
 maxRows = suc maxReaches
 
--- The reaches of a table that its rows hold, and how many they are of n.
-abbrev pub front : List Reach → List Reach
-front t = take maxRows t
-
+-- How many of n reaches the rows hold.
 abbrev pub heldOf : ℕ → ℕ
 heldOf n = min n maxRows
 
@@ -30,14 +27,21 @@ rowOf f t = map f t ++ replicate (maxRows - length t) 0
 abbrev pub kindIn : Reach → ℕ
 kindIn r = kindNumber (r .kind)
 
--- The three rows of a table, beside the number of reaches in them.
-unfoldable pub packedOf : List Reach → Packed
-packedOf t = record {
-  n = heldOf (length t);
-  kinds = rowOf kindIn (front t);
-  a = rowOf (λ r. r .a) (front t);
-  b = rowOf (λ r. r .b) (front t);
+-- The three rows of reaches, beside their number.
+abbrev pub rowsOf : List Reach → Packed
+rowsOf t = record {
+  n = length t;
+  kinds = rowOf kindIn t;
+  a = rowOf (λ r. r .a) t;
+  b = rowOf (λ r. r .b) t;
 }
+
+-- A table is packed into the rows of its front, which is all of a table that is not over-full.
+abbrev pub front : List Reach → List Reach
+front t = take maxRows t
+
+unfoldable pub packedOf : List Reach → Packed
+packedOf t = rowsOf (front t)
 
 -- Rows of zeros, and rows with one more reach in them.
 unfoldable pub zeros : List ℕ
