@@ -3,8 +3,8 @@
 // The borrow checker does not cover a slice of structs. So each public call is one line, proved by a walk of its code, by hand: it has the table
 // packed into rows and hands these to a covered call, whose promise holds of every table that the rows are the packing of.
 use lent::Packed;
+use lent::held;
 use lent::pack;
-use network::MAX_REACHES;
 use network::Reach;
 use planner::Answer;
 use planner::CheckAnswer;
@@ -17,14 +17,11 @@ ghost use Rattle.tables.specs.Answers.{answerOf};
 ghost use Rattle.planner.specs.Answers.{checkOf, Written};
 ghost use Rattle.lent.specs.Tables.{lentNet, OfTable};
 
-// The call over rows, for each public call. A table of too many reaches has rows of zeros, so it is refused by its number of reaches alone.
+// The call over rows, for each public call. The rows of an over-full table are over-full too, so this refuses it as it refuses such rows.
 fn table_check_packed(basins: u16, p: Packed) -> TableAnswer
     ensures { λ r. ⌜ OfTable basins p (λ N. r ≡ answerOf (tableFault N)) ⌝ }
 {
-    let n = p.n;
-    if n > MAX_REACHES {
-        return TableAnswer::Refused(lent::over_full(basins));
-    }
+    let n = held(p.n);
     let kinds = p.kinds;
     let a = p.a;
     let b = p.b;
@@ -34,10 +31,7 @@ fn table_check_packed(basins: u16, p: Packed) -> TableAnswer
 fn check_packed(basins: u16, p: Packed, setting: &[u8]) -> CheckAnswer
     ensures { λ r. ⌜ OfTable basins p (λ N. r ≡ checkOf N (now (setting .entry))) ⌝ }
 {
-    let n = p.n;
-    if n > MAX_REACHES {
-        return CheckAnswer::Refused(lent::over_full(basins));
-    }
+    let n = held(p.n);
     let kinds = p.kinds;
     let a = p.a;
     let b = p.b;
@@ -47,10 +41,7 @@ fn check_packed(basins: u16, p: Packed, setting: &[u8]) -> CheckAnswer
 fn first_plan_packed(basins: u16, p: Packed, plan: &mut [u8], marks: &mut [u8]) -> Answer
     ensures { λ r. ⌜ OfTable basins p (λ N. Written (firstReply N (length (now (plan .entry))) (length (now (marks .entry)))) (now (plan .entry)) (now (marks .entry)) (now (plan .exit)) (now (marks .exit)) r) ⌝ }
 {
-    let n = p.n;
-    if n > MAX_REACHES {
-        return Answer::Refused(lent::over_full(basins));
-    }
+    let n = held(p.n);
     let kinds = p.kinds;
     let a = p.a;
     let b = p.b;
@@ -66,10 +57,7 @@ fn next_plan_packed(
 ) -> Answer
     ensures { λ r. ⌜ OfTable basins p (λ N. Written (nextReply N (now (setting .entry)) (length (now (plan .entry))) (length (now (marks .entry)))) (now (plan .entry)) (now (marks .entry)) (now (plan .exit)) (now (marks .exit)) r) ⌝ }
 {
-    let n = p.n;
-    if n > MAX_REACHES {
-        return Answer::Refused(lent::over_full(basins));
-    }
+    let n = held(p.n);
     let kinds = p.kinds;
     let a = p.a;
     let b = p.b;

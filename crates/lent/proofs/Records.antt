@@ -1,6 +1,6 @@
 -- What the walks by hand use of a reach and of the rows as types, and of a loop that counts up.
 --     reachVals, reach-tells, reach-copy       a reach's machine values, that they are the only ones, and that a reach is Copy
---     Below            numbers below a bound.        Sized       the rows are as long as a network may have reaches, and their numbers fit.        sized, is-sized     what is owned of rows is just this
+--     Below            numbers below a bound.        Sized       the rows have their length, and their numbers fit.        sized, is-sized     what is owned of rows is just this
 --     sized-put        it holds when a reach is put in.        stored       what the stores of a reach leave in the local that holds the rows.        row-room       the machine value of a row
 --     reach-made, rows-made        a reach and the rows own only facts.        reach-typed, rows-typed      their machine values are of their types
 --     Up, up-wf        a turn is below another if fewer are left up to m.        leaving      what holds when a loop is left, with the rest of the body
@@ -27,12 +27,11 @@ use denote.Shadow.{shadow}
 use denote.Struct.Laws as LL
 use Rattle.lists.proofs.Lists.{set-map}
 use Rattle.network.specs.declared.Reach.{Reach}
-use Rattle.network.specs.Networks.{maxReaches}
 use Rattle.network.proofs.Reach as R
 use Rattle.network.proofs.Reach.Laws as R′
 use Rattle.lent.specs.declared.Packed.{Packed}
 use Rattle.lent.specs.declared.Numbers.{Numbers}
-use Rattle.lent.specs.Rows.{putAt}
+use Rattle.lent.specs.Rows.{maxRows, putAt}
 use Rattle.lent.proofs.Packed as P
 use Rattle.lent.proofs.Packed.Laws as P′
 use Rattle.lent.proofs.Numbers as N
@@ -61,9 +60,9 @@ below-at m (x ∷ xs) (suc i) l bs = below-at m xs i (le-of-suc-le-suc l) (bs .1
 
 pub record Sized (p : Packed) : Type 0 where
   pub count : p .n < 2 ^ 64
-  pub kinds-long : length (p .kinds) ≡ maxReaches
-  pub a-long : length (p .a) ≡ maxReaches
-  pub b-long : length (p .b) ≡ maxReaches
+  pub kinds-long : length (p .kinds) ≡ maxRows
+  pub a-long : length (p .a) ≡ maxRows
+  pub b-long : length (p .b) ≡ maxRows
   pub kinds-below : Below (2 ^ 8) (p .kinds)
   pub a-below : Below (2 ^ 16) (p .a)
   pub b-below : Below (2 ^ 16) (p .b)
@@ -121,7 +120,7 @@ is-sized p z = (
 )
 
 -- The machine value of a row is as long as the row, and has an element at i.
-pub row-room : (f : ℕ → Val) (xs : List ℕ) (i : ℕ) → length xs ≡ maxReaches → i < maxReaches → (length (map f xs) ≡ maxReaches) × (i < length (map f xs))
+pub row-room : (f : ℕ → Val) (xs : List ℕ) (i : ℕ) → length xs ≡ maxRows → i < maxRows → (length (map f xs) ≡ maxRows) × (i < length (map f xs))
 row-room f xs i e l = (length-map xs f ∙ e, subst (λ k. i < k) (sym (length-map xs f ∙ e)) l)
 
 pub stored : (p : Packed) (i : ℕ) (x : Numbers)

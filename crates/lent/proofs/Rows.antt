@@ -1,32 +1,31 @@
 -- Laws of the rows of a table: how they are filled, one reach after the other, and that the table can be read off them.
 --     filled t i       the rows with the first i reaches of t in them
---     unpacked         the first n numbers of the rows of a table of n reaches that is not over-full make the table.        packed-count     n is there for every table
+--     unpacked         the first numbers of the rows that a table is packed into make its front.        packed-count     and n is how many they are
 --     unpacked-into, not-unpacked      what rows leave in a table that has room for them, and in one that has not
 -- Assumes nothing.
-use mathlib.Core.Path.{_≡_, refl, _∙_, ap}
+use mathlib.Core.Path.{_≡_, refl, sym, _∙_, ap}
 use Prim.Native.Nat.{ℕ, zero, suc, _<_, _≤_, _-_}
-use native.Mathlib.Nat.{not-suc-le-zero, le-of-suc-le-suc}
+use native.Mathlib.Nat.{not-suc-le-zero, le-of-suc-le-suc, min-comm, min-eq-left}
 use native.Mathlib.Omega.{arith}
 use mathlib.Core.Bool.{Bool, true, false, cond}
 use mathlib.Core.List.{List, [], _∷_, map, _++_}
-use lib.ListN.{length, length-map, getD, set, take, drop, length-append, length-drop}
-use lib.Seq.{length-take-le, take-length, take-at}
+use lib.ListN.{length, length-map, length-take, getD, set, take, drop, take-append-drop, length-append, length-drop}
+use lib.Seq.{length-take-le, take-at}
 use lib.Dec.{leb}
 use borrow.Author.Tests.{leb-true, le-leb, lt-leb}
 use Rattle.lists.proofs.Lists.{map-more}
 use Rattle.lists.proofs.Ranges.{length-range, map-range-suc, put-suc}
 use Rattle.network.specs.declared.Reach.{Reach}
 use Rattle.lists.specs.Lists.{range}
-use Rattle.network.specs.Networks.{maxReaches}
 use Rattle.network.specs.Tables.{kindOf, tableOf}
 use Rattle.tables.proofs.Laws.{table-of-rows}
 use Rattle.lent.specs.declared.Packed.{Packed}
-use Rattle.lent.specs.Rows.{heldOf, rowOf, kindIn, packedOf, zeros, emptyOf, numbersOf, putAt, reachIn, storedOf, into, unpackedInto}
+use Rattle.lent.specs.Rows.{maxRows, front, heldOf, rowOf, kindIn, packedOf, zeros, emptyOf, numbersOf, putAt, reachIn, storedOf, into, unpackedInto}
 use Rattle.network.specs.Lone.{noReach}
 
 abbrev pub filled : List Reach → ℕ → Packed
 filled t i = record {
-  n = length t;
+  n = heldOf (length t);
   kinds = rowOf kindIn (take i t);
   a = rowOf (λ r. r .a) (take i t);
   b = rowOf (λ r. r .b) (take i t);
@@ -36,59 +35,53 @@ row-none : (f : Reach → ℕ) → rowOf f [] ≡ zeros
 unfolding rowOf zeros
 row-none f = refl
 
-pub filled-none : (t : List Reach) → filled t 0 ≡ emptyOf (length t)
+pub filled-none : (t : List Reach) → filled t 0 ≡ emptyOf (heldOf (length t))
 filled-none t = rw (row-none kindIn, row-none (λ r. r .a), row-none (λ r. r .b))
 
 -- One more reach goes into a row.
-row-put : (f : Reach → ℕ) (t : List Reach) (i : ℕ) → i < length t → i < maxReaches
+row-put : (f : Reach → ℕ) (t : List Reach) (i : ℕ) → i < length t → i < maxRows
     → set (rowOf f (take i t)) i (f (getD t i noReach)) ≡ rowOf f (take (suc i) t)
 unfolding rowOf
 row-put f t i h l =
     let e : length (take i t) ≡ i = length-take-le i t (omega arith) in
     let e′ : length (take (suc i) t) ≡ suc i = length-take-le (suc i) t h in
-    let d : maxReaches - i ≡ suc (maxReaches - suc i) = omega arith in
-    rw (e, e′, d) (map-more f t i (maxReaches - suc i) noReach 0 h)
+    let d : maxRows - i ≡ suc (maxRows - suc i) = omega arith in
+    rw (e, e′, d) (map-more f t i (maxRows - suc i) noReach 0 h)
 
-pub filled-more : (t : List Reach) (i : ℕ) → i < length t → i < maxReaches → putAt (filled t i) i (numbersOf (getD t i noReach)) ≡ filled t (suc i)
+pub filled-more : (t : List Reach) (i : ℕ) → i < length t → i < maxRows → putAt (filled t i) i (numbersOf (getD t i noReach)) ≡ filled t (suc i)
 filled-more t i h l = rw (row-put kindIn t i h l, row-put (λ r. r .a) t i h l, row-put (λ r. r .b) t i h l)
 
--- What the rows hold stands in the table, and has room.
-pub held-fits : (n : ℕ) → (heldOf n ≤ n) × (heldOf n ≤ maxReaches)
-held-fits n = go (leb n maxReaches) refl
-  where
-    go : (b : Bool) → leb n maxReaches ≡ b → (cond b n 0 ≤ n) × (cond b n 0 ≤ maxReaches)
-    go true e = omega (arith, leb-true n maxReaches e)
-    go false e = omega arith
+-- What the rows hold is the front of the table.
+front-length : (t : List Reach) → length (front t) ≡ heldOf (length t)
+front-length t = length-take maxRows t ∙ min-comm maxRows (length t)
 
-take-held : (t : List Reach) (b : Bool) → take (cond b (length t) 0) t ≡ cond b t []
-take-held t true = take-length t
-take-held t false = refl
+take-held : (t : List Reach) → take (heldOf (length t)) t ≡ front t
+take-held t = ap (take (heldOf (length t))) (sym (take-append-drop maxRows t)) ∙ take-at (front t) (drop maxRows t) (heldOf (length t)) (front-length t)
 
 pub filled-all : (t : List Reach) → filled t (heldOf (length t)) ≡ packedOf t
 unfolding packedOf
-filled-all t = rw (take-held t (leb (length t) maxReaches))
+filled-all t = rw (take-held t, front-length t)
 
--- The table is read off the rows.
+-- The front of the table is read off the rows.
 row-front : (f : Reach → ℕ) (t : List Reach) → take (length t) (rowOf f t) ≡ map f t
 unfolding rowOf
 row-front f t = take-at (map f t) _ (length t) (length-map t f)
 
-pub unpacked : (t : List Reach) → length t ≤ maxReaches
-    → tableOf (take (length t) (packedOf t .kinds)) (take (length t) (packedOf t .a)) (take (length t) (packedOf t .b)) ≡ t
+pub unpacked : (t : List Reach) → tableOf (take (length (front t)) (packedOf t .kinds)) (take (length (front t)) (packedOf t .a)) (take (length (front t)) (packedOf t .b)) ≡ front t
 unfolding packedOf
-unpacked t h = rw (le-leb _ _ h, row-front kindIn t, row-front (λ r. r .a) t, row-front (λ r. r .b) t) (table-of-rows t)
+unpacked t = rw (row-front kindIn (front t), row-front (λ r. r .a) (front t), row-front (λ r. r .b) (front t)) (table-of-rows (front t))
 
-pub packed-count : (t : List Reach) → packedOf t .n ≡ length t
+pub packed-count : (t : List Reach) → packedOf t .n ≡ length (front t)
 unfolding packedOf
 packed-count t = refl
 
 -- ---- rows into a table
 -- What is stored has room, in the table and in the rows.
-pub stored-fits : (n room : ℕ) → (storedOf n room ≤ room) × (storedOf n room ≤ maxReaches)
+pub stored-fits : (n room : ℕ) → (storedOf n room ≤ room) × (storedOf n room ≤ maxRows)
 stored-fits n room = go (leb n room) refl
   where
-    go : (b : Bool) → leb n room ≡ b → (cond b (heldOf n) 0 ≤ room) × (cond b (heldOf n) 0 ≤ maxReaches)
-    go true e = omega (arith, leb-true n room e, held-fits n)
+    go : (b : Bool) → leb n room ≡ b → (cond b (heldOf n) 0 ≤ room) × (cond b (heldOf n) 0 ≤ maxRows)
+    go true e = omega (arith, leb-true n room e)
     go false e = omega arith
 
 -- One more record is stored.
@@ -113,10 +106,10 @@ reaches-of (k ∷ ks) (x ∷ xs) (y ∷ ys) (suc n) hk hx hy =
     ap (λ rs. record { kind = kindOf k; a = x; b = y } ∷ rs)
     (map-range-suc _ 0 n ∙ reaches-of ks xs ys n (le-of-suc-le-suc hk) (le-of-suc-le-suc hx) (le-of-suc-le-suc hy))
 
-pub unpacked-into : (p : Packed) (t : List Reach) → p .n ≤ length t → p .n ≤ maxReaches → p .n ≤ length (p .kinds) → p .n ≤ length (p .a) → p .n ≤ length (p .b)
+pub unpacked-into : (p : Packed) (t : List Reach) → p .n ≤ length t → p .n ≤ maxRows → p .n ≤ length (p .kinds) → p .n ≤ length (p .a) → p .n ≤ length (p .b)
     → unpackedInto p t ≡ tableOf (take (p .n) (p .kinds)) (take (p .n) (p .a)) (take (p .n) (p .b)) ++ drop (p .n) t
 unfolding unpackedInto
-unpacked-into p t ht hm hk ha hb = rw (le-leb _ _ ht, le-leb _ _ hm) (ap (λ rs. rs ++ drop (p .n) t) (reaches-of (p .kinds) (p .a) (p .b) (p .n) hk ha hb))
+unpacked-into p t ht hm hk ha hb = rw (le-leb _ _ ht, min-eq-left hm) (ap (λ rs. rs ++ drop (p .n) t) (reaches-of (p .kinds) (p .a) (p .b) (p .n) hk ha hb))
 
 -- A table that is too short is left as it was.
 pub not-unpacked : (p : Packed) (t : List Reach) → length t < p .n → unpackedInto p t ≡ t

@@ -1,9 +1,9 @@
 -- A reach table as rows of numbers.
 -- Assumes nothing.
-use Prim.Native.Nat.{ℕ, _-_}
+use Prim.Native.Nat.{ℕ, suc, _-_, min}
 use mathlib.Core.Bool.{cond}
-use mathlib.Core.List.{List, [], map, _++_}
-use lib.ListN.{length, getD, replicate, set, drop}
+use mathlib.Core.List.{List, map, _++_}
+use lib.ListN.{length, getD, replicate, set, take, drop}
 use lib.Dec.{leb}
 use Rattle.network.specs.declared.Reach.{Reach}
 use Rattle.lists.specs.Lists.{range}
@@ -12,32 +12,40 @@ use Rattle.network.specs.Tables.{kindOf, kindNumber}
 use Rattle.lent.specs.declared.Packed.{Packed}
 use Rattle.lent.specs.declared.Numbers.{Numbers}
 
--- The reaches that the rows hold: all of a table that is not over-full, and none of one that is; and how many they are.
-abbrev pub fitting : List Reach → List Reach
-fitting t = cond (leb (length t) maxReaches) t []
+-- The length of the rows: one more than a network may have reaches, so that the rows of an over-full table are over-full too.
+abbrev pub maxRows : ℕ
+maxRows = suc maxReaches
 
+-- How many of n reaches the rows hold.
 abbrev pub heldOf : ℕ → ℕ
-heldOf n = cond (leb n maxReaches) n 0
+heldOf n = min n maxRows
 
--- A row as long as a network may have reaches: a number of each reach, and zeros after them.
+-- A row: a number of each reach, and zeros after them.
 unfoldable pub rowOf : (Reach → ℕ) → List Reach → List ℕ
-rowOf f t = map f t ++ replicate (maxReaches - length t) 0
+rowOf f t = map f t ++ replicate (maxRows - length t) 0
 
 abbrev pub kindIn : Reach → ℕ
 kindIn r = kindNumber (r .kind)
 
--- The three rows of a table, beside the number of its reaches.
-unfoldable pub packedOf : List Reach → Packed
-packedOf t = record {
+-- The three rows of reaches, beside their number.
+abbrev pub rowsOf : List Reach → Packed
+rowsOf t = record {
   n = length t;
-  kinds = rowOf kindIn (fitting t);
-  a = rowOf (λ r. r .a) (fitting t);
-  b = rowOf (λ r. r .b) (fitting t);
+  kinds = rowOf kindIn t;
+  a = rowOf (λ r. r .a) t;
+  b = rowOf (λ r. r .b) t;
 }
+
+-- A table is packed into the rows of its front, which is all of a table that is not over-full.
+abbrev pub front : List Reach → List Reach
+front t = take maxRows t
+
+unfoldable pub packedOf : List Reach → Packed
+packedOf t = rowsOf (front t)
 
 -- Rows of zeros, and rows with one more reach in them.
 unfoldable pub zeros : List ℕ
-zeros = replicate maxReaches 0
+zeros = replicate maxRows 0
 
 abbrev pub emptyOf : ℕ → Packed
 emptyOf n = record { n = n; kinds = zeros; a = zeros; b = zeros }
@@ -54,7 +62,7 @@ putAt p i x = record {
   b = set (p .b) i (x .b);
 }
 
--- The other way: the reach that stands in rows at i, and how many of n reaches go into a table of a length, all of them or none.
+-- The other way: the reach that stands in rows at i, and how many of n reaches go into a table of a length, those in the rows or none.
 abbrev pub reachIn : Packed → ℕ → Reach
 reachIn p i = record { kind = kindOf (getD (p .kinds) i 0); a = getD (p .a) i 0; b = getD (p .b) i 0 }
 

@@ -2,22 +2,15 @@
 -- Assumes nothing.
 use Prim.Native.Nat.{ℕ}
 use mathlib.Core.Path.{_≡_}
-use mathlib.Core.Bool.{cond}
-use mathlib.Core.List.{List, []}
+use mathlib.Core.List.{List}
 use Rattle.network.specs.declared.Reach.{Reach}
-use Rattle.network.specs.declared.Refusal.{Refusal}
-use Rattle.network.specs.declared.Refusal.the-variants.{BasinCount, TooManyReaches}
-use Rattle.network.specs.Networks.{Network, goodCount}
+use Rattle.network.specs.Networks.{Network}
 use Rattle.lent.specs.declared.Packed.{Packed}
 use Rattle.lent.specs.Rows.{packedOf}
 
 -- The network of a basin count and a lent table.
 abbrev pub lentNet : ℕ → List Reach → Network
 lentNet n t = record { basins = n; reaches = t }
-
--- What a network of too many reaches is refused for: 1 before 2.
-abbrev pub overFull : ℕ → Refusal
-overFull n = cond (goodCount (lentNet n [])) TooManyReaches BasinCount
 
 -- A promise of rows: it holds of the network of every table that they are the packing of.
 pub record OfTable (n : ℕ) (p : Packed) (P : Network → Type 0) : Type 0 where

@@ -2,22 +2,21 @@
 // The borrow checker does not cover a slice of structs. So two functions have the slice in hand and are proved by a walk of their code, by
 // hand: `pack` and `unpack`. They go over the table once, in place, and leave one record to `numbers_of` and `reach_of`, which are covered.
 use network::Kind;
-use network::MAX_BASINS;
 use network::MAX_REACHES;
 use network::Reach;
-use network::Refusal;
 ghost use mathlib.Core.Path.{_≡_};
 ghost use Rattle.network.specs.Tables.{kindOf, kindNumber};
-ghost use Rattle.lent.specs.Tables.{overFull};
 ghost use Rattle.lent.specs.Rows.{heldOf, emptyOf, numbersOf, packedOf, storedOf, unpackedInto};
 
-// A reach table as rows of numbers: the kinds, ends A and ends B of its n reaches, and zeros after them.
-// All rows are zeros where the table has more reaches than a network may have.
+// How many reaches the rows have room for: one more than a network may have, so that rows show that a table is over-full.
+pub const MAX_ROWS: usize = MAX_REACHES + 1;
+
+// The front of a reach table as rows of numbers: the kinds, ends A and ends B of its first n reaches, and zeros after them.
 pub struct Packed {
     pub n: usize,
-    pub kinds: [u8; MAX_REACHES],
-    pub a: [u16; MAX_REACHES],
-    pub b: [u16; MAX_REACHES],
+    pub kinds: [u8; MAX_ROWS],
+    pub a: [u16; MAX_ROWS],
+    pub b: [u16; MAX_ROWS],
 }
 
 // The number of a kind in a row.
@@ -31,22 +30,22 @@ fn number(k: Kind) -> u8
     }
 }
 
-// How many reaches the rows hold: all of a table that fits, none of one that does not.
-fn held(n: usize) -> usize
+// How many of n reaches the rows hold: as many as they have room for.
+pub fn held(n: usize) -> usize
     ensures { λ r. ⌜ r ≡ heldOf n ⌝ }
 {
-    if n <= MAX_REACHES { n } else { 0 }
+    if n < MAX_ROWS { n } else { MAX_ROWS }
 }
 
-// Rows of zeros for a table of n reaches.
+// Rows of zeros for n reaches.
 pub fn empty(n: usize) -> Packed
     ensures { λ r. ⌜ r ≡ emptyOf n ⌝ }
 {
     Packed {
         n: n,
-        kinds: [0; MAX_REACHES],
-        a: [0; MAX_REACHES],
-        b: [0; MAX_REACHES],
+        kinds: [0; MAX_ROWS],
+        a: [0; MAX_ROWS],
+        b: [0; MAX_ROWS],
     }
 }
 
@@ -69,15 +68,14 @@ fn numbers_of(r: Reach) -> Numbers
     }
 }
 
-// The lent table as rows.
+// The lent table as rows: all of it, or of one with more reaches than there is room for the first of them.
 pub fn pack(t: &[Reach]) -> Packed
     ensures { λ r. ⌜ r ≡ packedOf (now (t .entry)) ⌝ }
 {
-    let n = t.len();
-    let end = held(n);
+    let n = held(t.len());
     let mut p = empty(n);
     let mut i = 0;
-    while i < end {
+    while i < n {
         let x = numbers_of(t[i]);
         p.kinds[i] = x.kind;
         p.a[i] = x.a;
@@ -85,16 +83,6 @@ pub fn pack(t: &[Reach]) -> Packed
         i = i + 1;
     }
     p
-}
-
-// What a table of too many reaches is refused for: the basin count comes before the number of reaches.
-pub fn over_full(basins: u16) -> Refusal
-    ensures { λ r. ⌜ r ≡ overFull basins ⌝ }
-{
-    if basins == 0 || basins as usize > MAX_BASINS {
-        return Refusal::BasinCount;
-    }
-    Refusal::TooManyReaches
 }
 
 // The kind that a number of a row stands for.
@@ -118,7 +106,7 @@ fn reach_of(kind: u8, a: u16, b: u16) -> Reach
     Reach { kind: k, a, b }
 }
 
-// How many of n reaches go into a table with this room: all of them, or none.
+// How many of n reaches go into a table with this room: those that the rows hold, or none where there is no room for n.
 fn stored(n: usize, room: usize) -> usize
     ensures { λ r. ⌜ r ≡ storedOf n room ⌝ }
 {

@@ -3,22 +3,19 @@
 // The borrow checker does not cover a slice of structs. So each public call is one line, proved by a walk of its code, by hand: it has the table
 // packed into rows and hands these to a covered call, whose promise holds of every table that the rows are the packing of.
 use lent::Packed;
+use lent::held;
 use lent::pack;
 use netfile::WriteAnswer;
-use network::MAX_REACHES;
 use network::Reach;
 use sheetfile::SheetAnswer;
 ghost use Rattle.lent.specs.Tables.{lentNet, OfTable};
 ghost use Rattle.sheetfile.specs.Answers.{ReadCall, WriteCall, ReplyCall};
 
-// The call over rows, for each public call. A table of too many reaches has rows of zeros, so it is refused by its number of reaches alone.
+// The call over rows, for each public call. The rows of an over-full table are over-full too, so this refuses it as it refuses such rows.
 fn read_sheet_packed(basins: u16, p: Packed, sheet: &[u8], setting: &mut [u8]) -> SheetAnswer
     ensures { λ r. ⌜ OfTable basins p (λ N. ReadCall N (now (sheet .entry)) (now (setting .entry)) r (now (setting .exit))) ⌝ }
 {
-    let n = p.n;
-    if n > MAX_REACHES {
-        return SheetAnswer::Refused(lent::over_full(basins));
-    }
+    let n = held(p.n);
     let kinds = p.kinds;
     let a = p.a;
     let b = p.b;
@@ -28,10 +25,7 @@ fn read_sheet_packed(basins: u16, p: Packed, sheet: &[u8], setting: &mut [u8]) -
 fn write_sheet_packed(basins: u16, p: Packed, setting: &[u8], out: &mut [u8]) -> WriteAnswer
     ensures { λ r. ⌜ OfTable basins p (λ N. WriteCall N (now (setting .entry)) (now (out .entry)) r (now (out .exit))) ⌝ }
 {
-    let n = p.n;
-    if n > MAX_REACHES {
-        return WriteAnswer::Refused(lent::over_full(basins));
-    }
+    let n = held(p.n);
     let kinds = p.kinds;
     let a = p.a;
     let b = p.b;
@@ -41,10 +35,7 @@ fn write_sheet_packed(basins: u16, p: Packed, setting: &[u8], out: &mut [u8]) ->
 fn write_reply_packed(basins: u16, p: Packed, out: &mut [u8]) -> WriteAnswer
     ensures { λ r. ⌜ OfTable basins p (λ N. ReplyCall N (now (out .entry)) r (now (out .exit))) ⌝ }
 {
-    let n = p.n;
-    if n > MAX_REACHES {
-        return WriteAnswer::Refused(lent::over_full(basins));
-    }
+    let n = held(p.n);
     let kinds = p.kinds;
     let a = p.a;
     let b = p.b;

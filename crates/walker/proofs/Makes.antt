@@ -2,7 +2,7 @@
 -- Assumes nothing.
 use Prim.Native.Nat.{ℕ, _≤_}
 use native.Mathlib.Omega.{arith}
-use mathlib.Core.Path.{_≡_, refl, sym, ap, _∙_}
+use mathlib.Core.Path.{_≡_, refl, ap, _∙_}
 use mathlib.Core.Bool.{Bool, true, false, cond}
 use mathlib.Core.Option.{Option, none, some, Option·some-ne-none}
 use mathlib.Core.List.{List, []}
@@ -16,9 +16,11 @@ use Rattle.network.specs.Plans.{isPlan}
 use Rattle.network.proofs.Networks.{gates-fit}
 use Rattle.network.proofs.Order.{setting-length}
 use Rattle.planner.specs.Answers.{yesOr, unlessRefused, checkOf}
+use Rattle.lent.proofs.Packings.{ByTable}
 use Rattle.walker.specs.declared.MakeAnswer.{MakeAnswer}
 use Rattle.walker.specs.declared.MakeAnswer.the-variants as M
 use Rattle.walker.specs.declared.Walker.{Walker}
+use Rattle.walker.specs.declared.Made.{Made}
 use Rattle.walker.specs.Walkers.{walkerOf, faultOr, makeFault, makeOf, walkerMade, keptOf, Making}
 
 -- ---- what the making answers
@@ -58,12 +60,12 @@ module _ (N : Network) (s : List ℕ) where
       go (some r) bad true fit e = absurd (Option·some-ne-none r e)
       go (some r) bad false fit e = absurd (Option·some-ne-none r e)
 
--- a refused table makes a walker of zeros
-pub none-made : (N : Network) (s : List ℕ) {x : Refusal} {w : Walker} → tableFault N ≡ some x → w .setting ≡ walkerOf [] → Making N s (record { answer = M.Refused x; walker = w })
+-- of a refused table the making depends on the refusal only
+pub make-alike : (s : List ℕ) {r : Made} → ByTable (λ N. Making N s r)
 unfolding makeFault
-none-made N s {x} e z =
-    let same : makeFault N s ≡ some x = rw e in
-    record { answered = make-faulty N s e; held = z ∙ sym (ap (λ (o : Option Refusal). walkerMade o s) same) }
+make-alike s N N′ x e e′ h =
+    let same : makeFault N s ≡ makeFault N′ s = rw (e, e′) in
+    record { answered = h .answered ∙ ap makeOf same; held = h .held ∙ ap (λ (o : Option Refusal). walkerMade o s) same }
 
 -- ---- the bytes kept
 

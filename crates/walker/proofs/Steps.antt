@@ -21,8 +21,10 @@ use Rattle.planner.specs.declared.Reply.{Reply}
 use Rattle.planner.specs.declared.Answer.{Answer}
 use Rattle.planner.specs.declared.Answer.the-variants as A
 use Rattle.planner.specs.Answers.{Written}
-use Rattle.planner.proofs.Calls.{refused-written, next-faulty}
+use Rattle.planner.proofs.Calls.{next-faulty}
+use Rattle.lent.proofs.Packings.{ByTable}
 use Rattle.walker.specs.declared.Walker.{Walker}
+use Rattle.walker.specs.declared.Stepped.{Stepped}
 use Rattle.walker.specs.Walkers.{settingIn, stepReply, gatesHeld, advancedBy, Stepping}
 use Rattle.network.proofs.Networks.{gates-fit}
 
@@ -91,13 +93,6 @@ module _ (N : Network) where
             (ap (λ (k : ℕ). nextReply N (take k w) (length buffer) (length marks)) held ∙ step-same w (length buffer) (length marks))
             next
 
-  -- a refused table leaves the same walker
-  pub step-faulty : (w : Walker) {buffer marks : List ℕ} {x : Refusal} → tableFault N ≡ some x → Stepping N (w .setting) buffer marks buffer marks (record { answer = A.Refused x; walker = w })
-  unfolding stepReply
-  step-faulty w {buffer} {marks} {x} e =
-      let same : stepReply N (w .setting) (length buffer) (length marks) ≡ refused x = next-faulty N (settingIn N (w .setting)) x (length buffer) (length marks) e in
-      record { replied = refused-written same; walked = sym (ap (λ (o : Outcome). planAfter o (w .setting)) same) }
-
   -- ---- what document 01 says of a step
 
   module _ (w : List ℕ) where
@@ -122,3 +117,12 @@ module _ (N : Network) where
           go (shutIn m c) e = refl
           go (lone i m c) e = refl
           go (refused r) e = refl
+
+-- of a refused table a step depends on the refusal only
+pub step-alike : (w : List ℕ) {buffer marks buffer′ marks′ : List ℕ} {r : Stepped} → ByTable (λ N. Stepping N w buffer marks buffer′ marks′ r)
+unfolding stepReply
+step-alike w {buffer} {marks} {buffer′} {marks′} {r} N N′ x e e′ h =
+    let p = length buffer in
+    let q = length marks in
+    let same : stepReply N w p q ≡ stepReply N′ w p q = next-faulty N (settingIn N w) x p q e ∙ sym (next-faulty N′ (settingIn N′ w) x p q e′) in
+    record { replied = subst (λ (o : Outcome). Written o buffer marks buffer′ marks′ (r .answer)) same (h .replied); walked = h .walked ∙ ap (λ (o : Outcome). planAfter o w) same }

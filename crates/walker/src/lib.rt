@@ -12,6 +12,7 @@ ghost use Rattle.tables.specs.Rows.{netOf};
 ghost use Rattle.lent.specs.Tables.{lentNet, OfTable};
 ghost use Rattle.walker.specs.Walkers.{walkerOf, makeFault, makeOf, keptOf, Making, gatesHeld, advancedBy, Stepping};
 use lent::Packed;
+use lent::held;
 use lent::pack;
 use network::MAX_REACHES;
 use network::Reach;
@@ -128,16 +129,11 @@ fn kept(answer: MakeAnswer, n: usize) -> usize
     }
 }
 
-// The calls over rows, for the calls over a table. A table of too many reaches has rows of zeros, so it is refused by its number of reaches alone.
+// The calls over rows, for the calls over a table. The rows of an over-full table are over-full too, so this refuses it as it refuses such rows.
 fn make_packed(basins: u16, p: Packed, setting: &[u8]) -> Made
     ensures { λ r. ⌜ OfTable basins p (λ N. Making N (now (setting .entry)) r) ⌝ }
 {
-    let n = p.n;
-    if n > MAX_REACHES {
-        let answer = MakeAnswer::Refused(lent::over_full(basins));
-        let walker = padded(&setting[..0]);
-        return Made { answer, walker };
-    }
+    let n = held(p.n);
     let kinds = p.kinds;
     let a = p.a;
     let b = p.b;
@@ -147,11 +143,7 @@ fn make_packed(basins: u16, p: Packed, setting: &[u8]) -> Made
 fn step_packed(walker: Walker, basins: u16, p: Packed, plan: &mut [u8], marks: &mut [u8]) -> Stepped
     ensures { λ r. ⌜ OfTable basins p (λ N. Stepping N (walker .setting) (now (plan .entry)) (now (marks .entry)) (now (plan .exit)) (now (marks .exit)) r) ⌝ }
 {
-    let n = p.n;
-    if n > MAX_REACHES {
-        let answer = Answer::Refused(lent::over_full(basins));
-        return Stepped { answer, walker };
-    }
+    let n = held(p.n);
     let kinds = p.kinds;
     let a = p.a;
     let b = p.b;

@@ -1,20 +1,17 @@
--- `calls::first_plan_packed` meets its contract: a table of too many reaches is refused for that, and the rows of any other, cut to its length, are those of the table.
+-- `calls::first_plan_packed` meets its contract: what is promised of the rows, cut to the reaches that they hold, is promised of the table.
 -- Assumes nothing.
-use Rattle.planner.proofs.Calls.{refused-written, first-faulty}
 use borrow.Author.Needs.{needs}
-use Rattle.lent.proofs.Packings.{Cut, cut, of-rows, of-over-full}
+use Rattle.lent.proofs.Packings.{Cut, cut, of-rows}
+use Rattle.calls.proofs.Refusals.{first-alike}
 use Rattle.calls.proofs.first_plan_packed.Statement.{statement}
 use Rattle.calls.proofs.first_plan_packed.Tie as tie
 
--- after the test the rows are long enough
-long : (c : tie.Else1) → Cut (c .before .before .before .args .p)
-long c = cut _ _ (c .before .before .before .good .1 .0) (c .if1 .left)
+-- the rows are long enough
+long : (c : tie.After-held) → Cut (c .before .before .before .args .p) (c .held .result)
+long c = cut _ _ (c .before .before .before .good .1 .0) (c .held .ensures)
 
-over-full-requires : tie.Need-over-full-requires
-over-full-requires c κs = search needs
-
-returns : tie.Need-returns
-returns c = of-over-full (c .before .if1 .taken) (c .over-full .ensures) (λ N e. refused-written (first-faulty N _ _ _ e))
+held-requires : tie.Need-held-requires
+held-requires c κs = tt
 
 array-share-prefix-kinds : tie.Need-array-share-prefix-kinds
 array-share-prefix-kinds c = long (c .before .before .before) .kinds .within
@@ -35,7 +32,7 @@ slice-aggregate-first-plan-rows-3 : tie.Need-slice-aggregate-first-plan-rows-3
 slice-aggregate-first-plan-rows-3 c = long (c .before .before .before .before .before .before) .b .counted
 
 first-plan-rows-requires : tie.Need-first-plan-rows-requires
-first-plan-rows-requires c κs = search needs
+first-plan-rows-requires c κs = tt
 
 same-length : tie.Need-same-length
 same-length c = search needs
@@ -43,15 +40,14 @@ same-length c = search needs
 same-length-2 : tie.Need-same-length-2
 same-length-2 c = search needs
 
-returns-2 : tie.Need-returns-2
-returns-2 c = of-rows (long (c .before .before .before .before .before .before .before .before .before .before .before .before .before)) (c .before .before .before .before .first-plan-rows .ensures)
+returns : tie.Need-returns
+returns c = of-rows (long (c .before .before .before .before .before .before .before .before .before .before .before .before .before)) (c .before .before .before .before .first-plan-rows .ensures) (first-alike _ _)
 
 pub first-plan-packed-spec : {M : Type 1} → statement M
 first-plan-packed-spec =
     tie.close
     (tie.spec
-    over-full-requires
-    returns
+    held-requires
     array-share-prefix-kinds
     slice-aggregate-first-plan-rows
     array-share-prefix-a
@@ -61,4 +57,4 @@ first-plan-packed-spec =
     first-plan-rows-requires
     same-length
     same-length-2
-    returns-2)
+    returns)

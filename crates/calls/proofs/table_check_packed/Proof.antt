@@ -1,21 +1,16 @@
--- `calls::table_check_packed` meets its contract: a table of too many reaches is refused for that, and the rows of any other, cut to its length, are those of the table.
+-- `calls::table_check_packed` meets its contract: what is promised of the rows, cut to the reaches that they hold, is promised of the table.
 -- Assumes nothing.
-use mathlib.Core.Path.{sym, ap}
-use Rattle.tables.specs.Answers.{answerOf}
-use borrow.Author.Needs.{needs}
-use Rattle.lent.proofs.Packings.{Cut, cut, of-rows, of-over-full}
+use Rattle.lent.proofs.Packings.{Cut, cut, of-rows}
+use Rattle.calls.proofs.Refusals.{table-alike}
 use Rattle.calls.proofs.table_check_packed.Statement.{statement}
 use Rattle.calls.proofs.table_check_packed.Tie as tie
 
--- after the test the rows are long enough
-long : (c : tie.Else1) → Cut (c .before .args .p)
-long c = cut _ _ (c .before .good .1 .0) (c .if1 .left)
+-- the rows are long enough
+long : (c : tie.After-held) → Cut (c .before .args .p) (c .held .result)
+long c = cut _ _ (c .before .good .1 .0) (c .held .ensures)
 
-over-full-requires : tie.Need-over-full-requires
-over-full-requires c κs = search needs
-
-returns : tie.Need-returns
-returns c = of-over-full (c .before .if1 .taken) (c .over-full .ensures) (λ N e. sym (ap answerOf e))
+held-requires : tie.Need-held-requires
+held-requires c κs = tt
 
 array-share-prefix-kinds : tie.Need-array-share-prefix-kinds
 array-share-prefix-kinds c = long (c .before .before .before) .kinds .within
@@ -36,17 +31,16 @@ slice-aggregate-table-fault-3 : tie.Need-slice-aggregate-table-fault-3
 slice-aggregate-table-fault-3 c = long (c .before .before .before .before .before .before) .b .counted
 
 table-fault-requires : tie.Need-table-fault-requires
-table-fault-requires c κs = search needs
+table-fault-requires c κs = tt
 
-returns-2 : tie.Need-returns-2
-returns-2 c = of-rows (long (c .before .before .before .before .before .before .before)) (c .table-fault .ensures)
+returns : tie.Need-returns
+returns c = of-rows (long (c .before .before .before .before .before .before .before)) (c .table-fault .ensures) table-alike
 
 pub table-check-packed-spec : {M : Type 1} → statement M
 table-check-packed-spec =
     tie.close
     (tie.spec
-    over-full-requires
-    returns
+    held-requires
     array-share-prefix-kinds
     slice-aggregate-table-fault
     array-share-prefix-a
@@ -54,4 +48,4 @@ table-check-packed-spec =
     array-share-prefix-b
     slice-aggregate-table-fault-3
     table-fault-requires
-    returns-2)
+    returns)

@@ -9,12 +9,13 @@ use lib.Seq.{length-take-le}
 use borrow.Author.Needs.{needs}
 use Rattle.network.specs.Networks.{maxReaches}
 use Rattle.netfile.proofs.Records.{bytes-make}
+use Rattle.lent.specs.Rows.{maxRows}
 use Rattle.lent.proofs.Records.{Sized, sized}
 use Rattle.filecalls.proofs.Reading.{packed-read}
 use Rattle.filecalls.proofs.read_rows.Statement.{statement}
 use Rattle.filecalls.proofs.read_rows.Tie as tie
 
--- the call's arguments, and the rows as long as a network may have reaches
+-- the call's arguments, and the length of the rows
 abbrev start : tie.After-usable → tie.Start
 start c = c .before .before .before .before .before
 
@@ -22,7 +23,7 @@ long : (c : tie.After-usable) → Sized (start c .args .rows)
 long c = sized _ _ (start c .good .1 .1 .0)
 
 -- a row that is cut is as long as the cut says
-cut-long : (m : ℕ) (xs : List ℕ) → length xs ≡ maxReaches → m ≤ maxReaches → length (take m xs) ≡ m
+cut-long : (m : ℕ) (xs : List ℕ) → length xs ≡ maxRows → m ≤ maxReaches → length (take m xs) ≡ m
 cut-long m xs e h = length-take-le m xs (omega arith)
 
 usable-requires : tie.Need-usable-requires

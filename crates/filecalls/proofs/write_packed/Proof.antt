@@ -1,20 +1,35 @@
--- `filecalls::write_packed` meets its contract: a table of too many reaches is refused for that, and the rows of any other, cut to its length, are those of the table.
+-- `filecalls::write_packed` meets its contract: what is promised of the rows, cut to the reaches that they hold, is promised of the table.
 -- Assumes nothing.
-use Rattle.netfile.proofs.Calls.{write-refused}
+use mathlib.Core.Path.{_≡_, sym, ap, _∙_}
+use mathlib.Core.List.{List, _++_}
+use mathlib.Core.Option.{Option, some}
+use Prim.Native.Nat.{ℕ}
+use lib.ListN.{length, drop}
+use Rattle.network.specs.declared.Refusal.{Refusal}
+use Rattle.netfile.specs.declared.WriteAnswer.{WriteAnswer}
+use Rattle.netfile.specs.Answers.{writeFault, writeAnswer, faultNumber, bytesWritten, WriteCall}
 use borrow.Author.Needs.{needs}
-use Rattle.lent.proofs.Packings.{Cut, cut, of-rows, of-over-full}
+use Rattle.lent.proofs.Packings.{Cut, cut, ByTable, of-rows}
 use Rattle.filecalls.proofs.write_packed.Statement.{statement}
 use Rattle.filecalls.proofs.write_packed.Tie as tie
 
--- after the test the rows are long enough
-long : (c : tie.Else1) → Cut (c .before .before .args .p)
-long c = cut _ _ (c .before .before .good .1 .0) (c .if1 .left)
+-- of a refused table the call depends on the refusal only
+write-alike : (out : List ℕ) {r : WriteAnswer} {out′ : List ℕ} → ByTable (λ N. WriteCall N out r out′)
+write-alike out N N′ x e e′ h =
+    let f : writeFault N (length out) ≡ some x = rw e in
+    let f′ : writeFault N′ (length out) ≡ some x = rw e′ in
+    record {
+      answer = h .answer ∙ ap (writeAnswer N) f ∙ sym (ap (writeAnswer N′) f′);
+      number = h .number ∙ ap faultNumber (f ∙ sym f′);
+      bytes = h .bytes ∙ ap (λ (o : Option Refusal). bytesWritten N o ++ drop (length (bytesWritten N o)) out) f ∙ sym (ap (λ (o : Option Refusal). bytesWritten N′ o ++ drop (length (bytesWritten N′ o)) out) f′);
+    }
 
-over-full-requires : tie.Need-over-full-requires
-over-full-requires c κs = search needs
+-- the rows are long enough
+long : (c : tie.After-held) → Cut (c .before .before .args .p) (c .held .result)
+long c = cut _ _ (c .before .before .good .1 .0) (c .held .ensures)
 
-returns : tie.Need-returns
-returns c = of-over-full (c .before .if1 .taken) (c .over-full .ensures) (λ N e. write-refused N _ _ e)
+held-requires : tie.Need-held-requires
+held-requires c κs = tt
 
 array-share-prefix-kinds : tie.Need-array-share-prefix-kinds
 array-share-prefix-kinds c = long (c .before .before .before) .kinds .within
@@ -35,20 +50,19 @@ slice-aggregate-write-network-rows-3 : tie.Need-slice-aggregate-write-network-ro
 slice-aggregate-write-network-rows-3 c = long (c .before .before .before .before .before .before) .b .counted
 
 write-network-rows-requires : tie.Need-write-network-rows-requires
-write-network-rows-requires c κs = search needs
+write-network-rows-requires c κs = tt
 
 same-length : tie.Need-same-length
 same-length c = search needs
 
-returns-2 : tie.Need-returns-2
-returns-2 c = of-rows (long (c .before .before .before .before .before .before .before .before .before .before)) (c .before .before .write-network-rows .ensures)
+returns : tie.Need-returns
+returns c = of-rows (long (c .before .before .before .before .before .before .before .before .before .before)) (c .before .before .write-network-rows .ensures) (write-alike _)
 
 pub write-packed-spec : {M : Type 1} → statement M
 write-packed-spec =
     tie.close
     (tie.spec
-    over-full-requires
-    returns
+    held-requires
     array-share-prefix-kinds
     slice-aggregate-write-network-rows
     array-share-prefix-a
@@ -57,4 +71,4 @@ write-packed-spec =
     slice-aggregate-write-network-rows-3
     write-network-rows-requires
     same-length
-    returns-2)
+    returns)

@@ -44,9 +44,8 @@ use denote.Triple.Bound.{Bound}
 use denote.Triple.Statement.{Contract, Triple}
 use denote.Triple.Table.{entered, cited}
 use Rattle.network.specs.declared.Reach.{Reach}
-use Rattle.network.specs.Networks.{maxReaches}
 use Rattle.network.proofs.Reach as R
-use Rattle.lent.specs.Rows.{heldOf, emptyOf, numbersOf, packedOf}
+use Rattle.lent.specs.Rows.{maxRows, heldOf, emptyOf, numbersOf, packedOf}
 use Rattle.lent.specs.declared.Packed.{Packed}
 use Rattle.lent.specs.declared.Numbers.{Numbers}
 use Rattle.lent.proofs.Packed as P
@@ -54,7 +53,7 @@ use Rattle.lent.proofs.Packed.Laws as P′
 use Rattle.lent.proofs.Numbers as N
 use Rattle.lent.proofs.Numbers.Laws as N′
 use Rattle.lent.proofs.Arrays.{element}
-use Rattle.lent.proofs.Rows.{filled, filled-none, filled-more, filled-all, held-fits}
+use Rattle.lent.proofs.Rows.{filled, filled-none, filled-more, filled-all}
 use Rattle.lent.proofs.Records.{reachVals, reach-tells, reach-copy, reach-made, rows-made, reach-typed, rows-typed, numbers-typed, Sized, sized, is-sized, sized-put, row-room, stored, Up, up-wf, leaving}
 use Rattle.lent.proofs.Locals.{Cell, Content, Blocks, room, full, locals, blocks, holding, fresh, allots, takes-in, within, known, copied, copies, fills, clears, frees-all}
 use Rattle.lent.proofs.Calls.{Promise, meets, ending, calls-plain}
@@ -113,9 +112,9 @@ module _ {M : Type 1} (𝓤 : URA M) (H : Heap 𝓤) (A : Atoms 𝓤) (mem : Mem
       abbrev En : Env 𝓤 H
       En = blocks (fresh (code.function .locals) bs)
 
-      -- the locals: the result, t, n, end, p and i, and x; and others that a turn uses
+      -- the locals: the result, t, n, p and i, x and the table's length, and others that a turn uses
       abbrev at : ℕ → Val → Content → List Cell
-      at i v x = holding (code.function .locals) bs (room ∷ full s ∷ full (vint w64 n) ∷ full (vint w64 m) ∷ full v ∷ full (vint w64 i) ∷ x ∷ [])
+      at i v x = holding (code.function .locals) bs (room ∷ full s ∷ full (vint w64 m) ∷ full v ∷ full (vint w64 i) ∷ x ∷ full (vint w64 n) ∷ [])
 
       abbrev Inv : Turn → List (Item 𝓤)
       Inv x = locals (at (x .0) (P′.lowered (filled ys (x .0))) room) ∷ ‵ (fshr-bor κ (λ p. arr-parts (shares R.the-row) n .part p ys b o)) ∷ ‵ (flft κ q) ∷ []
@@ -130,7 +129,7 @@ module _ {M : Type 1} (𝓤 : URA M) (H : Heap 𝓤) (A : Atoms 𝓤) (mem : Mem
 
         -- the block of the local p, and the rows as they are in it
         abbrev pb : ℕ
-        pb = bs .1 .1 .1 .1 .0
+        pb = bs .1 .1 .1 .0
 
         abbrev i : ℕ
         i = x .0
@@ -140,8 +139,8 @@ module _ {M : Type 1} (𝓤 : URA M) (H : Heap 𝓤) (A : Atoms 𝓤) (mem : Mem
 
         more : x .0 < m → Sq W (Inv x) (runs (𝓣 .C) (𝓣 .Λ) En pieces.turn-1 Next)
         unfolding afterTurn
-        more below = assigns ! (known ! (ap vbool (lt-ltb (x .0) m below)) (bin ! (copied ! 5 refl) (copied ! 3 refl) tt)) (from ! (stop !)) (fills ! 8 refl (tt, tt)) $ stays ! (copied ! 8 refl) $
-            assigns ! (bin ! (copied ! 5 refl) (lit ! tt) (record { fits = far })) (from ! (stop !)) (fills ! 9 refl (tt, record { fits = far })) $
+        more below = assigns ! (known ! (ap vbool (lt-ltb (x .0) m below)) (bin ! (copied ! 4 refl) (copied ! 2 refl) tt)) (from ! (stop !)) (fills ! 8 refl (tt, tt)) $ stays ! (copied ! 8 refl) $
+            assigns ! (bin ! (copied ! 4 refl) (lit ! tt) (record { fits = far })) (from ! (stop !)) (fills ! 9 refl (tt, record { fits = far })) $
             assigns ! (known ! (ap (vptr b) (sym (place-is 6 o (x .0)))) (bin ! (load ! (from ! (fld ! refl (stop !))) (look-in ! 0 (sub ! 0 refl (within ! 1 refl)))) (copied ! 9 refl) tt)) (from ! (stop !)) (fills ! 10 refl (tt, tt)) $
             -- the borrow is looked into, the record is copied, and the borrow is shut again
             move ! (1 ∷ 2 ∷ []) $ looks-slice ! tt R.the-row (Is R.the-row) (shows 𝓤 H A R.the-row) reachVals reach-tells (reach-copy 𝓤 H A W) ys b o (λ q′.
@@ -152,27 +151,27 @@ module _ {M : Type 1} (𝓤 : URA M) (H : Heap 𝓤) (A : Atoms 𝓤) (mem : Mem
             -- [the locals; the token; the borrow]
             calls-plain ! numbers-of.ended (numbers-of.clauses 𝓤 H A mem run) (tt, tt, tt, (elem, tt), (reachVals elem, tt)) tt (fmOf 𝓤 H (W .laws) 𝓣) known-numbers-of (id⊢ 𝓤 _) (reach-made 𝓤 H A, tt) (is, tt)
             (id⊢ 𝓤 _) (λ r. r ≡ numbersOf elem) (λ r e. id⊢ 𝓤 _) (copies ! (11 ∷ []) refl) (λ u r e isr.
-            land ! (from ! (stop !)) (fills ! 6 refl (numbers-typed 𝓤 H A W r isr)) $ clears ! 8 refl $ clears ! 9 refl $ clears ! 10 refl $ clears ! 11 refl $
+            land ! (from ! (stop !)) (fills ! 5 refl (numbers-typed 𝓤 H A W r isr)) $ clears ! 8 refl $ clears ! 9 refl $ clears ! 10 refl $ clears ! 11 refl $
             rewrite ! 0 (λ (w : Val). locals (at i (P′.lowered p) (full w))) (ap only (N′.lowers .val-is r (u ∷ []) isr) ∙ ap N′.lowered e) refl $
             -- the kind
             assigns ! (addr ! (from ! (fld ! refl (stop !)))) (from ! (stop !)) (fills ! 12 refl (tt, tt)) $
-            assigns ! (known ! (ap (vptr pb) (sym (place-byte 8 i))) (bin ! (copied ! 12 refl) (copied ! 5 refl) tt)) (from ! (stop !)) (fills ! 13 refl (tt, tt)) $
-            assigns ! (of-opd ! (load ! (from ! (fld ! refl (stop !))) (look-in ! 0 (sub ! 0 refl (within ! 6 refl))))) (from ! (hop ! (look-in ! 0 (within ! 13 refl)) (stop !)))
-            (store-in ! 0 (element ! (map (vint w8) (p .kinds)) i (kinds .0) (kinds .1) (sub ! 1 refl (within ! 4 refl))) (tt, record { fits = fine r e isr .0 .1 })) $
+            assigns ! (known ! (ap (vptr pb) (sym (place-byte 8 i))) (bin ! (copied ! 12 refl) (copied ! 4 refl) tt)) (from ! (stop !)) (fills ! 13 refl (tt, tt)) $
+            assigns ! (of-opd ! (load ! (from ! (fld ! refl (stop !))) (look-in ! 0 (sub ! 0 refl (within ! 5 refl))))) (from ! (hop ! (look-in ! 0 (within ! 13 refl)) (stop !)))
+            (store-in ! 0 (element ! (map (vint w8) (p .kinds)) i (kinds .0) (kinds .1) (sub ! 1 refl (within ! 3 refl))) (tt, record { fits = fine r e isr .0 .1 })) $
             -- end A
-            assigns ! (bin ! (copied ! 5 refl) (lit ! tt) (record { fits = twice })) (from ! (stop !)) (fills ! 9 refl (tt, record { fits = twice })) $
+            assigns ! (bin ! (copied ! 4 refl) (lit ! tt) (record { fits = twice })) (from ! (stop !)) (fills ! 9 refl (tt, record { fits = twice })) $
             assigns ! (addr ! (from ! (fld ! refl (stop !)))) (from ! (stop !)) (fills ! 14 refl (tt, tt)) $
-            assigns ! (known ! (ap (vptr pb) (sym (place-is 2 1032 i))) (bin ! (copied ! 14 refl) (copied ! 9 refl) tt)) (from ! (stop !)) (fills ! 15 refl (tt, tt)) $
-            assigns ! (of-opd ! (load ! (from ! (fld ! refl (stop !))) (look-in ! 0 (sub ! 1 refl (within ! 6 refl))))) (from ! (hop ! (look-in ! 0 (within ! 15 refl)) (stop !)))
-            (store-in ! 0 (element ! (map (vint w16) (p .a)) i (ends-a .0) (ends-a .1) (sub ! 2 refl (within ! 4 refl))) (tt, record { fits = fine r e isr .1 .0 .1 })) $
+            assigns ! (known ! (ap (vptr pb) (sym (place-is 2 1034 i))) (bin ! (copied ! 14 refl) (copied ! 9 refl) tt)) (from ! (stop !)) (fills ! 15 refl (tt, tt)) $
+            assigns ! (of-opd ! (load ! (from ! (fld ! refl (stop !))) (look-in ! 0 (sub ! 1 refl (within ! 5 refl))))) (from ! (hop ! (look-in ! 0 (within ! 15 refl)) (stop !)))
+            (store-in ! 0 (element ! (map (vint w16) (p .a)) i (ends-a .0) (ends-a .1) (sub ! 2 refl (within ! 3 refl))) (tt, record { fits = fine r e isr .1 .0 .1 })) $
             -- end B
-            assigns ! (bin ! (copied ! 5 refl) (lit ! tt) (record { fits = twice })) (from ! (stop !)) (fills ! 9 refl (tt, record { fits = twice })) $
+            assigns ! (bin ! (copied ! 4 refl) (lit ! tt) (record { fits = twice })) (from ! (stop !)) (fills ! 9 refl (tt, record { fits = twice })) $
             assigns ! (addr ! (from ! (fld ! refl (stop !)))) (from ! (stop !)) (fills ! 16 refl (tt, tt)) $
-            assigns ! (known ! (ap (vptr pb) (sym (place-is 2 3080 i))) (bin ! (copied ! 16 refl) (copied ! 9 refl) tt)) (from ! (stop !)) (fills ! 17 refl (tt, tt)) $
-            assigns ! (of-opd ! (load ! (from ! (fld ! refl (stop !))) (look-in ! 0 (sub ! 2 refl (within ! 6 refl))))) (from ! (hop ! (look-in ! 0 (within ! 17 refl)) (stop !)))
-            (store-in ! 0 (element ! (map (vint w16) (p .b)) i (ends-b .0) (ends-b .1) (sub ! 3 refl (within ! 4 refl))) (tt, record { fits = fine r e isr .1 .1 .0 .1 })) $
-            assigns-last ! (known ! (ap (vint w64) (add-one i)) (bin ! (copied ! 5 refl) (lit ! tt) (record { fits = next .0 }))) (from ! (stop !)) (fills ! 5 refl (tt, record { fits = next .1 })) $
-            clears ! 6 refl $ clears ! 9 refl $ clears ! 12 refl $ clears ! 13 refl $ clears ! 14 refl $ clears ! 15 refl $ clears ! 16 refl $ clears ! 17 refl $
+            assigns ! (known ! (ap (vptr pb) (sym (place-is 2 3084 i))) (bin ! (copied ! 16 refl) (copied ! 9 refl) tt)) (from ! (stop !)) (fills ! 17 refl (tt, tt)) $
+            assigns ! (of-opd ! (load ! (from ! (fld ! refl (stop !))) (look-in ! 0 (sub ! 2 refl (within ! 5 refl))))) (from ! (hop ! (look-in ! 0 (within ! 17 refl)) (stop !)))
+            (store-in ! 0 (element ! (map (vint w16) (p .b)) i (ends-b .0) (ends-b .1) (sub ! 3 refl (within ! 3 refl))) (tt, record { fits = fine r e isr .1 .1 .0 .1 })) $
+            assigns-last ! (known ! (ap (vint w64) (add-one i)) (bin ! (copied ! 4 refl) (lit ! tt) (record { fits = next .0 }))) (from ! (stop !)) (fills ! 4 refl (tt, record { fits = next .1 })) $
+            clears ! 5 refl $ clears ! 9 refl $ clears ! 12 refl $ clears ! 13 refl $ clears ! 14 refl $ clears ! 15 refl $ clears ! 16 refl $ clears ! 17 refl $
             rewrite ! 0 (λ (w : Val). locals (at (suc i) w room)) (stored p i (numbersOf elem) ∙ ap P′.lowered (filled-more ys i inside small)) refl $ move ! (0 ∷ 2 ∷ 1 ∷ []) $
             again ! Less Inv x (suc i, below, subst (λ z. Sized z) (filled-more ys i inside small) (sized-put (x .2) i (numbersOf elem) (fine r e isr .0 .1) (fine r e isr .1 .0 .1) (fine r e isr .1 .1 .0 .1))) (omega arith))))
           where
@@ -180,27 +179,27 @@ module _ {M : Type 1} (𝓤 : URA M) (H : Heap 𝓤) (A : Atoms 𝓤) (mem : Mem
             elem = getD ys i noReach
 
             inside : i < n
-            inside = omega (arith, held-fits n)
+            inside = omega arith
 
             far : i * 6 < 2 ^ 64
             far = omega (arith, fits .1, inside)
 
-            small : i < maxReaches
-            small = omega (arith, held-fits n)
+            small : i < maxRows
+            small = omega arith
 
             twice : i * 2 < 2 ^ 64
             twice = omega (arith, far)
 
             next : (i + 1 < 2 ^ 64) × (suc i < 2 ^ 64)
-            next = omega (arith, fits .0, held-fits n)
+            next = omega (arith, fits .0)
 
-            kinds : (length (map (vint w8) (p .kinds)) ≡ maxReaches) × (i < length (map (vint w8) (p .kinds)))
+            kinds : (length (map (vint w8) (p .kinds)) ≡ maxRows) × (i < length (map (vint w8) (p .kinds)))
             kinds = row-room (vint w8) (p .kinds) i (x .2 .kinds-long) small
 
-            ends-a : (length (map (vint w16) (p .a)) ≡ maxReaches) × (i < length (map (vint w16) (p .a)))
+            ends-a : (length (map (vint w16) (p .a)) ≡ maxRows) × (i < length (map (vint w16) (p .a)))
             ends-a = row-room (vint w16) (p .a) i (x .2 .a-long) small
 
-            ends-b : (length (map (vint w16) (p .b)) ≡ maxReaches) × (i < length (map (vint w16) (p .b)))
+            ends-b : (length (map (vint w16) (p .b)) ≡ maxRows) × (i < length (map (vint w16) (p .b)))
             ends-b = row-room (vint w16) (p .b) i (x .2 .b-long) small
 
             -- the numbers fit
@@ -209,9 +208,9 @@ module _ {M : Type 1} (𝓤 : URA M) (H : Heap 𝓤) (A : Atoms 𝓤) (mem : Mem
 
         ends : m ≤ x .0 → Sq W (Inv x) (runs (𝓣 .C) (𝓣 .Λ) En pieces.turn-1 Next)
         unfolding afterTurn
-        ends above = assigns ! (known ! (ap vbool (le-ltb (x .0) m above)) (bin ! (copied ! 5 refl) (copied ! 3 refl) tt)) (from ! (stop !)) (fills ! 8 refl (tt, tt)) $ leaves-loop ! (copied ! 8 refl) $
+        ends above = assigns ! (known ! (ap vbool (le-ltb (x .0) m above)) (bin ! (copied ! 4 refl) (copied ! 2 refl) tt)) (from ! (stop !)) (fills ! 8 refl (tt, tt)) $ leaves-loop ! (copied ! 8 refl) $
             exec ! (𝓣 .C) (𝓣 .Λ) En pieces.t-7 (atRet En (Own .post (bound, tt))) $
-            assigns ! (of-opd ! (copied ! 4 refl)) (from ! (stop !)) (fills ! 0 refl (rows-typed 𝓤 H A W p (is-sized p (x .2)))) $ returns ! (look-in ! 0 (within ! 0 refl)) $ frees-all ! $
+            assigns ! (of-opd ! (copied ! 3 refl)) (from ! (stop !)) (fills ! 0 refl (rows-typed 𝓤 H A W p (is-sized p (x .2)))) $ returns ! (look-in ! 0 (within ! 0 refl)) $ frees-all ! $
             -- [the borrow; the token]
             drop ! $ nothing ! $ move ! (1 ∷ 0 ∷ []) $ join ! $ owned ! P.the-row (Is P.the-row) (rows-made 𝓤 H A) (packedOf ys) _ all $ nothing ! $ nothing ! $ fjoin ! $ move ! (2 ∷ 0 ∷ 1 ∷ []) $
             by ! (ending 𝓤 H A f.ended (f.clauses 𝓤 H A mem run) W bound tt (P′.lowered p) (packedOf ys) (tt, tt) (factI 𝓤 _ _ refl))
@@ -227,19 +226,22 @@ module _ {M : Type 1} (𝓤 : URA M) (H : Heap 𝓤) (A : Atoms 𝓤) (mem : Mem
       looped : (x : Turn) → Sq W (Inv x) (runs (𝓣 .C) (𝓣 .Λ) En pieces.t-6 (atRet En (Own .post (bound, tt))))
       looped x = first ! $ block ! $ loops ! 𝓣 Less (up-wf m (λ x. x .0)) Inv turns x
 
+    held-small : m < 2 ^ 64
+    held-small = omega (arith, fits .0)
+
     -- the MIR up to the loop
     walk : ent 𝓤 (Own .pre (bound, tt)) (WpFn 𝓤 H (𝓣 .C) (𝓣 .Λ) code.function (s ∷ []) (Own .post (bound, tt)))
     walk =
         qed W (((‵ (flft κ q) ⊛ ‵ ftrue) ⊛ ‵ (owns (ShrSlice (named 0) κ R.the-row ∷ []) (bound .3) (bound .4))) ∷ ‵ ftrue ∷ []) ∵ enter ! (𝓣 .C) (𝓣 .Λ) code.function (s ∷ []) _ $
         allots ! _ (λ bs. takes-in ! ((tt, (tt, (record { fits = fits .0 }, tt))), tt) $
-        assigns ! (of-opd ! (load ! (from ! (fld ! refl (stop !))) (look-in ! 0 (sub ! 1 refl (within ! 1 refl))))) (from ! (stop !)) (fills ! 2 refl (tt, record { fits = fits .0 })) $
+        assigns ! (of-opd ! (load ! (from ! (fld ! refl (stop !))) (look-in ! 0 (sub ! 1 refl (within ! 1 refl))))) (from ! (stop !)) (fills ! 6 refl (tt, record { fits = fits .0 })) $
         calls-plain ! held.ended (held.clauses 𝓤 H A mem run) (tt, tt, tt, (n, tt), (vint w64 n ∷ [], tt)) tt (fmOf 𝓤 H (W .laws) 𝓣) known-held (id⊢ 𝓤 _) (uint-makes 𝓤 H A W w64, tt) ((refl, fits .0), tt)
-        (id⊢ 𝓤 _) (λ r. r ≡ m) (λ r e. id⊢ 𝓤 _) (copies ! (2 ∷ []) refl) (λ u r e is. land ! (from ! (stop !)) (fills ! 3 refl (uint-lawful 𝓤 H A W w64 .typed r _ is .0)) $
-        calls-plain ! empty.ended (empty.clauses 𝓤 H A mem run) (tt, tt, tt, (n, tt), (vint w64 n ∷ [], tt)) tt (fmOf 𝓤 H (W .laws) 𝓣) known-empty (id⊢ 𝓤 _) (uint-makes 𝓤 H A W w64, tt) ((refl, fits .0), tt)
-        (id⊢ 𝓤 _) (λ r. r ≡ emptyOf n) (λ r e. id⊢ 𝓤 _) (copies ! (2 ∷ []) refl) (λ v r′ e′ is′. land ! (from ! (stop !)) (fills ! 7 refl (rows-typed 𝓤 H A W r′ is′)) $
-        assigns ! (of-opd ! (copied ! 7 refl)) (from ! (stop !)) (fills ! 4 refl (rows-typed 𝓤 H A W r′ is′)) $ clears ! 7 refl $
-        assigns ! (of-opd ! (lit ! tt)) (from ! (stop !)) (fills ! 5 refl (tt, record { fits = lit< tt })) $
-        rewrite ! 0 (λ (w : Val). locals (holding (code.function .locals) bs (room ∷ full s ∷ full (vint w64 n) ∷ full w ∷ full v ∷ full (vint w64 0) ∷ []))) (ap only (is .0) ∙ ap (vint w64) e) refl $
+        (id⊢ 𝓤 _) (λ r. r ≡ m) (λ r e. id⊢ 𝓤 _) (copies ! (6 ∷ []) refl) (λ u r e is. land ! (from ! (stop !)) (fills ! 2 refl (uint-lawful 𝓤 H A W w64 .typed r _ is .0)) $
+        rewrite ! 0 (λ (w : Val). locals (holding (code.function .locals) bs (room ∷ full s ∷ full w ∷ room ∷ room ∷ room ∷ full (vint w64 n) ∷ []))) (ap only (is .0) ∙ ap (vint w64) e) refl $
+        calls-plain ! empty.ended (empty.clauses 𝓤 H A mem run) (tt, tt, tt, (m, tt), (vint w64 m ∷ [], tt)) tt (fmOf 𝓤 H (W .laws) 𝓣) known-empty (id⊢ 𝓤 _) (uint-makes 𝓤 H A W w64, tt) ((refl, held-small), tt)
+        (id⊢ 𝓤 _) (λ r. r ≡ emptyOf m) (λ r e. id⊢ 𝓤 _) (copies ! (2 ∷ []) refl) (λ v r′ e′ is′. land ! (from ! (stop !)) (fills ! 7 refl (rows-typed 𝓤 H A W r′ is′)) $
+        assigns ! (of-opd ! (copied ! 7 refl)) (from ! (stop !)) (fills ! 3 refl (rows-typed 𝓤 H A W r′ is′)) $ clears ! 7 refl $
+        assigns ! (of-opd ! (lit ! tt)) (from ! (stop !)) (fills ! 4 refl (tt, record { fits = lit< tt })) $
         rewrite ! 0 (λ (w : Val). locals (at bs 0 w room)) (ap only (P′.lowers .val-is r′ (v ∷ []) is′) ∙ ap P′.lowered (e′ ∙ sym (filled-none ys))) refl $
         -- the token and the borrow, out of what there was on entry
         move ! (1 ∷ []) $ split ! $ split ! $ move ! (2 ∷ []) $ fsplit ! $ fsplit ! $ move ! (1 ∷ []) $ fsplit ! $

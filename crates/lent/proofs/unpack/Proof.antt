@@ -41,10 +41,9 @@ use denote.Triple.Bound.{Bound}
 use denote.Triple.Statement.{Contract, Triple}
 use denote.Triple.Table.{entered, cited}
 use Rattle.network.specs.declared.Reach.{Reach}
-use Rattle.network.specs.Networks.{maxReaches}
 use Rattle.network.proofs.Reach as R
 use Rattle.lent.specs.declared.Packed.{Packed}
-use Rattle.lent.specs.Rows.{reachIn, storedOf, into}
+use Rattle.lent.specs.Rows.{maxRows, reachIn, storedOf, into}
 use Rattle.lent.proofs.Packed as P
 use Rattle.lent.proofs.Packed.Laws as P′
 use Rattle.lent.proofs.Arrays.{element}
@@ -144,12 +143,12 @@ module _ {M : Type 1} (𝓤 : URA M) (H : Heap 𝓤) (A : Atoms 𝓤) (mem : Mem
             (from ! (stop !)) (fills ! 12 refl (tt, record { fits = kind })) $
             assigns ! (bin ! (copied ! 6 refl) (lit ! tt) (record { fits = twice })) (from ! (stop !)) (fills ! 13 refl (tt, record { fits = twice })) $
             assigns ! (addr ! (from ! (fld ! refl (stop !)))) (from ! (stop !)) (fills ! 14 refl (tt, tt)) $
-            assigns ! (known ! (ap (vptr pb) (sym (place-is 2 1032 i))) (bin ! (copied ! 14 refl) (copied ! 13 refl) tt)) (from ! (stop !)) (fills ! 15 refl (tt, tt)) $
+            assigns ! (known ! (ap (vptr pb) (sym (place-is 2 1034 i))) (bin ! (copied ! 14 refl) (copied ! 13 refl) tt)) (from ! (stop !)) (fills ! 15 refl (tt, tt)) $
             assigns ! (known ! (getD-map (vint w16) (p .a) i 0 vunit in-a) (of-opd ! (load ! (from ! (hop ! (look-in ! 0 (within ! 15 refl)) (stop !))) (look-in ! 0 (element ! (map (vint w16) (p .a)) i (ends-a .0) (ends-a .1) (sub ! 2 refl (within ! 3 refl)))))))
             (from ! (stop !)) (fills ! 16 refl (tt, record { fits = end-a })) $
             assigns ! (bin ! (copied ! 6 refl) (lit ! tt) (record { fits = twice })) (from ! (stop !)) (fills ! 17 refl (tt, record { fits = twice })) $
             assigns ! (addr ! (from ! (fld ! refl (stop !)))) (from ! (stop !)) (fills ! 18 refl (tt, tt)) $
-            assigns ! (known ! (ap (vptr pb) (sym (place-is 2 3080 i))) (bin ! (copied ! 18 refl) (copied ! 17 refl) tt)) (from ! (stop !)) (fills ! 19 refl (tt, tt)) $
+            assigns ! (known ! (ap (vptr pb) (sym (place-is 2 3084 i))) (bin ! (copied ! 18 refl) (copied ! 17 refl) tt)) (from ! (stop !)) (fills ! 19 refl (tt, tt)) $
             assigns ! (known ! (getD-map (vint w16) (p .b) i 0 vunit in-b) (of-opd ! (load ! (from ! (hop ! (look-in ! 0 (within ! 19 refl)) (stop !))) (look-in ! 0 (element ! (map (vint w16) (p .b)) i (ends-b .0) (ends-b .1) (sub ! 3 refl (within ! 3 refl)))))))
             (from ! (stop !)) (fills ! 20 refl (tt, record { fits = end-b })) $
             calls-plain ! reach-of.ended (reach-of.clauses 𝓤 H A mem run) (tt, tt, tt, (getD (p .kinds) i 0, (getD (p .a) i 0, (getD (p .b) i 0, tt))), (vint w8 (getD (p .kinds) i 0) ∷ [], (vint w16 (getD (p .a) i 0) ∷ [], (vint w16 (getD (p .b) i 0) ∷ [], tt)))) tt
@@ -179,7 +178,7 @@ module _ {M : Type 1} (𝓤 : URA M) (H : Heap 𝓤) (A : Atoms 𝓤) (mem : Mem
             next : (i + 1 < 2 ^ 64) × (suc i < 2 ^ 64)
             next = omega (arith, fits .0, within-t)
 
-            small : i < maxReaches
+            small : i < maxRows
             small = omega (arith, stored-fits (p .n) (length ys))
 
             far : i * 6 < 2 ^ 64
@@ -189,13 +188,13 @@ module _ {M : Type 1} (𝓤 : URA M) (H : Heap 𝓤) (A : Atoms 𝓤) (mem : Mem
             twice = omega (arith, far)
 
             -- the rows have numbers at i, which fit
-            kinds : (length (map (vint w8) (p .kinds)) ≡ maxReaches) × (i < length (map (vint w8) (p .kinds)))
+            kinds : (length (map (vint w8) (p .kinds)) ≡ maxRows) × (i < length (map (vint w8) (p .kinds)))
             kinds = row-room (vint w8) (p .kinds) i (z .kinds-long) small
 
-            ends-a : (length (map (vint w16) (p .a)) ≡ maxReaches) × (i < length (map (vint w16) (p .a)))
+            ends-a : (length (map (vint w16) (p .a)) ≡ maxRows) × (i < length (map (vint w16) (p .a)))
             ends-a = row-room (vint w16) (p .a) i (z .a-long) small
 
-            ends-b : (length (map (vint w16) (p .b)) ≡ maxReaches) × (i < length (map (vint w16) (p .b)))
+            ends-b : (length (map (vint w16) (p .b)) ≡ maxRows) × (i < length (map (vint w16) (p .b)))
             ends-b = row-room (vint w16) (p .b) i (z .b-long) small
 
             in-kinds : i < length (p .kinds)

@@ -1,20 +1,17 @@
--- `sheetcalls::write_sheet_packed` meets its contract: a table of too many reaches is refused for that, and the rows of any other, cut to its length, are those of the table.
+-- `sheetcalls::write_sheet_packed` meets its contract: what is promised of the rows, cut to the reaches that they hold, is promised of the table.
 -- Assumes nothing.
-use Rattle.sheetcalls.proofs.Faults.{write-faulty}
+use Rattle.sheetcalls.proofs.Faults.{write-alike}
 use borrow.Author.Needs.{needs}
-use Rattle.lent.proofs.Packings.{Cut, cut, of-rows, of-over-full}
+use Rattle.lent.proofs.Packings.{Cut, cut, of-rows}
 use Rattle.sheetcalls.proofs.write_sheet_packed.Statement.{statement}
 use Rattle.sheetcalls.proofs.write_sheet_packed.Tie as tie
 
--- after the test the rows are long enough
-long : (c : tie.Else1) → Cut (c .before .before .before .args .p)
-long c = cut _ _ (c .before .before .before .good .1 .0) (c .if1 .left)
+-- the rows are long enough
+long : (c : tie.After-held) → Cut (c .before .before .before .args .p) (c .held .result)
+long c = cut _ _ (c .before .before .before .good .1 .0) (c .held .ensures)
 
-over-full-requires : tie.Need-over-full-requires
-over-full-requires c κs = search needs
-
-returns : tie.Need-returns
-returns c = of-over-full (c .before .if1 .taken) (c .over-full .ensures) (λ N e. write-faulty N _ e _ _)
+held-requires : tie.Need-held-requires
+held-requires c κs = tt
 
 array-share-prefix-kinds : tie.Need-array-share-prefix-kinds
 array-share-prefix-kinds c = long (c .before .before .before) .kinds .within
@@ -35,20 +32,19 @@ slice-aggregate-write-sheet-rows-3 : tie.Need-slice-aggregate-write-sheet-rows-3
 slice-aggregate-write-sheet-rows-3 c = long (c .before .before .before .before .before .before) .b .counted
 
 write-sheet-rows-requires : tie.Need-write-sheet-rows-requires
-write-sheet-rows-requires c κs = search needs
+write-sheet-rows-requires c κs = tt
 
 same-length : tie.Need-same-length
 same-length c = search needs
 
-returns-2 : tie.Need-returns-2
-returns-2 c = of-rows (long (c .before .before .before .before .before .before .before .before .before .before)) (c .before .before .write-sheet-rows .ensures)
+returns : tie.Need-returns
+returns c = of-rows (long (c .before .before .before .before .before .before .before .before .before .before)) (c .before .before .write-sheet-rows .ensures) (write-alike _ _)
 
 pub write-sheet-packed-spec : {M : Type 1} → statement M
 write-sheet-packed-spec =
     tie.close
     (tie.spec
-    over-full-requires
-    returns
+    held-requires
     array-share-prefix-kinds
     slice-aggregate-write-sheet-rows
     array-share-prefix-a
@@ -57,4 +53,4 @@ write-sheet-packed-spec =
     slice-aggregate-write-sheet-rows-3
     write-sheet-rows-requires
     same-length
-    returns-2)
+    returns)

@@ -1,20 +1,17 @@
--- `walker::step_packed` meets its contract: a table of too many reaches is refused for that, and the rows of any other, cut to its length, are those of the table.
+-- `walker::step_packed` meets its contract: what is promised of the rows, cut to the reaches that they hold, is promised of the table.
 -- Assumes nothing.
 use borrow.Author.Needs.{needs}
-use Rattle.lent.proofs.Packings.{Cut, cut, of-rows, of-over-full}
-use Rattle.walker.proofs.Steps.{step-faulty}
+use Rattle.lent.proofs.Packings.{Cut, cut, of-rows}
+use Rattle.walker.proofs.Steps.{step-alike}
 use Rattle.walker.proofs.step_packed.Statement.{statement}
 use Rattle.walker.proofs.step_packed.Tie as tie
 
--- after the test the rows are long enough
-long : (c : tie.Else1) → Cut (c .before .before .before .args .p)
-long c = cut _ _ (c .before .before .before .good .1 .1 .0) (c .if1 .left)
+-- the rows are long enough
+long : (c : tie.After-held) → Cut (c .before .before .before .args .p) (c .held .result)
+long c = cut _ _ (c .before .before .before .good .1 .1 .0) (c .held .ensures)
 
-over-full-requires : tie.Need-over-full-requires
-over-full-requires c κs = search needs
-
-returns : tie.Need-returns
-returns c = of-over-full (c .before .if1 .taken) (c .over-full .ensures) (λ N e. step-faulty N _ e)
+held-requires : tie.Need-held-requires
+held-requires c κs = tt
 
 array-share-prefix-kinds : tie.Need-array-share-prefix-kinds
 array-share-prefix-kinds c = long (c .before .before .before) .kinds .within
@@ -35,7 +32,7 @@ slice-aggregate-step-rows-3 : tie.Need-slice-aggregate-step-rows-3
 slice-aggregate-step-rows-3 c = long (c .before .before .before .before .before .before) .b .counted
 
 step-rows-requires : tie.Need-step-rows-requires
-step-rows-requires c κs = search needs
+step-rows-requires c κs = tt
 
 same-length : tie.Need-same-length
 same-length c = search needs
@@ -43,8 +40,8 @@ same-length c = search needs
 same-length-2 : tie.Need-same-length-2
 same-length-2 c = search needs
 
-returns-2 : tie.Need-returns-2
-returns-2 c = of-rows (long (c .before .before .before .before .before .before .before .before .before .before .before .before .before)) (c .before .before .before .before .step-rows .ensures)
+returns : tie.Need-returns
+returns c = of-rows (long (c .before .before .before .before .before .before .before .before .before .before .before .before .before)) (c .before .before .before .before .step-rows .ensures) (step-alike _)
 
 pub step-packed-spec : {M : Type 1} → statement M
-step-packed-spec = tie.close (tie.spec over-full-requires returns array-share-prefix-kinds slice-aggregate-step-rows array-share-prefix-a slice-aggregate-step-rows-2 array-share-prefix-b slice-aggregate-step-rows-3 step-rows-requires same-length same-length-2 returns-2)
+step-packed-spec = tie.close (tie.spec held-requires array-share-prefix-kinds slice-aggregate-step-rows array-share-prefix-a slice-aggregate-step-rows-2 array-share-prefix-b slice-aggregate-step-rows-3 step-rows-requires same-length same-length-2 returns)

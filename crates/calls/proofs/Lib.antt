@@ -1,0 +1,2 @@
+-- Laws of the calls over packed rows.
+pub mod Refusals
