@@ -17,7 +17,7 @@ ghost use Rattle.tables.specs.Answers.{answerOf};
 ghost use Rattle.planner.specs.Answers.{checkOf, Written};
 ghost use Rattle.lent.specs.Tables.{lentNet, OfTable};
 
-// The call over rows, for each public call. The rows of an over-full table are over-full too, so this refuses it as it refuses such rows.
+// The call over rows, for each public call. The rows of an over-full table are over-full too, and refused as such.
 fn table_check_packed(basins: u16, p: Packed) -> TableAnswer
     ensures { λ r. ⌜ OfTable basins p (λ N. r ≡ answerOf (tableFault N)) ⌝ }
 {

@@ -17,7 +17,7 @@ ghost use Rattle.lent.specs.Tables.{lentNet, OfTable};
 ghost use Rattle.netfile.specs.Answers.{WriteCall};
 ghost use Rattle.filecalls.specs.Reads.{countOf, ReadPacked, ReadTable};
 
-// The writer over rows. The rows of an over-full table are over-full too, so this refuses it as it refuses such rows.
+// The writer over rows. The rows of an over-full table are over-full too, and refused as such.
 fn write_packed(basins: u16, p: Packed, out: &mut [u8]) -> WriteAnswer
     ensures { λ r. ⌜ OfTable basins p (λ N. WriteCall N (now (out .entry)) r (now (out .exit))) ⌝ }
 {

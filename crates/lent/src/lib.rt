@@ -68,7 +68,7 @@ fn numbers_of(r: Reach) -> Numbers
     }
 }
 
-// The lent table as rows: all of it, or of one with more reaches than there is room for the first of them.
+// The lent table as rows: its first reaches, as many as there is room for.
 pub fn pack(t: &[Reach]) -> Packed
     ensures { λ r. ⌜ r ≡ packedOf (now (t .entry)) ⌝ }
 {

@@ -11,7 +11,7 @@ use sheetfile::SheetAnswer;
 ghost use Rattle.lent.specs.Tables.{lentNet, OfTable};
 ghost use Rattle.sheetfile.specs.Answers.{ReadCall, WriteCall, ReplyCall};
 
-// The call over rows, for each public call. The rows of an over-full table are over-full too, so this refuses it as it refuses such rows.
+// The call over rows, for each public call. The rows of an over-full table are over-full too, and refused as such.
 fn read_sheet_packed(basins: u16, p: Packed, sheet: &[u8], setting: &mut [u8]) -> SheetAnswer
     ensures { λ r. ⌜ OfTable basins p (λ N. ReadCall N (now (sheet .entry)) (now (setting .entry)) r (now (setting .exit))) ⌝ }
 {

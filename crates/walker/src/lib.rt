@@ -129,7 +129,7 @@ fn kept(answer: MakeAnswer, n: usize) -> usize
     }
 }
 
-// The calls over rows, for the calls over a table. The rows of an over-full table are over-full too, so this refuses it as it refuses such rows.
+// The calls over rows, for the calls over a table. The rows of an over-full table are over-full too, and refused as such.
 fn make_packed(basins: u16, p: Packed, setting: &[u8]) -> Made
     ensures { λ r. ⌜ OfTable basins p (λ N. Making N (now (setting .entry)) r) ⌝ }
 {
