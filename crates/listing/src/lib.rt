@@ -13,7 +13,7 @@ use lines::put_more;
 use lines::put_plan;
 use lines::put_refused;
 use marks::MARK_BYTES;
-use netfile::ReadAnswer;
+use netfile_format::ReadAnswer;
 use network::MAX_BASINS;
 use network::MAX_REACHES;
 use network::Refusal;

@@ -12,17 +12,17 @@ use Rattle.network.specs.Networks.{Network, tableFault, Accepted}
 use Rattle.network.specs.Settings.{isSetting, settingFault}
 use Rattle.network.specs.Plans.{strongUnder, isPlan}
 use Rattle.network.proofs.Networks.{accepted}
-use Rattle.netfile.specs.declared.WriteAnswer.{WriteAnswer}
-use Rattle.netfile.specs.declared.WriteAnswer.the-variants.{Refused as Unwritten}
-use Rattle.netfile.specs.Answers.{firstOf}
+use Rattle.file_records.specs.declared.WriteAnswer.{WriteAnswer}
+use Rattle.file_records.specs.declared.WriteAnswer.the-variants.{Refused as Unwritten}
+use Rattle.file_records.specs.Puts.{firstOf, Put, roomFor, PutWhole}
 use Rattle.planner.specs.declared.CheckAnswer.{CheckAnswer}
 use Rattle.planner.specs.declared.CheckAnswer.the-variants as C
 use Rattle.planner.specs.Answers.{yesOr, unlessRefused, checkOf}
 use Rattle.sheetfile.specs.Sheets.{sheetOf}
 use Rattle.sheetfile.specs.Rows.{Fitting}
-use Rattle.sheetfile.specs.Answers.{Put, roomFor, planFault, sheetFault, PutWhole, WriteCall}
+use Rattle.sheetfile.specs.Answers.{planFault, sheetFault, SheetWritten}
 use Rattle.sheetfile.proofs.Sheets.{plan-long}
-use Rattle.sheetfile.proofs.Puts.{put-refused}
+use Rattle.file_records.proofs.Puts.{first-assoc, put-refused}
 
 -- the refusal that the answer of the check stands for
 abbrev pub checkFault : CheckAnswer → Option Refusal
@@ -42,10 +42,6 @@ check-cases none false c = refl
 pub check-fault : (N : Network) (s : List ℕ) → checkFault (checkOf N s) ≡ firstOf (tableFault N) (planFault N s)
 unfolding checkOf settingFault isPlan
 check-fault N s = check-cases (tableFault N) (isSetting N s) (strongUnder N s)
-
-pub first-assoc : (o p q : Option Refusal) → firstOf o (firstOf p q) ≡ firstOf (firstOf o p) q
-first-assoc none p q = refl
-first-assoc (some r) p q = refl
 
 module _ (N : Network) (s : List ℕ) (v : CheckAnswer) (e : checkOf N s ≡ v) where
   pub judged : firstOf (tableFault N) (planFault N s) ≡ checkFault v
@@ -73,11 +69,11 @@ module _ (N : Network) (s : List ℕ) (e : checkOf N s ≡ C.Yes) where
 
 -- the writer, by what the check said
 module _ (N : Network) (s out : List ℕ) where
-  pub wrote-refused : (v : CheckAnswer) (r : Refusal) → checkOf N s ≡ v → checkFault v ≡ some r → WriteCall N s out (Unwritten r) out
+  pub wrote-refused : (v : CheckAnswer) (r : Refusal) → checkOf N s ≡ v → checkFault v ≡ some r → SheetWritten N s out (Unwritten r) out
   wrote-refused v r e f =
       put-refused (sheetOf N s) out r (judged-sheet N s v e (length out) ∙ ap (λ o. firstOf o (roomFor (sheetOf N s) (length out))) f)
 
   pub wrote-plan :
       (r : WriteAnswer) (out′ : List ℕ) → checkOf N s ≡ C.Yes → PutWhole (sheetOf N s) out r out′
-      → WriteCall N s out r out′
+      → SheetWritten N s out r out′
   wrote-plan r out′ e = subst (λ o. Put o (sheetOf N s) out r out′) (sym (judged-sheet N s C.Yes e (length out)))

@@ -1,54 +1,26 @@
 -- Sheets put into a buffer: findings, the sheet of a setting, and the rows cut to the length of the table.
 -- Assumes nothing.
 use Prim.Native.Nat.{ℕ, _+_, _*_, _-_, _≤_, _<_}
-use native.Mathlib.Nat.{zero-add}
 use native.Mathlib.Omega.{arith}
-use mathlib.Core.Path.{_≡_, refl, sym, ap, subst, _∙_}
+use mathlib.Core.Path.{_≡_, sym, ap, subst, _∙_}
 use mathlib.Core.List.{List, [], _∷_, _++_, append-assoc}
-use mathlib.Core.Option.{Option, none, some}
 use lib.ListN.{length, take, drop, set, length-append}
-use lib.Seq.{sets, sets-eq, length-sets, length-take-le}
-use borrow.Author.Tests.{le-leb, lt-leb}
-use Rattle.network.specs.declared.Refusal.{Refusal}
+use lib.Seq.{sets, length-sets, length-take-le}
 use Rattle.network.specs.declared.Refusal.the-variants.{ShortBuffer}
 use Rattle.network.specs.Tables.{tableOf}
 use Rattle.network.specs.Settings.{gatesFrom}
 use Rattle.tables.specs.Rows.{gatesIn}
 use Rattle.tables.proofs.Laws.{table-short}
-use Rattle.netfile.specs.declared.WriteAnswer.{WriteAnswer}
-use Rattle.netfile.specs.declared.WriteAnswer.the-variants.{Refused as Unwritten, Written}
-use Rattle.netfile.specs.Records.{twoBytes}
-use Rattle.netfile.specs.Answers.{writeNumber, faultNumber}
-use Rattle.netfile.proofs.Writing.{sets-after, set-sets-long}
+use Rattle.file_records.specs.declared.WriteAnswer.{WriteAnswer}
+use Rattle.file_records.specs.declared.WriteAnswer.the-variants.{Refused as Unwritten, Written}
+use Rattle.file_records.specs.Records.{twoBytes}
+use Rattle.file_records.specs.Puts.{PutWhole}
+use Rattle.file_records.proofs.Writing.{sets-after, set-sets-long, part-back}
 use Rattle.sheetfile.specs.Sheets.{gateRecords, planSheet}
 use Rattle.sheetfile.specs.Rows.{gatesRow, Records, Fitting, Roomy, firstBytesSheet}
-use Rattle.sheetfile.specs.Answers.{putAnswer, bytesPut, Put, roomFor, PutWhole}
+use Rattle.file_records.proofs.Puts.{put-short, put-whole}
 use Rattle.sheetfile.proofs.Gates.{gates-row, gates-few, count-row}
-use Rattle.sheetfile.proofs.Writing.{part-back}
 use Rattle.sheetfile.proofs.Sheets.{length-sheet}
-
--- ---- bytes that are put into a buffer
-
-number-put : (o : Option Refusal) (f : List ℕ) → writeNumber (putAnswer o f) ≡ faultNumber o
-number-put none f = refl
-number-put (some r) f = refl
-
-put-of : (o : Option Refusal) (f out out′ : List ℕ) → out′ ≡ bytesPut o f ++ drop (length (bytesPut o f)) out → Put o f out (putAnswer o f) out′
-put-of o f out out′ e = record { answer = refl; number = number-put o f; bytes = e }
-
-pub put-refused : {o : Option Refusal} (f out : List ℕ) (r : Refusal) → o ≡ some r → Put o f out (Unwritten r) out
-put-refused f out r e = subst (λ o. Put o f out (Unwritten r) out) (sym e) (put-of (some r) f out out refl)
-
-module _ (f out : List ℕ) where
-  pub put-short : length out < length f → PutWhole f out (Unwritten ShortBuffer) out
-  put-short l = put-refused f out ShortBuffer (rw (lt-leb (length f) (length out) l))
-
-  pub put-whole : (n : ℕ) (out′ : List ℕ) → n ≡ length f → n ≤ length out → out′ ≡ sets out 0 f → PutWhole f out (Written n) out′
-  put-whole n out′ e l q =
-      let room : roomFor f (length out) ≡ none = rw (le-leb (length f) (length out) (omega arith)) in
-      rw e
-      (subst (λ o. Put o f out (Written (length f)) out′) (sym room)
-      (put-of none f out out′ (q ∙ sets-eq f out 0 (omega arith) ∙ ap (λ k. f ++ drop k out) (zero-add (length f)))))
 
 -- ---- a finding: its kind and its values, the marks, the end
 

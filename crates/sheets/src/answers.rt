@@ -1,5 +1,5 @@
 // What the sheet calls answer, by number.
-use netfile::WriteAnswer;
+use file_records::WriteAnswer;
 use sheetfile::SheetAnswer;
 use trial::number;
 use trial::same_bytes;

@@ -1,6 +1,6 @@
 // What the reader and the writer answer, by number.
-use netfile::ReadAnswer;
-use netfile::WriteAnswer;
+use file_records::WriteAnswer;
+use netfile_format::ReadAnswer;
 use trial::number;
 
 // What a reader answers: a refusal's number, or 0 and the counts.

@@ -4,7 +4,7 @@ use crate::answers::Reading;
 use crate::answers::reading_of;
 use crate::answers::same_reading;
 use crate::machine;
-use netfile::Body;
+use file_records::Body;
 use trial::OLD;
 use trial::OLD_WORD;
 use trial::Outcome;
@@ -300,7 +300,7 @@ fn body_said(kind: u8) -> u8 {
 
 // The body length of kind i.
 pub fn body(i: usize) -> Outcome {
-    let got = match netfile::body_length(low(i)) {
+    let got = match file_records::body_length(low(i)) {
         Body::Length(n) => n,
         Body::Unknown => 255,
     };

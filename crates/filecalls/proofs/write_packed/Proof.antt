@@ -1,6 +1,6 @@
 -- `filecalls::write_packed` meets its contract: a table of too many reaches is refused for that, and the rows of any other, cut to its length, are those of the table.
 -- Assumes nothing.
-use Rattle.netfile.proofs.Calls.{write-refused}
+use Rattle.netfile_format.proofs.Calls.{write-refused}
 use borrow.Author.Needs.{needs}
 use Rattle.lent.proofs.Packings.{Cut, cut, of-rows, of-over-full}
 use Rattle.filecalls.proofs.write_packed.Statement.{statement}

@@ -1,0 +1,2 @@
+-- What the network gets, and its sheet.
+pub mod Replies
