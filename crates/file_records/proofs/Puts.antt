@@ -13,7 +13,7 @@ use borrow.Author.Tests.{le-leb, lt-leb}
 use Rattle.network.specs.declared.Refusal.{Refusal}
 use Rattle.network.specs.declared.Refusal.the-variants.{ShortBuffer}
 use Rattle.file_records.specs.declared.WriteAnswer.the-variants.{Refused as Unwritten, Written}
-use Rattle.file_records.specs.Puts.{firstOf, writeNumber, faultNumber, putAnswer, bytesPut, Put, roomFor, PutWhole}
+use Rattle.file_records.specs.Puts.{firstOf, writeNumber, faultNumber, writeAnswer, bytesWritten, Wrote, roomFor, WroteWhole}
 
 -- ---- the first of two refusals
 
@@ -21,50 +21,50 @@ pub first-assoc : (o p q : Option Refusal) → firstOf o (firstOf p q) ≡ first
 first-assoc none p q = refl
 first-assoc (some r) p q = refl
 
-pub first-none : (o p : Option Refusal) → firstOf o p ≡ none → o ≡ none
-first-none none p h = refl
-first-none (some r) p h = cc
+pub first-of-none : (o p : Option Refusal) → firstOf o p ≡ none → o ≡ none
+first-of-none none p h = refl
+first-of-none (some r) p h = cc
 
 -- ---- bytes that are put into a buffer
 
-number-put : (o : Option Refusal) (f : List ℕ) → writeNumber (putAnswer o f) ≡ faultNumber o
+number-put : (o : Option Refusal) (f : List ℕ) → writeNumber (writeAnswer o f) ≡ faultNumber o
 number-put none f = refl
 number-put (some r) f = refl
 
-put-of : (o : Option Refusal) (f out out′ : List ℕ) → out′ ≡ bytesPut o f ++ drop (length (bytesPut o f)) out → Put o f out (putAnswer o f) out′
+put-of : (o : Option Refusal) (f out out′ : List ℕ) → out′ ≡ bytesWritten o f ++ drop (length (bytesWritten o f)) out → Wrote o f out (writeAnswer o f) out′
 put-of o f out out′ e = record { answer = refl; number = number-put o f; bytes = e }
 
-pub put-refused : {o : Option Refusal} (f out : List ℕ) (r : Refusal) → o ≡ some r → Put o f out (Unwritten r) out
-put-refused f out r e = subst (λ o. Put o f out (Unwritten r) out) (sym e) (put-of (some r) f out out refl)
+pub put-refused : {o : Option Refusal} (f out : List ℕ) (r : Refusal) → o ≡ some r → Wrote o f out (Unwritten r) out
+put-refused f out r e = subst (λ o. Wrote o f out (Unwritten r) out) (sym e) (put-of (some r) f out out refl)
 
 module _ (f out : List ℕ) where
-  pub put-short : length out < length f → PutWhole f out (Unwritten ShortBuffer) out
+  pub put-short : length out < length f → WroteWhole f out (Unwritten ShortBuffer) out
   put-short l = put-refused f out ShortBuffer (rw (lt-leb (length f) (length out) l))
 
-  pub put-whole : (n : ℕ) (out′ : List ℕ) → n ≡ length f → n ≤ length out → out′ ≡ sets out 0 f → PutWhole f out (Written n) out′
+  pub put-whole : (n : ℕ) (out′ : List ℕ) → n ≡ length f → n ≤ length out → out′ ≡ sets out 0 f → WroteWhole f out (Written n) out′
   put-whole n out′ e l q =
       let room : roomFor f (length out) ≡ none = rw (le-leb (length f) (length out) (omega arith)) in
       rw e
-      (subst (λ o. Put o f out (Written (length f)) out′) (sym room)
+      (subst (λ o. Wrote o f out (Written (length f)) out′) (sym room)
       (put-of none f out out′ (q ∙ sets-eq f out 0 (omega arith) ∙ ap (λ k. f ++ drop k out) (zero-add (length f)))))
 
 -- ---- what a writer's answer says
 
-not-written : (o : Option Refusal) (f : List ℕ) (r : Refusal) → Unwritten r ≡ putAnswer o f → o ≡ some r
+not-written : (o : Option Refusal) (f : List ℕ) (r : Refusal) → Unwritten r ≡ writeAnswer o f → o ≡ some r
 not-written none f r h = cc
 not-written (some e) f r h = cc
 
-was-written : (o : Option Refusal) (f : List ℕ) (n : ℕ) → Written n ≡ putAnswer o f → (o ≡ none) × (n ≡ length f)
+was-written : (o : Option Refusal) (f : List ℕ) (n : ℕ) → Written n ≡ writeAnswer o f → (o ≡ none) × (n ≡ length f)
 was-written none f n h = (refl, cc)
 was-written (some e) f n h = absurd (true≢false (cc))
 
 -- ---- the bytes that were written stand in front
 
 module _ (o : Option Refusal) (f out out′ : List ℕ) where
-  pub unwritten : (r : Refusal) → Put o f out (Unwritten r) out′ → o ≡ some r
+  pub unwritten : (r : Refusal) → Wrote o f out (Unwritten r) out′ → o ≡ some r
   unwritten r p = not-written o f r (p .answer)
 
-  module _ (n : ℕ) (p : Put o f out (Written n) out′) where
+  module _ (n : ℕ) (p : Wrote o f out (Written n) out′) where
     pub written : o ≡ none
     written = was-written o f n (p .answer) .0
 
@@ -72,7 +72,7 @@ module _ (o : Option Refusal) (f out out′ : List ℕ) where
     size = was-written o f n (p .answer) .1
 
     stands : out′ ≡ f ++ drop (length f) out
-    stands = subst (λ o. out′ ≡ bytesPut o f ++ drop (length (bytesPut o f)) out) written (p .bytes)
+    stands = subst (λ o. out′ ≡ bytesWritten o f ++ drop (length (bytesWritten o f)) out) written (p .bytes)
 
     pub written-fits : n ≤ length out′
     written-fits = omega (arith, size, ap length stands, length-append f (drop (length f) out))

@@ -5,7 +5,7 @@ use native.Mathlib.Numerals.{add-one}
 use native.Mathlib.Omega.{arith}
 use mathlib.Core.Path.{_≡_, refl, sym, ap, _∙_}
 use mathlib.Core.Bool.{Bool, true, false, cond, true≢false}
-use mathlib.Core.List.{List, [], _∷_}
+use mathlib.Core.List.{List, [], _∷_, _++_}
 use mathlib.Core.Option.{Option, none, some}
 use lib.ListN.{length, getD, take, drop, length-drop, drop-of-length-le}
 use lib.Dec.{leb}
@@ -16,7 +16,7 @@ use Rattle.network.specs.declared.Refusal.the-variants.{Truncated, UnknownKind}
 use Rattle.network.specs.Lists.{elem}
 use Rattle.file_records.specs.declared.Body.the-variants.{Length, Unknown}
 use Rattle.file_records.specs.declared.Taken.the-variants.{Broken, Whole}
-use Rattle.file_records.specs.Records.{bodyOf, Front, broken, whole, withBody, takeRecord, bodyAnswer, takenAnswer}
+use Rattle.file_records.specs.Records.{bodyOf, twoBytes, Front, broken, whole, withBody, takeRecord, bodyAnswer, takenAnswer}
 
 -- no record stands at the front
 pub broken-is : (F : Front) (r : Refusal) → takenAnswer F ≡ Broken r → F ≡ broken r
@@ -63,6 +63,12 @@ stands kinds (x ∷ f) k e = comes (elem x kinds) refl (bodyOf x) refl
 
 pub same-size : {o : Option ℕ} {m n : ℕ} → o ≡ some m → o ≡ some n → m ≡ n
 same-size {o} {m} {n} p q = cc
+
+-- a kind with a value for its body stands at the front of its bytes
+pub value-taken :
+    (kinds : List ℕ) (k n : ℕ) (rest : List ℕ) → elem k kinds ≡ true → bodyOf k ≡ some 2
+    → takeRecord kinds (k ∷ (twoBytes n ++ rest)) ≡ whole k (twoBytes n) rest
+value-taken kinds k n rest m h = rw (m, h, le-leb 2 (suc (suc (length rest))) (omega arith))
 
 -- the search for a kind among those that may come: it is one of all if it is one of those from i on
 abbrev pub Sought : ℕ → List ℕ → ℕ → Type 0

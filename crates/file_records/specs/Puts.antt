@@ -28,25 +28,25 @@ faultNumber (some r) = refusalNumber r
 faultNumber none = 0
 
 -- The writer's answer where the bytes f are to be written: the refusal, or "the length written".
-abbrev pub putAnswer : Option Refusal → List ℕ → WriteAnswer
-putAnswer (some r) f = Refused r
-putAnswer none f = Written (length f)
+abbrev pub writeAnswer : Option Refusal → List ℕ → WriteAnswer
+writeAnswer (some r) f = Refused r
+writeAnswer none f = Written (length f)
 
 -- The bytes that are written; none where there is a refusal: refusals "write nothing".
-abbrev pub bytesPut : Option Refusal → List ℕ → List ℕ
-bytesPut (some r) f = []
-bytesPut none f = f
+abbrev pub bytesWritten : Option Refusal → List ℕ → List ℕ
+bytesWritten (some r) f = []
+bytesWritten none f = f
 
 -- What a writer of the bytes f answers, its number, and what it leaves in the buffer: the bytes first; "all beyond is untouched".
-pub record Put (o : Option Refusal) (f out : List ℕ) (r : WriteAnswer) (out′ : List ℕ) : Type 0 where
-  pub answer : r ≡ putAnswer o f
+pub record Wrote (o : Option Refusal) (f out : List ℕ) (r : WriteAnswer) (out′ : List ℕ) : Type 0 where
+  pub answer : r ≡ writeAnswer o f
   pub number : writeNumber r ≡ faultNumber o
-  pub bytes : out′ ≡ bytesPut o f ++ drop (length (bytesPut o f)) out
+  pub bytes : out′ ≡ bytesWritten o f ++ drop (length (bytesWritten o f)) out
 
 -- 7: writers need "the length of what they write".
 abbrev pub roomFor : List ℕ → ℕ → Option Refusal
 roomFor f room = cond (leb (length f) room) none (some ShortBuffer)
 
 -- The bytes f are written where there is room for them.
-abbrev pub PutWhole : List ℕ → List ℕ → WriteAnswer → List ℕ → Type 0
-PutWhole f out r out′ = Put (roomFor f (length out)) f out r out′
+abbrev pub WroteWhole : List ℕ → List ℕ → WriteAnswer → List ℕ → Type 0
+WroteWhole f out r out′ = Wrote (roomFor f (length out)) f out r out′

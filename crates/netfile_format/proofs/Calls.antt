@@ -24,7 +24,7 @@ use Rattle.file_records.specs.Records.{twoBytes}
 use Rattle.netfile_format.specs.Files.{Reading, refused, read, readFile, reachRecords, fileOf}
 use Rattle.netfile_format.specs.Answers.{roomOf, readAnswer, withRoom, reachesRead, RowsFilled, NetworkRead, Fills, reachesAt, NetworkWritten, readNumber, readingNumber}
 use Rattle.file_records.specs.declared.WriteAnswer.{WriteAnswer}
-use Rattle.file_records.specs.Puts.{firstOf, Put, roomFor, PutWhole}
+use Rattle.file_records.specs.Puts.{firstOf, Wrote, roomFor, WroteWhole}
 use Rattle.netfile_format.proofs.Files.{write-read, length-records, length-file, reaches-again}
 use Rattle.file_records.proofs.Writing.{sets-after}
 use Rattle.file_records.proofs.Puts.{put-refused, put-short, put-whole}
@@ -155,8 +155,8 @@ module _ (N : Network) (out : List ℕ) where
     size = omega (arith, length-file N)
 
     -- an accepted table leaves only the room to be judged
-    fits : {r : WriteAnswer} {out′ : List ℕ} → PutWhole (fileOf N) out r out′ → NetworkWritten N out r out′
-    fits {r} {out′} p = subst (λ o. Put (firstOf o (roomFor (fileOf N) (length out))) (fileOf N) out r out′) (sym h) p
+    fits : {r : WriteAnswer} {out′ : List ℕ} → WroteWhole (fileOf N) out r out′ → NetworkWritten N out r out′
+    fits {r} {out′} p = subst (λ o. Wrote (firstOf o (roomFor (fileOf N) (length out))) (fileOf N) out r out′) (sym h) p
 
     pub write-short : length out < 5 * m + 4 → NetworkWritten N out (Unwritten ShortBuffer) out
     write-short l = fits (put-short (fileOf N) out (omega (arith, size)))

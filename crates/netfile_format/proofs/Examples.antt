@@ -7,8 +7,8 @@ use Rattle.network.specs.Lists.{every}
 use Rattle.file_records.specs.Records.{bodyOf}
 use Rattle.netfile_format.specs.Files.{readReaches, readFile}
 use Rattle.netfile_format.specs.Answers.{readingNumber}
-use Rattle.netfile_format.specs.Examples.{examples}
+use Rattle.netfile_format.specs.Examples.{files}
 
-pub examples-hold : every (λ e. eqb (readingNumber (readFile (e .0))) (e .1)) examples ≡ true
+pub files-hold : every (λ e. eqb (readingNumber (readFile (e .0))) (e .1)) files ≡ true
 unfolding bodyOf readReaches readFile
-examples-hold = refl
+files-hold = refl

@@ -24,9 +24,9 @@ use Rattle.file_records.specs.Records.{bodyOf, twoBytes, whole, takeRecord, tak
 use lib.Pow.{areBytes}
 use Rattle.netfile_format.specs.Files.{reachKind, recordKind, reachRecord, reachRecords, fileOf, headDue, reachDue, Reading, refused, read, atEnd, withReach, readReaches, readBasins, readFile}
 use Rattle.netfile_format.specs.Answers.{reachesAt}
-use Rattle.netfile_format.proofs.Marking.{Reaching, reaching, comes-first, kind-byte}
+use Rattle.netfile_format.proofs.Marking.{Reaching, reaching, comes-first, body-head, kind-byte}
 use Rattle.file_records.proofs.Records.{word-bytes, low-byte, high-byte, byte-at, bytes-drop, three-again}
-use Rattle.file_records.proofs.Taking.{stands}
+use Rattle.file_records.proofs.Taking.{stands, value-taken}
 use Rattle.netfile_format.proofs.Steps.{step-broken, step-end, reachFrom, ReachStep, reach-step, reach-front, head-step, head-at, head-broken}
 use Rattle.netfile_format.proofs.Accepting.{good}
 use Rattle.network.proofs.Networks.{endsBelow}
@@ -78,14 +78,10 @@ read-reaches n (suc left) (r ∷ t) l h =
         reach-step n (fiveBytes d a b rest) (reachKind d) (omega arith) (reach-taken d a b rest) (reach-no-end d) .next left
         ∙ rw (word-bytes a, word-bytes b, kind-again d, g, e)
 
-head-taken : (n : ℕ) (rest : List ℕ) → takeRecord headDue (1 ∷ (twoBytes n ++ rest)) ≡ whole 1 (twoBytes n) rest
-unfolding bodyOf
-head-taken n rest = rw (le-leb 2 (suc (suc (length rest))) (omega arith))
-
 -- An accepted network that is written is read again as it was.
 pub read-write : (N : Network) → Accepted N → readFile (fileOf N) ≡ read N
 read-write N h =
-    head-step (fileOf N) 1 (omega arith) (head-taken (N .basins) (reachRecords (N .reaches) ++ (9 ∷ []))) .next
+    head-step (fileOf N) 1 (omega arith) (value-taken headDue 1 (N .basins) (reachRecords (N .reaches) ++ (9 ∷ [])) refl body-head) .next
     ∙ rw (word-bytes (N .basins), good N h .count)
     (read-reaches (N .basins) maxReaches (N .reaches) (leb-true (length (N .reaches)) maxReaches (good N h .few)) (good N h .ends))
 
@@ -187,12 +183,12 @@ unread n (suc left) f N b e =
     (λ k w q. unread-reach n left f N k b w q e (λ M h. unread n left (drop 5 f) M (bytes-drop 5 f b) h))
 
 -- what was read was written so
-pub record Written (f : List ℕ) (N : Network) : Type 0 where
+pub record WasWritten (f : List ℕ) (N : Network) : Type 0 where
   pub bytes : f ≡ fileOf N
   pub accepted : Accepted N
 
 -- A file that is read as a network is the one that is written for it, and the network is accepted.
-pub write-read : (f : List ℕ) (N : Network) → areBytes f ≡ true → readFile f ≡ read N → Written f N
+pub write-read : (f : List ℕ) (N : Network) → areBytes f ≡ true → readFile f ≡ read N → WasWritten f N
 write-read f N b e = go (takenAnswer (takeRecord headDue f)) refl
   where
     n : ℕ
@@ -200,7 +196,7 @@ write-read f N b e = go (takenAnswer (takeRecord headDue f)) refl
 
     good-head :
         (k : ℕ) → takenAnswer (takeRecord headDue f) ≡ Whole k → leb 1 n && leb n maxBasins ≡ true → readReaches n maxReaches (drop 3 f) ≡ read N
-        → Written f N
+        → WasWritten f N
     good-head k w g h =
         let u = unread n maxReaches (drop 3 f) N (bytes-drop 3 f b) h in
         let v = stands headDue f k w in
@@ -214,11 +210,11 @@ write-read f N b e = go (takenAnswer (takeRecord headDue f)) refl
 
     value :
         (k : ℕ) → takenAnswer (takeRecord headDue f) ≡ Whole k → (x : Bool) → leb 1 n && leb n maxBasins ≡ x
-        → readBasins n (drop 3 f) ≡ read N → Written f N
+        → readBasins n (drop 3 f) ≡ read N → WasWritten f N
     value k w true g h = good-head k w g (rw g at h)
     value k w false g h = no-network BasinCount N (rw g at h)
 
-    go : (a : Taken) → takenAnswer (takeRecord headDue f) ≡ a → Written f N
+    go : (a : Taken) → takenAnswer (takeRecord headDue f) ≡ a → WasWritten f N
     go (Broken r) w = no-network r N (sym (head-broken f r w) ∙ e)
     go (Whole k) w = value k w (leb 1 n && leb n maxBasins) refl (sym (head-at f k w .next) ∙ e)
 

@@ -39,42 +39,42 @@ reach-of n file i at l e = reach-number n (drop 3 file) i l ∙ rw (drop-drop (5
         reach-in (getD (drop at file) 0 0) (drop at file) ∙ rw (drop-drop 1 at file, drop-drop 3 at file, getD-drop at file 0 0, none)
 
 -- one row, of which the first i entries are the table's
-pub record Filled (g : Reach → ℕ) (t : List Reach) (row₀ row : List ℕ) (i : ℕ) : Type 0 where
+pub record RowFilled (g : Reach → ℕ) (t : List Reach) (row₀ row : List ℕ) (i : ℕ) : Type 0 where
   pub is : row ≡ paste row₀ 0 (map g t) i
   pub long : length row ≡ length row₀
 
 module _ (g : Reach → ℕ) (t : List Reach) (row₀ row : List ℕ) where
-  filled-none : Filled g t row₀ row₀ 0
+  filled-none : RowFilled g t row₀ row₀ 0
   filled-none = record { is = refl; long = refl }
 
   filled-more :
-      (i v : ℕ) → Filled g t row₀ row i → i < length t → i < length row₀ → v ≡ g (getD t i noReach) → Filled g t row₀ (set row i v) (i + 1)
+      (i v : ℕ) → RowFilled g t row₀ row i → i < length t → i < length row₀ → v ≡ g (getD t i noReach) → RowFilled g t row₀ (set row i v) (i + 1)
   filled-more i v f p q e =
       let value : getD (map g t) i (g noReach) ≡ v = List·getD-map g t i noReach ∙ sym e in
       let next = paste-suc row₀ 0 (map g t) i (g noReach) (omega arith) (rw length-map p) in
       record { is = ap (λ l. set l i v) (f .is) ∙ rw (zero-add i, add-one) (rw (zero-add i, value) at next); long = length-set row i v ∙ f .long }
 
-  filled-all : (i : ℕ) → Filled g t row₀ row i → i ≡ length t → row ≡ map g t ++ drop (length t) row₀
+  filled-all : (i : ℕ) → RowFilled g t row₀ row i → i ≡ length t → row ≡ map g t ++ drop (length t) row₀
   filled-all i f e = f .is ∙ rw (zero-add, e, take-all (length t) (map g t) (omega (arith, length-map t g)))
 
 -- the three rows after i reaches
-pub record Filling (file : List ℕ) (n : ℕ) (kinds₀ a₀ b₀ kinds a b : List ℕ) (i at : ℕ) : Type 0 where
+pub record RowsFilling (file : List ℕ) (n : ℕ) (kinds₀ a₀ b₀ kinds a b : List ℕ) (i at : ℕ) : Type 0 where
   pub place : at ≡ 3 + 5 * i
   pub below : i ≤ n
-  pub kind-row : Filled (λ r. kindNumber (r .kind)) (reachesAt n (drop 3 file)) kinds₀ kinds i
-  pub a-row : Filled (λ r. r .a) (reachesAt n (drop 3 file)) a₀ a i
-  pub b-row : Filled (λ r. r .b) (reachesAt n (drop 3 file)) b₀ b i
+  pub kind-row : RowFilled (λ r. kindNumber (r .kind)) (reachesAt n (drop 3 file)) kinds₀ kinds i
+  pub a-row : RowFilled (λ r. r .a) (reachesAt n (drop 3 file)) a₀ a i
+  pub b-row : RowFilled (λ r. r .b) (reachesAt n (drop 3 file)) b₀ b i
 
 module _ (file : List ℕ) (n : ℕ) (kinds₀ a₀ b₀ : List ℕ) where
-  pub filling-none : Filling file n kinds₀ a₀ b₀ kinds₀ a₀ b₀ 0 3
+  pub filling-none : RowsFilling file n kinds₀ a₀ b₀ kinds₀ a₀ b₀ 0 3
   filling-none =
       record
       { place = omega arith; below = omega arith; kind-row = filled-none _ _ _ kinds₀; a-row = filled-none _ _ _ a₀; b-row = filled-none _ _ _ b₀ }
 
   pub filling-more :
-      (kinds a b : List ℕ) (i at : ℕ) → Fills file n kinds₀ a₀ b₀ → Filling file n kinds₀ a₀ b₀ kinds a b i at → i < n
+      (kinds a b : List ℕ) (i at : ℕ) → Fills file n kinds₀ a₀ b₀ → RowsFilling file n kinds₀ a₀ b₀ kinds a b i at → i < n
       → (k x y : ℕ) → k ≡ kindNumber (recordKind (getD file at 0)) → x ≡ wordOf (take 2 (drop (at + 1) file)) → y ≡ wordOf (take 2 (drop (at + 3) file))
-      → Filling file n kinds₀ a₀ b₀ (set kinds i k) (set a i x) (set b i y) (i + 1) (at + 5)
+      → RowsFilling file n kinds₀ a₀ b₀ (set kinds i k) (set a i x) (set b i y) (i + 1) (at + 5)
   filling-more kinds a b i at room f l k x y p q r =
       record {
         place = let e = f .place in omega arith;
@@ -96,7 +96,7 @@ module _ (file : List ℕ) (n : ℕ) (kinds₀ a₀ b₀ : List ℕ) where
       here = reach-of n file i at l (f .place)
 
   pub filling-all :
-      (kinds a b : List ℕ) (i at : ℕ) → Filling file n kinds₀ a₀ b₀ kinds a b i at → n ≤ i
+      (kinds a b : List ℕ) (i at : ℕ) → RowsFilling file n kinds₀ a₀ b₀ kinds a b i at → n ≤ i
       → RowsFilled (reachesAt n (drop 3 file)) kinds₀ a₀ b₀ kinds a b
   filling-all kinds a b i at f l =
       record { kind-row = filled-all _ _ kinds₀ kinds i (f .kind-row) all; a-row = filled-all _ _ a₀ a i (f .a-row) all; b-row = filled-all _ _ b₀ b i (f .b-row) all }

@@ -22,8 +22,8 @@ use Rattle.netfile_format.specs.Answers.{readAnswer}
 use Rattle.netfile_format.proofs.Steps.{reachFrom, step-broken, step-end, reach-at}
 
 -- a whole record of kind k stands at a position
-abbrev pub Stood : List ℕ → ℕ → ℕ → Type 0
-Stood file at k = takenAnswer (takeRecord reachDue (drop at file)) ≡ Whole k
+abbrev pub ReachStood : List ℕ → ℕ → ℕ → Type 0
+ReachStood file at k = takenAnswer (takeRecord reachDue (drop at file)) ≡ Whole k
 
 -- an answer with so many reaches more
 abbrev counted : ℕ → ReadAnswer → ReadAnswer
@@ -51,15 +51,15 @@ module _ (n : ℕ) (r : Reach) where
   one-bad = ends-bad n 0 (0 ∷ []) (r .a ∷ []) (r .b ∷ []) (omega arith)
 
 -- the reading of the whole, by what is left at a position where i reaches have been passed
-pub record Scanned (n : ℕ) (file : List ℕ) (at i : ℕ) : Type 0 where
+pub record FileScanned (n : ℕ) (file : List ℕ) (at i : ℕ) : Type 0 where
   pub below : at ≤ length file
   pub few : i ≤ maxReaches
   pub reading : readAnswer (readReaches n maxReaches (drop 3 file)) ≡ counted i (readAnswer (readReaches n (maxReaches - i) (drop at file)))
 
-pub scan-start : (n : ℕ) (file : List ℕ) → 3 ≤ length file → Scanned n file 3 0
+pub scan-start : (n : ℕ) (file : List ℕ) → 3 ≤ length file → FileScanned n file 3 0
 scan-start n file l = record { below = l; few = omega arith; reading = counted-none _ }
 
-module _ {n : ℕ} {file : List ℕ} {at i : ℕ} (s : Scanned n file at i) where
+module _ {n : ℕ} {file : List ℕ} {at i : ℕ} (s : FileScanned n file at i) where
   -- what is left decides the whole
   decides :
       (x : Reading) → readReaches n (maxReaches - i) (drop at file) ≡ x
@@ -71,7 +71,7 @@ module _ {n : ℕ} {file : List ℕ} {at i : ℕ} (s : Scanned n file at i) wher
       → Refused r ≡ readAnswer (readReaches n maxReaches (drop 3 file))
   scan-broken r e = decides (refused r) (step-broken n (maxReaches - i) (drop at file) r e)
 
-  module _ {k : ℕ} (e : Stood file at k) where
+  module _ {k : ℕ} (e : ReachStood file at k) where
     ends : k ≡ 9 → readReaches n (maxReaches - i) (drop at file) ≡ atEnd n (drop (at + 1) file)
     ends q = step-end n (maxReaches - i) (drop at file) (e ∙ ap Whole q) ∙ rw drop-drop
 
@@ -104,7 +104,7 @@ module _ {n : ℕ} {file : List ℕ} {at i : ℕ} (s : Scanned n file at i) wher
           → readReaches n (maxReaches - i) (drop at file) ≡ withReach passed (readReaches n (maxReaches - (i + 1)) (drop (at + 5) file))
       goes-on la lb = rw more (reach-at n file at k e q .next (maxReaches - (i + 1)) ∙ rw (one-good n passed la lb))
 
-      pub scan-next : passed .a < n → passed .b < n → Scanned n file (at + 5) (i + 1)
+      pub scan-next : passed .a < n → passed .b < n → FileScanned n file (at + 5) (i + 1)
       scan-next la lb =
           record {
             below = reach-at n file at k e q .fits;

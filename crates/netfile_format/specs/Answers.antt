@@ -16,7 +16,7 @@ use Rattle.network.specs.Replies.{refusalNumber}
 use Rattle.netfile_format.specs.declared.ReadAnswer.{ReadAnswer}
 use Rattle.netfile_format.specs.declared.ReadAnswer.the-variants.{Refused, Read}
 use Rattle.file_records.specs.declared.WriteAnswer.{WriteAnswer}
-use Rattle.file_records.specs.Puts.{firstOf, Put, roomFor}
+use Rattle.file_records.specs.Puts.{firstOf, Wrote, roomFor}
 use Rattle.netfile_format.specs.Files.{recordReach, Reading, refused, read, readFile, fileOf}
 
 -- The reader's answer: the refusal, or "the counts it read".
@@ -80,4 +80,4 @@ writeFault N room = firstOf (tableFault N) (roomFor (fileOf N) room)
 
 -- What the writer answers to a network, its number, and what it leaves in the buffer: the file first; "all beyond is untouched".
 abbrev pub NetworkWritten : Network → List ℕ → WriteAnswer → List ℕ → Type 0
-NetworkWritten N out r out′ = Put (writeFault N (length out)) (fileOf N) out r out′
+NetworkWritten N out r out′ = Wrote (writeFault N (length out)) (fileOf N) out r out′

@@ -8,8 +8,8 @@ abbrev pub times : ℕ → List ℕ → List ℕ
 times zero f = []
 times (suc n) f = f ++ times n f
 
-abbrev pub examples : List (List ℕ × ℕ)
-examples =
+abbrev pub files : List (List ℕ × ℕ)
+files =
     -- the head: nothing, part of it, no basin, 256 and 257 basins
     ([], 4) ∷ (1 ∷ 0 ∷ [], 4) ∷ (1 ∷ 0 ∷ 0 ∷ [], 1) ∷ (1 ∷ 0 ∷ 1 ∷ 9 ∷ [], 0) ∷ (1 ∷ 1 ∷ 1 ∷ 9 ∷ [], 1)
     -- kinds that may not come, each as the last byte: a reach before the head, a second head, a plan sheet's head, unknown kinds

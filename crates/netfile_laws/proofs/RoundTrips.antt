@@ -16,10 +16,10 @@ use Rattle.tables.specs.Rows.{netOf}
 use lib.Pow.{areBytes}
 use Rattle.netfile_format.specs.Files.{fileOf, Reading, read, readFile}
 use Rattle.netfile_format.specs.Answers.{roomOf, readAnswer, withRoom, reachesRead, RowsFilled, NetworkRead, writeFault, NetworkWritten}
-use Rattle.file_records.specs.Puts.{firstOf, Put, roomFor, PutWhole}
+use Rattle.file_records.specs.Puts.{firstOf, Wrote, roomFor, WroteWhole}
 use Rattle.netfile_laws.specs.Laws.{networkAgain, NetworkWriteRead, fileAgain, NetworkReadWrite}
-use Rattle.file_records.proofs.Puts.{first-none, put-refused, unwritten, written, written-fits, written-front}
-use Rattle.netfile_format.proofs.Files.{read-write, Written as ReadAs, write-read}
+use Rattle.file_records.proofs.Puts.{first-of-none, put-refused, unwritten, written, written-fits, written-front}
+use Rattle.netfile_format.proofs.Files.{read-write, WasWritten, write-read}
 use Rattle.netfile_format.proofs.Calls.{answer-refused, Counted, room-kept, counted, same-network}
 
 -- ---- written, then read
@@ -40,7 +40,7 @@ module _ (N : Network) (out kinds a b out′ : List ℕ) where
     again : readFile (take n out′) ≡ read N
     again =
         ap readFile (written-front (writeFault N (length out)) (fileOf N) out out′ n w)
-        ∙ read-write N (first-none (tableFault N) (roomFor (fileOf N) (length out)) no-fault)
+        ∙ read-write N (first-of-none (tableFault N) (roomFor (fileOf N) (length out)) no-fault)
 
     back : withRoom (roomOf kinds a b) (readFile (take n out′)) ≡ networkAgain (writeFault N (length out)) (roomOf kinds a b) N
     back = ap (withRoom (roomOf kinds a b)) again ∙ ap (λ o. networkAgain o (roomOf kinds a b) N) (sym no-fault)
@@ -65,7 +65,7 @@ module _ (file kinds a b kinds′ a′ b′ : List ℕ) where
     abbrev C : Counted got n m
     C = counted file kinds a b kinds′ a′ b′ n m c
 
-    was : ReadAs file (C .network)
+    was : WasWritten file (C .network)
     was = write-read file (C .network) bytes (room-kept (roomOf kinds a b) (readFile file) (C .network) (C .is))
 
     -- the table is accepted, so that only the room is left to be judged
@@ -78,9 +78,9 @@ module _ (file kinds a b kinds′ a′ b′ : List ℕ) where
     trip-written r out′ w =
         record {
           again =
-              subst (λ x. Put (fileAgain x file (length out)) file out r out′) (sym (C .is))
-              (subst (λ f. PutWhole f out r out′) (sym (was .bytes))
-              (subst (λ o. Put o (fileOf (C .network)) out r out′) sound
+              subst (λ x. Wrote (fileAgain x file (length out)) file out r out′) (sym (C .is))
+              (subst (λ f. WroteWhole f out r out′) (sym (was .bytes))
+              (subst (λ o. Wrote o (fileOf (C .network)) out r out′) sound
               (subst (λ N. NetworkWritten N out r out′) (same-network file kinds a b kinds′ a′ b′ n m c) w)));
           rows = c .rows;
         }

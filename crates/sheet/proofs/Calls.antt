@@ -14,7 +14,7 @@ use Rattle.network.specs.Plans.{strongUnder, isPlan}
 use Rattle.network.proofs.Networks.{accepted}
 use Rattle.file_records.specs.declared.WriteAnswer.{WriteAnswer}
 use Rattle.file_records.specs.declared.WriteAnswer.the-variants.{Refused as Unwritten}
-use Rattle.file_records.specs.Puts.{firstOf, Put, roomFor, PutWhole}
+use Rattle.file_records.specs.Puts.{firstOf, Wrote, roomFor, WroteWhole}
 use Rattle.planner.specs.declared.CheckAnswer.{CheckAnswer}
 use Rattle.planner.specs.declared.CheckAnswer.the-variants as C
 use Rattle.planner.specs.Answers.{yesOr, unlessRefused, checkOf}
@@ -74,6 +74,6 @@ module _ (N : Network) (s out : List ℕ) where
       put-refused (sheetOf N s) out r (judged-sheet N s v e (length out) ∙ ap (λ o. firstOf o (roomFor (sheetOf N s) (length out))) f)
 
   pub wrote-plan :
-      (r : WriteAnswer) (out′ : List ℕ) → checkOf N s ≡ C.Yes → PutWhole (sheetOf N s) out r out′
+      (r : WriteAnswer) (out′ : List ℕ) → checkOf N s ≡ C.Yes → WroteWhole (sheetOf N s) out r out′
       → SheetWritten N s out r out′
-  wrote-plan r out′ e = subst (λ o. Put o (sheetOf N s) out r out′) (sym (judged-sheet N s C.Yes e (length out)))
+  wrote-plan r out′ e = subst (λ o. Wrote o (sheetOf N s) out r out′) (sym (judged-sheet N s C.Yes e (length out)))

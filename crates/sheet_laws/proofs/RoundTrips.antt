@@ -24,7 +24,7 @@ use Rattle.network.proofs.Theorem.{plan-passable}
 use Rattle.file_records.specs.declared.WriteAnswer.{WriteAnswer}
 use Rattle.file_records.specs.declared.WriteAnswer.the-variants.{Refused as Unwritten, Written}
 use lib.Pow.{areBytes}
-use Rattle.file_records.specs.Puts.{firstOf, Put, roomFor, PutWhole}
+use Rattle.file_records.specs.Puts.{firstOf, Wrote, roomFor, WroteWhole}
 use Rattle.planner.specs.declared.CheckAnswer.{CheckAnswer}
 use Rattle.planner.specs.declared.CheckAnswer.the-variants as C
 use Rattle.planner.specs.Answers.{checkOf}
@@ -35,7 +35,7 @@ use Rattle.sheetfile.specs.Readings.{SheetReading, sheetRefused, sheetSays, unl
 use Rattle.sheetfile.specs.Answers.{sheetAnswer, settingRead, Got, planFault, sheetFault, replyFault, SheetWritten, ReplyWritten}
 use Rattle.sheet_laws.specs.Laws.{SheetWriteRead, sheetAgain, SheetReadWrite, checkedBack, SheetReadCheck, replyRead, ReplyWriteRead, Replies, says-plan, says-shut-in, says-lone}
 use Rattle.sheetfile.proofs.Sheets.{read-write, write-read, was-read}
-use Rattle.file_records.proofs.Puts.{first-assoc, first-none, put-refused, unwritten, written, written-front}
+use Rattle.file_records.proofs.Puts.{first-assoc, first-of-none, put-refused, unwritten, written, written-front}
 use Rattle.sheet.proofs.Calls.{Plan, no-fault}
 use Rattle.sheet.proofs.Getting.{got-refused, refused-is}
 use Rattle.sheet_reply.proofs.Replies.{First, is-plan, is-shut, is-lone, first-cases}
@@ -57,7 +57,7 @@ module _ (N : Network) (s out setting out′ : List ℕ) where
     its-plan : Plan N s
     its-plan =
         no-fault N s (tableFault N) (isPlan N s) refl refl
-        (first-none (firstOf (tableFault N) (planFault N s)) (roomFor (sheetOf N s) (length out))
+        (first-of-none (firstOf (tableFault N) (planFault N s)) (roomFor (sheetOf N s) (length out))
         (sym (first-assoc (tableFault N) (planFault N s) (roomFor (sheetOf N s) (length out))) ∙ sound))
 
     same : readSheet N (take n out′) ≡ sheetSays s
@@ -134,13 +134,13 @@ module _ (N : Network) (f setting setting′ : List ℕ) where
 
     pub trip-written :
         areBytes f ≡ true → (out : List ℕ) (r : WriteAnswer) (out′ : List ℕ)
-        → Put (sheetFault N (take n setting′) (length out)) (sheetOf N (take n setting′)) out r out′ → SheetReadWrite N f setting out r setting′ out′
+        → Wrote (sheetFault N (take n setting′) (length out)) (sheetOf N (take n setting′)) out r out′ → SheetReadWrite N f setting out r setting′ out′
     trip-written b out r out′ p =
         record {
           again =
-              subst (λ x. Put (sheetAgain x f (length out)) f out r out′) (sym is)
-              (subst (λ h. PutWhole h out r out′) (sym (write-read N f s b sheet-is))
-              (subst (λ o. Put o (sheetOf N s) out r out′) fault (subst (λ t. Put (sheetFault N t (length out)) (sheetOf N t) out r out′) front p)));
+              subst (λ x. Wrote (sheetAgain x f (length out)) f out r out′) (sym is)
+              (subst (λ h. WroteWhole h out r out′) (sym (write-read N f s b sheet-is))
+              (subst (λ o. Wrote o (sheetOf N s) out r out′) fault (subst (λ t. Wrote (sheetFault N t (length out)) (sheetOf N t) out r out′) front p)));
           bytes = g .bytes;
         }
       where
@@ -222,7 +222,7 @@ module _ (N : Network) (out setting out′ : List ℕ) where
       let sound : replyFault N (length out) ≡ none = written (replyFault N (length out)) (replySheet N) out out′ n p in
       let same : readSheet N (take n out′) ≡ replyRead (firstAnswer N) =
       ap (readSheet N) (written-front (replyFault N (length out)) (replySheet N) out out′ n p)
-      ∙ read-reply N (first-none (tableFault N) (roomFor (replySheet N) (length out)) sound) in
+      ∙ read-reply N (first-of-none (tableFault N) (roomFor (replySheet N) (length out)) sound) in
       record {
         again =
             subst (λ x. Got x setting r setting′)

@@ -20,12 +20,12 @@ use Rattle.sheetfile.specs.declared.SheetAnswer.{SheetAnswer}
 use Rattle.sheetfile.specs.Sheets.{sheetOf, shutInSheet, loneSheet, replySheet}
 use Rattle.sheetfile.specs.Readings.{SheetReading, sheetRefused, sheetSays, unlessFault, readSheet, sheetWithRoom}
 use Rattle.sheetfile.specs.Answers.{settingRead, Got, sheetFault, replyFault}
-use Rattle.file_records.specs.Puts.{bytesPut, Put, roomFor}
+use Rattle.file_records.specs.Puts.{bytesWritten, Wrote, roomFor}
 
 -- What the sheet of a setting is read as that was written: refused where the writer refuses, else the setting itself.
 pub record SheetWriteRead (N : Network) (s out setting : List ℕ) (r : SheetAnswer) (out′ setting′ : List ℕ) : Type 0 where
   pub again : Got (unlessFault (sheetFault N s (length out)) (sheetWithRoom (length setting) (sheetSays s))) setting r setting′
-  pub sheet : out′ ≡ bytesPut (sheetFault N s (length out)) (sheetOf N s) ++ drop (length (bytesPut (sheetFault N s (length out)) (sheetOf N s))) out
+  pub sheet : out′ ≡ bytesWritten (sheetFault N s (length out)) (sheetOf N s) ++ drop (length (bytesWritten (sheetFault N s (length out)) (sheetOf N s))) out
 
 -- What a sheet is written as that was read: refused where the reader refuses it or the buffer is too short, else the sheet itself.
 abbrev pub sheetAgain : SheetReading → List ℕ → ℕ → Option Refusal
@@ -33,7 +33,7 @@ sheetAgain (sheetRefused r) f room = some r
 sheetAgain (sheetSays s) f room = roomFor f room
 
 pub record SheetReadWrite (N : Network) (f setting out : List ℕ) (r : WriteAnswer) (setting′ out′ : List ℕ) : Type 0 where
-  pub again : Put (sheetAgain (sheetWithRoom (length setting) (readSheet N f)) f (length out)) f out r out′
+  pub again : Wrote (sheetAgain (sheetWithRoom (length setting) (readSheet N f)) f (length out)) f out r out′
   pub bytes :
       setting′
       ≡ settingRead (sheetWithRoom (length setting) (readSheet N f)) ++ drop (length (settingRead (sheetWithRoom (length setting) (readSheet N f)))) setting
@@ -58,7 +58,7 @@ replyRead (told r) = sheetRefused r
 
 pub record ReplyWriteRead (N : Network) (out setting : List ℕ) (r : SheetAnswer) (out′ setting′ : List ℕ) : Type 0 where
   pub again : Got (unlessFault (replyFault N (length out)) (sheetWithRoom (length setting) (replyRead (firstAnswer N)))) setting r setting′
-  pub sheet : out′ ≡ bytesPut (replyFault N (length out)) (replySheet N) ++ drop (length (bytesPut (replyFault N (length out)) (replySheet N))) out
+  pub sheet : out′ ≡ bytesWritten (replyFault N (length out)) (replySheet N) ++ drop (length (bytesWritten (replyFault N (length out)) (replySheet N))) out
 
 -- The sheet f says what the network gets: it is read as the first plan, or shows the side that is shut in, or the lowest lone reach and its side.
 pub data Replies (N : Network) (f : List ℕ) : Type 0 where

@@ -7,7 +7,7 @@ use file_records::word_at;
 use network::Refusal;
 use sheetfile::AS_DRAWN;
 use sheetfile::GATE_DUE;
-use sheetfile::PLAN_DUE;
+use sheetfile::PLAN_HEAD_DUE;
 use sheetfile::SheetAnswer;
 ghost use mathlib.Core.Path.{_≡_};
 ghost use Prim.Native.Nat.{_≤_};
@@ -73,7 +73,7 @@ pub fn read_records(kinds: &[u8], sheet: &[u8], held: &mut [u8]) -> SheetAnswer
     requires { ⌜ length (gatesRow 0 (now kinds)) ≤ length (now held) ⌝ }
     ensures { λ r. ⌜ Held (readRecords (gatesRow 0 (now (kinds .entry))) (now (sheet .entry))) r (now (held .exit)) ⌝ }
 {
-    match take_record(sheet, 0, &PLAN_DUE) {
+    match take_record(sheet, 0, &PLAN_HEAD_DUE) {
         Taken::Broken(r) => SheetAnswer::Refused(r),
         Taken::Whole(_) => {
             if word_at(sheet, 1) as usize != tables::count_gates(kinds) {

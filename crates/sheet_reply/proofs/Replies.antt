@@ -22,7 +22,7 @@ use Rattle.network.proofs.Order.{first-is-plan, first-none}
 use Rattle.network.proofs.Replies.{Verdict, plans, no-way, one-lone, verdict}
 use Rattle.file_records.specs.declared.WriteAnswer.{WriteAnswer}
 use Rattle.file_records.specs.declared.WriteAnswer.the-variants.{Refused as Unwritten}
-use Rattle.file_records.specs.Puts.{firstOf, Put, roomFor, PutWhole}
+use Rattle.file_records.specs.Puts.{firstOf, Wrote, roomFor, WroteWhole}
 use Rattle.planner.specs.declared.Verdict.{Verdict as PlannerVerdict}
 use Rattle.planner.specs.declared.Verdict.the-variants.{Plan, ShutIn, Lone}
 use Rattle.planner.specs.declared.Answer.{Answer}
@@ -131,12 +131,12 @@ module _ (N : Network) (p m : List ℕ) (lp : length p ≡ maxReaches) (lm : len
       -- the sheet of what was given is the network's
       pub reply-put :
           (out : List ℕ) (r : WriteAnswer) (out′ : List ℕ)
-          → PutWhole (verdictSheet N v p′ m′) out r out′ → ReplyWritten N out r out′
+          → WroteWhole (verdictSheet N v p′ m′) out r out′ → ReplyWritten N out r out′
       unfolding replySheet
       reply-put out r out′ x =
-          subst (λ f. Put (firstOf (tableFault N) (roomFor f (length out))) f out r out′)
+          subst (λ f. Wrote (firstOf (tableFault N) (roomFor f (length out))) f out r out′)
           (sym (says (firstAnswer N) (first-cases N reply-accepted) (subst (λ o. Written o p m p′ m′ a) (replied none reply-accepted) w)))
-          (subst (λ o. Put (firstOf o (roomFor (verdictSheet N v p′ m′) (length out))) (verdictSheet N v p′ m′) out r out′) (sym reply-accepted) x)
+          (subst (λ o. Wrote (firstOf o (roomFor (verdictSheet N v p′ m′) (length out))) (verdictSheet N v p′ m′) out r out′) (sym reply-accepted) x)
 
       pub reply-roomy : length p′ ≡ length p → Roomy (N .reaches) p′
       reply-roomy l =

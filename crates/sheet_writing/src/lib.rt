@@ -16,7 +16,7 @@ ghost use lib.ListN.{length};
 ghost use lib.Seq.{sets};
 ghost use Rattle.network.specs.Tables.{tableOf};
 ghost use Rattle.network.specs.Marks.{markBytes};
-ghost use Rattle.file_records.specs.Puts.{PutWhole};
+ghost use Rattle.file_records.specs.Puts.{WroteWhole};
 ghost use Rattle.sheetfile.specs.Sheets.{hungKind, gateRecord, sheetRecords, planSheet, shutInSheet, loneSheet};
 ghost use Rattle.sheetfile.specs.Rows.{gatesRow, Records, Fitting, Roomy, tableSheet, firstBytesSheet};
 
@@ -56,7 +56,7 @@ fn put_records(kinds: &[u8], setting: &[u8], out: &mut [u8])
 // The sheet of a setting that fits goes to the first bytes of the buffer; 7. The records go into the part of the buffer after the head.
 fn write_sheet(kinds: &[u8], setting: &[u8], out: &mut [u8]) -> WriteAnswer
     requires { ⌜ Records (now kinds) (now setting) ⌝ }
-    ensures { λ r. ⌜ PutWhole (planSheet (gatesRow 0 (now (kinds .entry))) (now (setting .entry))) (now (out .entry)) r (now (out .exit)) ⌝ }
+    ensures { λ r. ⌜ WroteWhole (planSheet (gatesRow 0 (now (kinds .entry))) (now (setting .entry))) (now (out .entry)) r (now (out .exit)) ⌝ }
 {
     let count = setting.len();
     let size = 3 * count + 4;
@@ -79,7 +79,7 @@ pub fn write_fitting(
 ) -> WriteAnswer
     requires { ⌜ Fitting (tableOf (now kinds) (now a) (now b)) (now setting) ⌝ }
     ensures { λ r. ⌜
-        PutWhole (tableSheet (tableOf (now (kinds .entry)) (now (a .entry)) (now (b .entry))) (now (setting .entry))) (now (out .entry))
+        WroteWhole (tableSheet (tableOf (now (kinds .entry)) (now (a .entry)) (now (b .entry))) (now (setting .entry))) (now (out .entry))
         r (now (out .exit))
         ⌝ }
 {
@@ -91,7 +91,7 @@ pub fn write_fitting(
 pub fn write_first(kinds: &[u8], a: &[u16], b: &[u16], plan: &[u8], out: &mut [u8]) -> WriteAnswer
     requires { ⌜ Roomy (tableOf (now kinds) (now a) (now b)) (now plan) ⌝ }
     ensures { λ r. ⌜
-        PutWhole (firstBytesSheet (tableOf (now (kinds .entry)) (now (a .entry)) (now (b .entry))) (now (plan .entry))) (now (out .entry))
+        WroteWhole (firstBytesSheet (tableOf (now (kinds .entry)) (now (a .entry)) (now (b .entry))) (now (plan .entry))) (now (out .entry))
         r (now (out .exit))
         ⌝ }
 {
@@ -103,7 +103,7 @@ pub fn write_first(kinds: &[u8], a: &[u16], b: &[u16], plan: &[u8], out: &mut [u
 // The sheet of a shut-in finding goes to the first bytes of the buffer; 7.
 pub fn write_shut_in(marks: &[u8], out: &mut [u8]) -> WriteAnswer
     requires { ⌜ length (now marks) ≡ markBytes ⌝ }
-    ensures { λ r. ⌜ PutWhole (shutInSheet (now (marks .entry))) (now (out .entry)) r (now (out .exit)) ⌝ }
+    ensures { λ r. ⌜ WroteWhole (shutInSheet (now (marks .entry))) (now (out .entry)) r (now (out .exit)) ⌝ }
 {
     let size = marks.len() + 2;
     if out.len() < size {
@@ -118,7 +118,7 @@ pub fn write_shut_in(marks: &[u8], out: &mut [u8]) -> WriteAnswer
 // The sheet of a lone reach goes to the first bytes of the buffer; 7.
 pub fn write_lone(reach: u16, marks: &[u8], out: &mut [u8]) -> WriteAnswer
     requires { ⌜ length (now marks) ≡ markBytes ⌝ }
-    ensures { λ r. ⌜ PutWhole (loneSheet reach (now (marks .entry))) (now (out .entry)) r (now (out .exit)) ⌝ }
+    ensures { λ r. ⌜ WroteWhole (loneSheet reach (now (marks .entry))) (now (out .entry)) r (now (out .exit)) ⌝ }
 {
     let size = marks.len() + 4;
     if out.len() < size {

@@ -58,15 +58,15 @@ due-none : (ks : List ℕ) (i : ℕ) → length ks ≤ i → due ks i ≡ []
 due-none ks i l = rw (drop-of-length-le ks l)
 
 -- the search for the next gated reach: none was passed
-pub record Passed (ks : List ℕ) (from i : ℕ) : Type 0 where
+pub record GatesPassed (ks : List ℕ) (from i : ℕ) : Type 0 where
   pub below : i ≤ length ks
   pub same : due ks from ≡ due ks i
 
-pub passed-none : (ks : List ℕ) (i : ℕ) → i ≤ length ks → Passed ks i i
+pub passed-none : (ks : List ℕ) (i : ℕ) → i ≤ length ks → GatesPassed ks i i
 passed-none ks i l = record { below = l; same = refl }
 
-module _ (ks : List ℕ) (from i : ℕ) (p : Passed ks from i) where
-  pub passed-more : i < length ks → (getD ks i 0 ≡ 0 → ⊥) → Passed ks from (i + 1)
+module _ (ks : List ℕ) (from i : ℕ) (p : GatesPassed ks from i) where
+  pub passed-more : i < length ks → (getD ks i 0 ≡ 0 → ⊥) → GatesPassed ks from (i + 1)
   passed-more l n = record { below = omega arith; same = p .same ∙ due-other ks i l n }
 
   pub passed-to : i < length ks → getD ks i 0 ≡ 0 → NextGate ks from i

@@ -11,7 +11,7 @@ use Rattle.network.specs.Lists.{elem}
 use Rattle.network.proofs.Bools.{or-cases}
 use Rattle.file_records.specs.Records.{bodyOf}
 use Rattle.sheetfile.specs.Sheets.{hungKind}
-use Rattle.sheetfile.specs.Readings.{planDue, gateDue, byteIn}
+use Rattle.sheetfile.specs.Readings.{planHeadDue, gateDue, byteIn}
 
 -- the kinds of a gated reach
 abbrev pub Hanging : ℕ → Type 0
@@ -31,7 +31,7 @@ hanging k q h =
     (or-cases (eqb k 17) _ h)
 
 -- where the head is due only it may come
-pub comes-first : (k : ℕ) → elem k planDue ≡ true → k ≡ 16
+pub comes-first : (k : ℕ) → elem k planHeadDue ≡ true → k ≡ 16
 comes-first k h = eqb-true k 16 (rw or-false at h)
 
 pub body-hung : (k : ℕ) → Hanging k → bodyOf k ≡ some 2

@@ -14,7 +14,7 @@ use Rattle.tables.proofs.Laws.{table-short}
 use Rattle.file_records.specs.declared.WriteAnswer.{WriteAnswer}
 use Rattle.file_records.specs.declared.WriteAnswer.the-variants.{Refused as Unwritten, Written}
 use Rattle.file_records.specs.Records.{twoBytes}
-use Rattle.file_records.specs.Puts.{PutWhole}
+use Rattle.file_records.specs.Puts.{WroteWhole}
 use Rattle.file_records.proofs.Writing.{sets-after, set-sets-long, part-back}
 use Rattle.sheetfile.specs.Sheets.{gateRecords, planSheet}
 use Rattle.sheetfile.specs.Rows.{gatesRow, Records, Fitting, Roomy, firstBytesSheet}
@@ -32,7 +32,7 @@ module _ (front marks out : List ℕ) where
   finding-size = omega (arith, length-append front (marks ++ (9 ∷ [])), length-append marks (9 ∷ []))
 
   module _ (n j : ℕ) (e : n ≡ length front + length marks + 1) (at : j ≡ length front) (l₁ l₂ : List ℕ) (p : l₁ ≡ sets out 0 front) (q : l₂ ≡ sets l₁ j marks) where
-    pub finding-done : n ≤ length out → PutWhole finding out (Written n) (set l₂ (n - 1) 9)
+    pub finding-done : n ≤ length out → WroteWhole finding out (Written n) (set l₂ (n - 1) 9)
     finding-done l = put-whole finding out n (set l₂ (n - 1) 9) (omega (arith, finding-size)) l whole
       where
         values : l₂ ≡ sets out 0 (front ++ marks)
@@ -60,7 +60,7 @@ module _ (ks s : List ℕ) (fit : Records ks s) where
   size = length-sheet (gatesRow 0 ks) s (fit .full)
 
   module _ (out : List ℕ) where
-    pub sheet-short : length out < 3 * length s + 4 → PutWhole sheet out (Unwritten ShortBuffer) out
+    pub sheet-short : length out < 3 * length s + 4 → WroteWhole sheet out (Unwritten ShortBuffer) out
     sheet-short l = put-short sheet out (omega (arith, size))
 
     module _ (l : 3 * length s + 4 ≤ length out) (l₁ : List ℕ) (p : l₁ ≡ sets (set out 0 16) 1 (twoBytes (length s))) where
@@ -80,7 +80,7 @@ module _ (ks s : List ℕ) (fit : Records ks s) where
         pub sheet-long : length (take 3 l₁ ++ (part ++ drop (length l₁ - 3) (drop 3 l₁))) ≡ length out
         sheet-long = ap length whole ∙ length-sets out 0 sheet
 
-        pub sheet-done : PutWhole sheet out (Written (3 * length s + 4)) (take 3 l₁ ++ (part ++ drop (length l₁ - 3) (drop 3 l₁)))
+        pub sheet-done : WroteWhole sheet out (Written (3 * length s + 4)) (take 3 l₁ ++ (part ++ drop (length l₁ - 3) (drop 3 l₁)))
         sheet-done = put-whole sheet out (3 * length s + 4) _ (sym size) l whole
 
 -- the rows cut to the length of the table
@@ -97,9 +97,9 @@ module _ (ks xs ys : List ℕ) (m : ℕ) (e : m ≡ length (tableOf ks xs ys)) w
 
   pub cut-sheet :
       (s out : List ℕ) (r : WriteAnswer) (out′ : List ℕ)
-      → PutWhole (planSheet (gatesRow 0 (take m ks)) s) out r out′
-      → PutWhole (planSheet (gatesFrom 0 (tableOf ks xs ys)) s) out r out′
-  cut-sheet s out r out′ = subst (λ gs. PutWhole (planSheet gs s) out r out′) cut-gates
+      → WroteWhole (planSheet (gatesRow 0 (take m ks)) s) out r out′
+      → WroteWhole (planSheet (gatesFrom 0 (tableOf ks xs ys)) s) out r out′
+  cut-sheet s out r out′ = subst (λ gs. WroteWhole (planSheet gs s) out r out′) cut-gates
 
   -- the first bytes of a plan buffer, one for each gated reach
   module _ (plan : List ℕ) (roomy : Roomy (tableOf ks xs ys) plan) (g : ℕ) (count : g ≡ gatesIn (take m ks)) where
@@ -114,7 +114,7 @@ module _ (ks xs ys : List ℕ) (m : ℕ) (e : m ≡ length (tableOf ks xs ys)) w
 
     pub cut-first :
         (out : List ℕ) (r : WriteAnswer) (out′ : List ℕ)
-        → PutWhole (planSheet (gatesFrom 0 (tableOf ks xs ys)) (take g plan)) out r out′
-        → PutWhole (firstBytesSheet (tableOf ks xs ys) plan) out r out′
+        → WroteWhole (planSheet (gatesFrom 0 (tableOf ks xs ys)) (take g plan)) out r out′
+        → WroteWhole (firstBytesSheet (tableOf ks xs ys) plan) out r out′
     cut-first out r out′ =
-        subst (λ n. PutWhole (planSheet (gatesFrom 0 (tableOf ks xs ys)) (take n plan)) out r out′) gate-count
+        subst (λ n. WroteWhole (planSheet (gatesFrom 0 (tableOf ks xs ys)) (take n plan)) out r out′) gate-count

@@ -18,7 +18,7 @@ use Rattle.sheetfile.specs.declared.SheetAnswer.the-variants.{Refused, R
 use Rattle.sheetfile.specs.Readings.{gateDue, SheetReading, sheetRefused, sheetSays, atSheetEnd, byteIn, withByte, readGates}
 use Rattle.sheetfile.specs.Rows.{gatesRow, due, NextGate}
 use Rattle.sheetfile.specs.Answers.{Held}
-use Rattle.sheetfile.proofs.Steps.{Stood, step-broken, step-end, step-early, GateStep, gate-front}
+use Rattle.sheetfile.proofs.Steps.{GateStood, step-broken, step-end, step-early, GateStep, gate-front}
 
 -- the reading with bytes more, in front of the others
 abbrev withBytes : List ℕ → SheetReading → SheetReading
@@ -41,17 +41,17 @@ pub held-refused : {x : SheetReading} (r : Refusal) (held : List ℕ) → x ≡ 
 held-refused r held e = rw e (record { answer = refl; bytes = refl })
 
 -- the reading of the whole, by what is left at a position where k records have been passed, the last of a reach before i
-pub record Scanned (ks sheet held₀ held : List ℕ) (at i k : ℕ) : Type 0 where
+pub record SheetScanned (ks sheet held₀ held : List ℕ) (at i k : ℕ) : Type 0 where
   pub below : at ≤ length sheet
   pub within : i ≤ length ks
   pub count : k + length (due ks i) ≡ length (gatesRow 0 ks)
   pub reading : readGates (gatesRow 0 ks) (drop 3 sheet) ≡ withBytes (take k held) (readGates (due ks i) (drop at sheet))
   pub long : length held ≡ length held₀
 
-pub scan-start : (ks sheet held : List ℕ) → 3 ≤ length sheet → Scanned ks sheet held held 3 0 0
+pub scan-start : (ks sheet held : List ℕ) → 3 ≤ length sheet → SheetScanned ks sheet held held 3 0 0
 scan-start ks sheet held l = record { below = l; within = omega arith; count = omega arith; reading = with-none _; long = refl }
 
-module _ {ks sheet held₀ held : List ℕ} {at i k : ℕ} (s : Scanned ks sheet held₀ held at i k) where
+module _ {ks sheet held₀ held : List ℕ} {at i k : ℕ} (s : SheetScanned ks sheet held₀ held at i k) where
   -- a refusal of what is left is one of the whole
   fails : (r : Refusal) → readGates (due ks i) (drop at sheet) ≡ sheetRefused r → Held (readGates (gatesRow 0 ks) (drop 3 sheet)) (Refused r) held
   fails r e = held-refused r held (s .reading ∙ ap (withBytes (take k held)) e)
@@ -59,7 +59,7 @@ module _ {ks sheet held₀ held : List ℕ} {at i k : ℕ} (s : Scanned ks sheet
   pub scan-broken : (r : Refusal) → takenAnswer (takeRecord gateDue (drop at sheet)) ≡ Broken r → Held (readGates (gatesRow 0 ks) (drop 3 sheet)) (Refused r) held
   scan-broken r e = fails r (step-broken (drop at sheet) (due ks i) r e)
 
-  module _ {kind : ℕ} (e : Stood (drop at sheet) kind) {r : ℕ} (g : NextGate ks i r) where
+  module _ {kind : ℕ} (e : GateStood (drop at sheet) kind) {r : ℕ} (g : NextGate ks i r) where
     -- the end comes before all have theirs
     pub scan-early : kind ≡ 9 → r < length ks → Held (readGates (gatesRow 0 ks) (drop 3 sheet)) (Refused BadSetting) held
     scan-early q l =
@@ -112,7 +112,7 @@ module _ {ks sheet held₀ held : List ℕ} {at i k : ℕ} (s : Scanned ks sheet
 
         pub scan-next :
             n ≡ r → length (gatesRow 0 ks) ≤ length held₀ → (b : ℕ) → b ≡ byteIn kind
-            → Scanned ks sheet held₀ (set held k b) (at + 3) (r + 1) (k + 1)
+            → SheetScanned ks sheet held₀ (set held k b) (at + 3) (r + 1) (k + 1)
         scan-next d room b v =
             let after-r : r + 1 ≡ suc r = omega arith in
             let after-k : k + 1 ≡ suc k = omega arith in

@@ -6,9 +6,10 @@ use mathlib.Core.Path.{_≡_, refl, sym, ap, _∙_}
 use mathlib.Core.Bool.{Bool, true, false, cond, true≢false}
 use mathlib.Core.List.{List, [], _∷_, _++_}
 use mathlib.Core.Option.{Option, none, some}
+use mathlib.Core.Logic.{inl, inr}
 use lib.ListN.{length, take, drop, length-append}
 use lib.Dec.{leb, eqb}
-use borrow.Author.Tests.{leb-true, le-leb, eqb-true, eqb-false, eq-eqb}
+use borrow.Author.Tests.{leb-true, eqb-true, eqb-false, eq-eqb}
 use Rattle.network.specs.declared.Refusal.{Refusal}
 use Rattle.network.specs.declared.Refusal.the-variants.{TrailingBytes, BadSetting}
 use Rattle.network.specs.Lists.{every}
@@ -23,19 +24,18 @@ use Rattle.file_records.specs.declared.Taken.the-variants.{Broken, Whole}
 use Rattle.file_records.specs.Records.{bodyOf, twoBytes, whole, takeRecord, takenAnswer}
 use lib.Pow.{areBytes}
 use Rattle.file_records.proofs.Records.{word-bytes, bytes-drop, three-again}
-use Rattle.file_records.proofs.Taking.{stands}
+use Rattle.file_records.proofs.Taking.{stands, value-taken}
 use Rattle.sheetfile.specs.Sheets.{hungKind, gateRecord, gateRecords, planSheet, sheetOf}
-use Rattle.sheetfile.specs.Readings.{planDue, gateDue, SheetReading, sheetRefused, sheetSays, atSheetEnd, byteIn, withByte, readGates, readCount, readRecords, ifPlan, unlessFault, readSheet}
-use Rattle.sheetfile.proofs.Marking.{hanging, comes-first, kind-again}
-use Rattle.sheetfile.proofs.Steps.{Stood, step-broken, step-end, step-early, GateStep, gate-step, gate-front, head-step, head-at, head-broken}
+use Rattle.sheetfile.specs.Readings.{planHeadDue, gateDue, SheetReading, sheetRefused, sheetSays, atSheetEnd, byteIn, withByte, readGates, readCount, readRecords, ifPlan, unlessFault, readSheet}
+use Rattle.sheetfile.proofs.Marking.{hanging, comes-first, body-hung, body-plan, kind-again}
+use Rattle.sheetfile.proofs.Steps.{GateStood, step-broken, step-end, step-early, GateStep, gate-step, gate-front, head-step, head-at, head-broken}
 
 -- ---- what is written is read again
 
 -- a gated reach's record stands at the front of its bytes
 gate-taken : (i x : ℕ) (rest : List ℕ) → takeRecord gateDue (gateRecord i x ++ rest) ≡ whole (hungKind x) (twoBytes i) rest
-unfolding bodyOf
-gate-taken i zero rest = rw (le-leb 2 (suc (suc (length rest))) (omega arith))
-gate-taken i (suc x) rest = rw (le-leb 2 (suc (suc (length rest))) (omega arith))
+gate-taken i zero rest = value-taken gateDue 17 i rest refl (body-hung 17 (inl refl))
+gate-taken i (suc x) rest = value-taken gateDue 18 i rest refl (body-hung 18 (inr refl))
 
 hung-no-end : (x : ℕ) → hungKind x ≡ 9 → ⊥
 hung-no-end zero e = omega arith
@@ -55,13 +55,9 @@ read-gates (i ∷ gs) (x ∷ s) e h =
     gate-step (gateRecord i x ++ rest) (hungKind x) (omega arith) (gate-taken i x rest) (hung-no-end x) .next i gs
     ∙ rw (word-bytes i, eq-eqb i i refl, byte-again x (and-left (leb x 1) _ h), read-gates gs s (omega arith) (and-right (leb x 1) _ h))
 
-head-taken : (n : ℕ) (rest : List ℕ) → takeRecord planDue (16 ∷ (twoBytes n ++ rest)) ≡ whole 16 (twoBytes n) rest
-unfolding bodyOf
-head-taken n rest = rw (le-leb 2 (suc (suc (length rest))) (omega arith))
-
 pub read-records : (gs s : List ℕ) → length s ≡ length gs → every (λ x. leb x 1) s ≡ true → readRecords gs (planSheet gs s) ≡ sheetSays s
 read-records gs s e h =
-    head-step gs (planSheet gs s) 16 (omega arith) (head-taken (length gs) (gateRecords gs s ++ (9 ∷ []))) .next
+    head-step gs (planSheet gs s) 16 (omega arith) (value-taken planHeadDue 16 (length gs) (gateRecords gs s ++ (9 ∷ [])) refl body-plan) .next
     ∙ rw (word-bytes (length gs), eq-eqb (length gs) (length gs) refl) (read-gates gs s e h)
 
 -- what a plan has: a byte for each gated reach, each 0 or 1
@@ -95,10 +91,10 @@ with-byte-is x (sheetSays t) s h = (t, refl, read-inj (x ∷ t) s h)
 
 -- the end, which ends the sheet; a gated reach is left to h
 unread-end :
-    (gs f s : List ℕ) → readGates gs f ≡ sheetSays s → ((k : ℕ) → Stood f k → (k ≡ 9 → ⊥) → f ≡ gateRecords gs s ++ (9 ∷ [])) → f ≡ gateRecords gs s ++ (9 ∷ [])
+    (gs f s : List ℕ) → readGates gs f ≡ sheetSays s → ((k : ℕ) → GateStood f k → (k ≡ 9 → ⊥) → f ≡ gateRecords gs s ++ (9 ∷ [])) → f ≡ gateRecords gs s ++ (9 ∷ [])
 unread-end gs f s e h = go (takenAnswer (takeRecord gateDue f)) refl
   where
-    ended : (gs : List ℕ) → readGates gs f ≡ sheetSays s → Stood f 9 → f ≡ gateRecords gs s ++ (9 ∷ [])
+    ended : (gs : List ℕ) → readGates gs f ≡ sheetSays s → GateStood f 9 → f ≡ gateRecords gs s ++ (9 ∷ [])
     ended [] e w = stands gateDue f 9 w .starts ∙ ap (λ l. 9 ∷ l) (end-is (drop 1 f) s (sym (step-end f w) ∙ e) .0)
     ended (i ∷ gs) e w = no-setting BadSetting s (sym (step-early f w i gs) ∙ e)
 
@@ -112,7 +108,7 @@ unread-end gs f s e h = go (takenAnswer (takeRecord gateDue f)) refl
 
 -- a gated reach, and what is known of the bytes after it
 unread-gate :
-    (i : ℕ) (gs f s : List ℕ) (k : ℕ) → areBytes f ≡ true → Stood f k → (k ≡ 9 → ⊥) → readGates (i ∷ gs) f ≡ sheetSays s
+    (i : ℕ) (gs f s : List ℕ) (k : ℕ) → areBytes f ≡ true → GateStood f k → (k ≡ 9 → ⊥) → readGates (i ∷ gs) f ≡ sheetSays s
     → ((t : List ℕ) → readGates gs (drop 3 f) ≡ sheetSays t → drop 3 f ≡ gateRecords gs t ++ (9 ∷ []))
     → f ≡ gateRecords (i ∷ gs) s ++ (9 ∷ [])
 unread-gate i gs f s k b w q e rec = go (eqb n i) refl
@@ -143,22 +139,22 @@ unread (i ∷ gs) f s b e =
     unread-end (i ∷ gs) f s e (λ k w q. unread-gate i gs f s k b w q e (λ t h. unread gs (drop 3 f) t (bytes-drop 3 f b) h))
 
 pub write-records : (gs f s : List ℕ) → areBytes f ≡ true → readRecords gs f ≡ sheetSays s → f ≡ planSheet gs s
-write-records gs f s b e = go (takenAnswer (takeRecord planDue f)) refl
+write-records gs f s b e = go (takenAnswer (takeRecord planHeadDue f)) refl
   where
     n : ℕ
     n = wordOf (take 2 (drop 1 f))
 
     value :
-        (k : ℕ) → takenAnswer (takeRecord planDue f) ≡ Whole k → (x : Bool) → eqb n (length gs) ≡ x → readCount gs n (drop 3 f) ≡ sheetSays s
+        (k : ℕ) → takenAnswer (takeRecord planHeadDue f) ≡ Whole k → (x : Bool) → eqb n (length gs) ≡ x → readCount gs n (drop 3 f) ≡ sheetSays s
         → f ≡ planSheet gs s
     value k w true g h =
-        let v = stands planDue f k w in
+        let v = stands planHeadDue f k w in
         let first : f ≡ 16 ∷ drop 1 f = v .starts ∙ ap (λ x. x ∷ drop 1 f) (comes-first k (v .comes)) in
         three-again 16 f (gateRecords gs s ++ (9 ∷ [])) b (head-at gs f k w .fits) first (unread gs (drop 3 f) s (bytes-drop 3 f b) (rw g at h))
         ∙ ap (λ m. 16 ∷ (twoBytes m ++ (gateRecords gs s ++ (9 ∷ [])))) (eqb-true n (length gs) g)
     value k w false g h = no-setting BadSetting s (rw g at h)
 
-    go : (a : Taken) → takenAnswer (takeRecord planDue f) ≡ a → f ≡ planSheet gs s
+    go : (a : Taken) → takenAnswer (takeRecord planHeadDue f) ≡ a → f ≡ planSheet gs s
     go (Broken r) w = no-setting r s (sym (head-broken gs f r w) ∙ e)
     go (Whole k) w = value k w (eqb n (length gs)) refl (sym (head-at gs f k w .next) ∙ e)
 

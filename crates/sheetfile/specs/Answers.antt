@@ -12,7 +12,7 @@ use Rattle.network.specs.Networks.{Network, tableFault}
 use Rattle.network.specs.Plans.{isPlan}
 use Rattle.network.specs.Replies.{refusalNumber}
 use Rattle.file_records.specs.declared.WriteAnswer.{WriteAnswer}
-use Rattle.file_records.specs.Puts.{firstOf, Put, roomFor}
+use Rattle.file_records.specs.Puts.{firstOf, Wrote, roomFor}
 use Rattle.sheetfile.specs.declared.SheetAnswer.{SheetAnswer}
 use Rattle.sheetfile.specs.declared.SheetAnswer.the-variants.{Refused, Read}
 use Rattle.sheetfile.specs.Sheets.{sheetOf, replySheet}
@@ -69,7 +69,7 @@ abbrev pub SheetRead : Network → List ℕ → List ℕ → SheetAnswer → Lis
 SheetRead N f setting r setting′ = Got (sheetWithRoom (length setting) (readSheet N f)) setting r setting′
 
 abbrev pub SheetWritten : Network → List ℕ → List ℕ → WriteAnswer → List ℕ → Type 0
-SheetWritten N s out r out′ = Put (sheetFault N s (length out)) (sheetOf N s) out r out′
+SheetWritten N s out r out′ = Wrote (sheetFault N s (length out)) (sheetOf N s) out r out′
 
 abbrev pub ReplyWritten : Network → List ℕ → WriteAnswer → List ℕ → Type 0
-ReplyWritten N out r out′ = Put (replyFault N (length out)) (replySheet N) out r out′
+ReplyWritten N out r out′ = Wrote (replyFault N (length out)) (replySheet N) out r out′

@@ -21,8 +21,8 @@ pub data SheetReading : Type 0 where
   sheetSays : List ℕ → SheetReading
 
 -- The kinds that may come: where the head is due only it, after that a gated reach or the end.
-abbrev pub planDue : List ℕ
-planDue = planKind ∷ []
+abbrev pub planHeadDue : List ℕ
+planHeadDue = planKind ∷ []
 
 abbrev pub gateDue : List ℕ
 gateDue = asDrawnKind ∷ turnedKind ∷ endKind ∷ []
@@ -61,7 +61,7 @@ readCount gs n rest = cond (eqb n (length gs)) (readGates gs rest) (sheetRefused
 
 -- The head, the records, the end.
 unfoldable pub readRecords : List ℕ → List ℕ → SheetReading
-readRecords gs f = onSheetRecord (takeRecord planDue f) (λ k body rest. readCount gs (wordOf body) rest)
+readRecords gs f = onSheetRecord (takeRecord planHeadDue f) (λ k body rest. readCount gs (wordOf body) rest)
 
 -- "Then 6, then 8 if a sheet's setting isn't a plan."
 abbrev pub ifPlan : Network → SheetReading → SheetReading

@@ -19,7 +19,7 @@ pub const SHUT_IN: u8 = 20;
 pub const LONE: u8 = 21;
 
 // The kinds that may come in a plan sheet where the head is due, and after it.
-pub const PLAN_DUE: [u8; 1] = [PLAN];
+pub const PLAN_HEAD_DUE: [u8; 1] = [PLAN];
 
 pub const GATE_DUE: [u8; 3] = [AS_DRAWN, TURNED, END];
 

@@ -6,12 +6,12 @@ use mathlib.Core.Path.{sym, _∙_}
 use lib.ListN.{length}
 use borrow.Author.Needs.{needs}
 use Rattle.netfile_format.proofs.Steps.{reach-at}
-use Rattle.netfile_format.proofs.Scan.{Stood, Scanned, scan-start, scan-broken, scan-over, scan-end, scan-full, scan-stray, scan-next}
+use Rattle.netfile_format.proofs.Scan.{ReachStood, FileScanned, scan-start, scan-broken, scan-over, scan-end, scan-full, scan-stray, scan-next}
 use Rattle.netfile_reading.proofs.check_reaches.Statement.{statement}
 use Rattle.netfile_reading.proofs.check_reaches.Tie as tie
 
 abbrev Inv-loop : tie.InvT-loop
-Inv-loop file basins at₀ reaches₀ at reaches = Scanned basins file at reaches
+Inv-loop file basins at₀ reaches₀ at reaches = FileScanned basins file at reaches
 
 abbrev μ-loop : tie.MeasureT-loop
 μ-loop file basins at₀ reaches₀ at reaches = length file - at
@@ -19,7 +19,7 @@ abbrev μ-loop : tie.MeasureT-loop
 -- the record that stands at the cursor
 here :
     (c : tie.After-known-told2 Inv-loop μ-loop)
-    → Stood (c .before .before .before .before .before .before .args .file .now) (c .before .before .before .before .loop .at) (c .before .kind .given .0 .0)
+    → ReachStood (c .before .before .before .before .before .before .args .file .now) (c .before .before .before .before .loop .at) (c .before .kind .given .0 .0)
 here c = sym (c .before .before .before .reach-or-end .ensures) ∙ c .before .kind .given .1
 
 -- where it is a reach, it fits

@@ -4,12 +4,12 @@ use Prim.Native.Nat.{_+_, _-_, _≤_, _<_}
 use native.Mathlib.Omega.{arith}
 use lib.ListN.{length}
 use borrow.Author.Needs.{needs}
-use Rattle.netfile_format.proofs.Filling.{Filling, filling-none, filling-more, filling-all}
+use Rattle.netfile_format.proofs.Filling.{RowsFilling, filling-none, filling-more, filling-all}
 use Rattle.netfile_reading.proofs.fill.Statement.{statement}
 use Rattle.netfile_reading.proofs.fill.Tie as tie
 
 abbrev Inv-loop : tie.InvT-loop
-Inv-loop file n kinds₀ a₀ b₀ i₀ at₀ kinds a b i at = Filling file n kinds₀ a₀ b₀ kinds a b i at
+Inv-loop file n kinds₀ a₀ b₀ i₀ at₀ kinds a b i at = RowsFilling file n kinds₀ a₀ b₀ kinds a b i at
 
 abbrev μ-loop : tie.MeasureT-loop
 μ-loop file n kinds₀ a₀ b₀ i₀ at₀ kinds a b i at = n - i

@@ -5,19 +5,19 @@ use native.Mathlib.Omega.{arith}
 use mathlib.Core.Path.{sym, _∙_}
 use lib.ListN.{length, drop}
 use borrow.Author.Needs.{needs}
-use Rattle.sheetfile.proofs.Steps.{Stood}
-use Rattle.sheetfile.proofs.Scan.{Scanned, scan-start, scan-broken, scan-early, scan-over, scan-end, scan-fits, scan-after, scan-other, scan-room, scan-next}
+use Rattle.sheetfile.proofs.Steps.{GateStood}
+use Rattle.sheetfile.proofs.Scan.{SheetScanned, scan-start, scan-broken, scan-early, scan-over, scan-end, scan-fits, scan-after, scan-other, scan-room, scan-next}
 use Rattle.sheet_reading.proofs.read_gates.Statement.{statement}
 use Rattle.sheet_reading.proofs.read_gates.Tie as tie
 
 abbrev Inv-loop : tie.InvT-loop
-Inv-loop kinds sheet held₀ at₀ i₀ k₀ held at i k = Scanned kinds sheet held₀ held at i k
+Inv-loop kinds sheet held₀ at₀ i₀ k₀ held at i k = SheetScanned kinds sheet held₀ held at i k
 
 abbrev μ-loop : tie.MeasureT-loop
 μ-loop kinds sheet held₀ at₀ i₀ k₀ held at i k = length sheet - at
 
 -- the record that stands at the cursor
-here : (c : tie.After-next-gate Inv-loop μ-loop) → Stood (drop (c .before .before .before .before .before .loop .at) (c .before .before .before .before .before .before .before .before .before .args .sheet .now)) (c .before .before .kind .given .0 .0)
+here : (c : tie.After-next-gate Inv-loop μ-loop) → GateStood (drop (c .before .before .before .before .before .loop .at) (c .before .before .before .before .before .before .before .before .before .args .sheet .now)) (c .before .before .kind .given .0 .0)
 here c = sym (c .before .before .before .before .gate-or-end .ensures) ∙ c .before .before .kind .given .1
 
 -- where it is a gated reach, it fits

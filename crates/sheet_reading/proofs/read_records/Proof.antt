@@ -5,7 +5,7 @@ use mathlib.Core.Path.{_≡_, refl, sym, _∙_}
 use borrow.Author.Needs.{needs}
 use Rattle.file_records.specs.declared.Taken.the-variants.{Whole}
 use Rattle.file_records.specs.Records.{takeRecord, takenAnswer}
-use Rattle.sheetfile.specs.Readings.{planDue}
+use Rattle.sheetfile.specs.Readings.{planHeadDue}
 use Rattle.sheetfile.specs.Rows.{gatesRow}
 use Rattle.sheetfile.proofs.Gates.{count-row}
 use Rattle.sheetfile.proofs.Steps.{head-at, head-broken}
@@ -15,7 +15,7 @@ use Rattle.sheet_reading.proofs.read_records.Statement.{statement}
 use Rattle.sheet_reading.proofs.read_records.Tie as tie
 
 -- where a head stands
-head : (c : tie.After-enum-told) → takenAnswer (takeRecord planDue (c .before .before .before .before .before .before .before .args .sheet .now)) ≡ Whole (c .enum-told .given .0 .0)
+head : (c : tie.After-enum-told) → takenAnswer (takeRecord planHeadDue (c .before .before .before .before .before .before .before .args .sheet .now)) ≡ Whole (c .enum-told .given .0 .0)
 head c = sym (c .before .before .take-record .ensures) ∙ c .enum-told .given .1
 
 slice-aggregate-take-record : tie.Need-slice-aggregate-take-record
