@@ -11,7 +11,7 @@ ghost use mathlib.Core.Path.{_≡_};
 ghost use lib.ListN.{length};
 ghost use Rattle.network.specs.Networks.{maxReaches};
 ghost use Rattle.tables.specs.Rows.{netOf};
-ghost use Rattle.sheetfile.specs.Answers.{PlanKept, SheetRead, SheetWritten, ReplyWritten};
+ghost use Rattle.sheetfile.specs.Answers.{SheetRead, SheetWritten, ReplyWritten};
 
 // The sheet of a plan goes to the first bytes of the buffer. Refuses 1, 2, 3, 8 and 7.
 pub fn write_sheet_rows(
@@ -46,34 +46,7 @@ pub fn write_reply_rows(
 {
     let mut plan = [0u8; MAX_REACHES];
     let mut marks = [0u8; MARK_BYTES];
-    sheet_reply::write_reply_in(basins, kinds, a, b, &mut plan, &mut marks, out)
-}
-
-// The bytes that a sheet says, if they are a plan of the network, go to the first bytes of the setting's buffer. Refuses 8, then 7.
-fn keep_plan(
-    basins: u16,
-    kinds: &[u8],
-    a: &[u16],
-    b: &[u16],
-    bytes: &[u8],
-    setting: &mut [u8],
-) -> SheetAnswer
-    ensures { λ r. ⌜
-        PlanKept (netOf basins (now (kinds .entry)) (now (a .entry)) (now (b .entry))) (now (bytes .entry)) (now (setting .entry))
-        r (now (setting .exit))
-        ⌝ }
-{
-    match planner::check_rows(basins, kinds, a, b, bytes) {
-        CheckAnswer::Refused(r) => SheetAnswer::Refused(r),
-        CheckAnswer::No => SheetAnswer::Refused(Refusal::BadSetting),
-        CheckAnswer::Yes => {
-            if setting.len() < bytes.len() {
-                return SheetAnswer::Refused(Refusal::ShortBuffer);
-            }
-            file_records::put_bytes(setting, 0, bytes);
-            SheetAnswer::Read(bytes.len())
-        }
-    }
+    sheet_plans::write_reply_in(basins, kinds, a, b, &mut plan, &mut marks, out)
 }
 
 // The reader, with lent working memory.
@@ -98,7 +71,7 @@ fn read_sheet_in(
     let m = tables::row_count(kinds, a, b);
     match sheet_reading::read_records(&kinds[..m], sheet, held) {
         SheetAnswer::Refused(r) => SheetAnswer::Refused(r),
-        SheetAnswer::Read(n) => keep_plan(basins, kinds, a, b, &held[..n], setting),
+        SheetAnswer::Read(n) => sheet_plans::keep_plan(basins, kinds, a, b, &held[..n], setting),
     }
 }
 

@@ -36,9 +36,9 @@ use Rattle.sheetfile.specs.Answers.{sheetAnswer, settingRead, Got, planFault, s
 use Rattle.sheet_laws.specs.Laws.{SheetWriteRead, sheetAgain, SheetReadWrite, checkedBack, SheetReadCheck, replyRead, ReplyWriteRead, Replies, says-plan, says-shut-in, says-lone}
 use Rattle.sheetfile.proofs.Sheets.{read-write, write-read, was-read}
 use Rattle.file_records.proofs.Puts.{first-assoc, first-of-none, put-refused, unwritten, written, written-front}
-use Rattle.sheet.proofs.Calls.{Plan, no-fault}
-use Rattle.sheet.proofs.Getting.{got-refused, refused-is}
-use Rattle.sheet_reply.proofs.Replies.{First, is-plan, is-shut, is-lone, first-cases}
+use Rattle.sheet_plans.proofs.Calls.{Plan, no-fault}
+use Rattle.sheet_plans.proofs.Getting.{got-refused, refused-is}
+use Rattle.sheet_plans.proofs.Replies.{First, is-plan, is-shut, is-lone, first-cases}
 
 -- ---- written, then read
 

@@ -22,7 +22,7 @@ use Rattle.sheetfile.specs.declared.SheetAnswer.{SheetAnswer}
 use Rattle.sheetfile.specs.declared.SheetAnswer.the-variants.{Refused, Read}
 use Rattle.sheetfile.specs.Readings.{SheetReading, sheetRefused, sheetSays, readRecords, ifPlan, unlessFault, readSheet, sheetWithRoom}
 use Rattle.sheetfile.specs.Answers.{sheetAnswer, settingRead, Got, Held}
-use Rattle.sheet.proofs.Calls.{checkFault, judged}
+use Rattle.sheet_plans.proofs.Calls.{checkFault, judged}
 
 -- ---- what is left in the buffer
 

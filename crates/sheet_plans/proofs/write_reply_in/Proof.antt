@@ -1,4 +1,4 @@
--- `sheet_reply::write_reply_in` meets its contract: the planner's first plan, and then the sheet of what it gave.
+-- `sheet_plans::write_reply_in` meets its contract: the planner's first plan, and then the sheet of what it gave.
 -- Assumes nothing.
 use mathlib.Core.Path.{ap, _∙_}
 use borrow.Author.Needs.{needs}
@@ -6,9 +6,9 @@ use Rattle.network.specs.Networks.{Network}
 use Rattle.tables.specs.Rows.{netOf}
 use Rattle.planner.specs.declared.Answer.the-variants.{Given}
 use Rattle.planner.specs.declared.Verdict.the-variants.{Plan}
-use Rattle.sheet_reply.proofs.Replies.{reply-refused, reply-roomy, reply-put}
-use Rattle.sheet_reply.proofs.write_reply_in.Statement.{statement}
-use Rattle.sheet_reply.proofs.write_reply_in.Tie as tie
+use Rattle.sheet_plans.proofs.Replies.{reply-refused, reply-roomy, reply-put}
+use Rattle.sheet_plans.proofs.write_reply_in.Statement.{statement}
+use Rattle.sheet_plans.proofs.write_reply_in.Tie as tie
 
 -- the network that is lent
 abbrev net : tie.Start → Network

@@ -1,12 +1,12 @@
--- `sheet::keep_plan` meets its contract: the planner's check, the room, and then the bytes.
+-- `sheet_plans::keep_plan` meets its contract: the planner's check, the room, and then the bytes.
 -- Assumes nothing.
 use mathlib.Core.Path.{refl, sym, _∙_}
 use Rattle.network.specs.Networks.{Network}
 use Rattle.tables.specs.Rows.{netOf}
 use borrow.Author.Needs.{needs}
-use Rattle.sheet.proofs.Getting.{kept-refused, kept-short, kept-plan}
-use Rattle.sheet.proofs.keep_plan.Statement.{statement}
-use Rattle.sheet.proofs.keep_plan.Tie as tie
+use Rattle.sheet_plans.proofs.Getting.{kept-refused, kept-short, kept-plan}
+use Rattle.sheet_plans.proofs.keep_plan.Statement.{statement}
+use Rattle.sheet_plans.proofs.keep_plan.Tie as tie
 
 -- the network that is lent
 abbrev net : tie.Start → Network

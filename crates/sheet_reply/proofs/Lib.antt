@@ -1,2 +1,0 @@
--- What the network gets, and its sheet.
-pub mod Replies
