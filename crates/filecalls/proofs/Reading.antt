@@ -15,12 +15,12 @@ use Rattle.network.specs.declared.Reach.{Reach}
 use Rattle.network.specs.declared.Refusal.the-variants.{ShortBuffer}
 use Rattle.network.specs.Networks.{Network, maxReaches}
 use Rattle.network.specs.Tables.{kindNumber, tableOf}
+use Rattle.network.proofs.Networks.{accepted}
 use Rattle.tables.proofs.Laws.{table-of-rows}
 use Rattle.netfile_format.specs.declared.ReadAnswer.{ReadAnswer}
 use lib.Pow.{areBytes}
 use Rattle.netfile_format.specs.Files.{Reading, refused, read, readFile}
 use Rattle.netfile_format.specs.Answers.{roomOf, readAnswer, readingNumber, withRoom, reachesRead, RowsFilled, NetworkRead}
-use Rattle.netfile_format.proofs.Accepting.{good}
 use Rattle.netfile_format.proofs.Files.{write-read}
 use Rattle.lent.specs.declared.Packed.{Packed}
 use Rattle.lent.specs.Rows.{unpackedInto}
@@ -29,7 +29,7 @@ use Rattle.filecalls.specs.Reads.{leftIn, countOf, ReadPacked}
 
 -- no more reaches are read than a network may have
 few : (file : List ℕ) (N : Network) → areBytes file ≡ true → readFile file ≡ read N → length (N .reaches) ≤ maxReaches
-few file N b e = leb-true (length (N .reaches)) maxReaches (good N (write-read file N b e .accepted) .few)
+few file N b e = accepted N (write-read file N b e .accepted) .few-reaches
 
 room-usable : (file : List ℕ) → areBytes file ≡ true → (room : ℕ) → withRoom (min room maxReaches) (readFile file) ≡ withRoom room (readFile file)
 room-usable file b room = go (readFile file) refl
