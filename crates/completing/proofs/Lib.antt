@@ -1,0 +1,3 @@
+-- The laws of completing a partial orientation.
+pub mod Gates
+pub mod Goings

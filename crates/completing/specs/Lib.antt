@@ -1,0 +1,3 @@
+-- What the contracts of the functions that complete a partial orientation say.
+pub mod Gates
+pub mod Greedy
