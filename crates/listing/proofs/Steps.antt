@@ -18,11 +18,12 @@ use Rattle.network.proofs.Networks.{accepted}
 use Rattle.network.proofs.Order.{setting-length, plan-setting}
 use Rattle.tables.specs.Rows.{netOf, gatesIn, waysRow, bytesRow}
 use Rattle.tables.proofs.Laws.{row-gates}
-use Rattle.gates.specs.Ready.{Ready}
-use Rattle.finder.specs.Seeks.{AtPlan}
-use Rattle.runs.specs.Advances.{gatesBefore, PartsAt, Advanced, moved, at-last, Spare, Primed, elsewhere, at-plan}
-use Rattle.runs.proofs.Rewrites.{gates-split}
-use Rattle.runs.proofs.Advances.{spare-ready}
+use Rattle.orienting.specs.Ready.{Ready}
+use Rattle.seeking.specs.Seeks.{AtPlan}
+use Rattle.stepping.specs.Advances.{gatesBefore, PartsAt, Advanced, moved, at-last}
+use Rattle.listing.specs.Priming.{Spare, Primed, elsewhere, at-plan}
+use Rattle.stepping.proofs.Rewrites.{gates-split}
+use Rattle.listing.proofs.Priming.{spare-ready}
 use Rattle.lines.specs.declared.Due.{Due}
 use Rattle.lines.specs.declared.Due.the-variants as D
 use Rattle.listing.specs.declared.Lister.{Lister}

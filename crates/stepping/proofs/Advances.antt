@@ -1,43 +1,35 @@
--- From what the search for the next plan of a plan finds to the step.
+-- From what a step finds to the next plan of a plan.
 -- Assumes nothing.
 use Prim.Native.Nat.{ℕ, _≤_, _<_}
 use native.Mathlib.Omega.{arith}
-use mathlib.Core.Path.{_≡_, refl, sym, ap, subst, subst⁻¹, _∙_}
-use mathlib.Core.Bool.{Bool, true, false, cond, _&&_, true≢false}
+use mathlib.Core.Path.{_≡_, sym, ap, subst, subst⁻¹, _∙_}
+use mathlib.Core.Bool.{true}
 use mathlib.Core.Logic.{⊎-elim}
-use mathlib.Core.Option.{Option, none, some}
 use mathlib.Core.List.{List}
-use lib.ListN.{length, getD, set, replicate, length-replicate}
+use lib.ListN.{length, getD, set}
 use lib.Seq.{getD-set-other}
-use Rattle.network.specs.declared.Refusal.{Refusal}
-use Rattle.network.specs.declared.Refusal.the-variants.{BadSetting}
-use Rattle.network.specs.Networks.{Network, tableFault, Accepted}
+use Rattle.network.specs.Networks.{Network}
 use Rattle.network.specs.Tables.{kindOf}
-use Rattle.network.specs.Settings.{isGated, isSetting, settingFault}
+use Rattle.network.specs.Settings.{isGated, isSetting}
 use Rattle.network.specs.Hangings.{ways}
-use Rattle.network.specs.Plans.{strongUnder, isPlan}
+use Rattle.network.specs.Plans.{isPlan}
 use Rattle.network.specs.Lone.{reachAt}
-use Rattle.network.specs.Replies.{plan, nextAnswer}
+use Rattle.network.specs.Replies.{plan}
 use Rattle.network.proofs.Bools.{decide}
-use Rattle.network.proofs.Networks.{accepted}
 use Rattle.network.proofs.Order.{setting-length, plan-setting}
 use Rattle.tables.specs.Rows.{netOf, gatesIn, waysRow, bytesRow}
 use Rattle.tables.specs.Partial.{bytesOf}
 use Rattle.tables.proofs.Laws.{row-length, row-bytes, row-ways, row-gates, row-kind}
-use Rattle.search.specs.Chains.{Index, Indexable}
-use Rattle.gates.specs.Ready.{Ready}
-use Rattle.gates.specs.Least.{Fits}
-use Rattle.gates.specs.Greedy.{Completed}
-use Rattle.gates.specs.Follows.{upTo, TurnedBack, turned-at, nowhere}
-use Rattle.gates.proofs.Least.{same-plain, has-decided, fits-at}
-use Rattle.gates.proofs.Nexts.{gate-byte, hung-length, hung-below}
-use Rattle.planner.specs.declared.CheckAnswer.the-variants as C
-use Rattle.planner.specs.Answers.{yesOr, unlessRefused, checkOf}
-use Rattle.finder.specs.Rooms.{Level, Room}
-use Rattle.finder.specs.Seeks.{AtPlan}
-use Rattle.finder.proofs.Rooms.{room-index, room-ready}
-use Rattle.runs.specs.Advances.{PartsAt, Advanced, moved, Spare}
-use Rattle.runs.proofs.Rewrites.{front-same, gate-row}
+use Rattle.orientations.specs.Least.{Fits}
+use Rattle.orientations.specs.Partials.{upTo}
+use Rattle.orientations.proofs.Least.{same-plain, has-decided, fits-at}
+use Rattle.orientations.proofs.Nexts.{gate-byte, oriented-length, oriented-below}
+use Rattle.completing.specs.Greedy.{Completed}
+use Rattle.seeking.specs.Levels.{Level}
+use Rattle.seeking.specs.Seeks.{Stepped, stepped-at, no-step, AtPlan}
+use Rattle.seeking.proofs.Seeks.{plan-next, plan-last}
+use Rattle.stepping.specs.Advances.{PartsAt, Advanced, moved, at-last}
+use Rattle.stepping.proofs.Rewrites.{front-same, gate-row}
 
 module _ (n : ℕ) (ks xs ys : List ℕ) (v : Level n ks xs ys) where
   abbrev N : Network
@@ -61,7 +53,7 @@ module _ (n : ℕ) (ks xs ys : List ℕ) (v : Level n ks xs ys) where
     held = upTo N (ways (N .reaches) s) r
 
     before-r : (j : ℕ) → j < r → getD (set held r 1) j 3 ≡ getD (ways (N .reaches) s) j 3
-    before-r j k = getD-set-other held r j 1 3 (omega arith) ∙ hung-below N s r j (omega arith) k
+    before-r j k = getD-set-other held r j 1 3 (omega arith) ∙ oriented-below N s r j (omega arith) k
 
     alike : (j : ℕ) → j < r → getD (ways (N .reaches) q) j 3 ≡ getD (ways (N .reaches) s) j 3
     alike j k =
@@ -71,7 +63,7 @@ module _ (n : ℕ) (ks xs ys : List ℕ) (v : Level n ks xs ys) where
         (decide (isGated ((reachAt N j) .kind)))
 
     turns : getD (ways (N .reaches) q) r 3 ≡ 1
-    turns = fits-at N q held r 1 (omega (arith, hung-length N s r (omega arith))) l (omega arith) f
+    turns = fits-at N q held r 1 (omega (arith, oriented-length N s r (omega arith))) l (omega arith) f
 
     in-row : r < length ks
     in-row = omega (arith, many)
@@ -93,60 +85,22 @@ module _ (n : ℕ) (ks xs ys : List ℕ) (v : Level n ks xs ys) where
         }
 
   -- so it is with the next plan
-  pub parted : {s us ws ws′ : List ℕ} {to r : ℕ} → AtPlan n ks xs ys s us → r < length xs → TurnedBack N us to ws r → Completed N ws ws′ → PartsAt ks s (bytesRow ks ws′) r
-  parted {s} {us} {ws} {ws′} {to} {r} p l (turned-at k g z e str f) c =
-      let q : List ℕ = bytesRow ks ws′ in
-      let is : us ≡ ways (N .reaches) s = p .hung ∙ sym (row-ways ks xs ys (v .ends-a) (v .ends-b) s) in
-      let fits : Fits N q (set (upTo N (ways (N .reaches) s) r) r 1) =
-      subst (λ (h : List ℕ). Fits N h (set (upTo N (ways (N .reaches) s) r) r 1)) (bytes ws′)
-      (subst (λ (u : List ℕ). Fits N (bytesOf (N .reaches) ws′) (set (upTo N u r) r 1)) is (subst (λ (u : List ℕ). Fits N (bytesOf (N .reaches) ws′) u) e (c .least .fits))) in
-      parts s q r (plan-setting N s (p .is-plan)) (subst (λ (h : List ℕ). isSetting N h ≡ true) (bytes ws′) (plan-setting N (bytesOf (N .reaches) ws′) (c .least .is-plan)))
-      (omega (arith, many, v .ends-a)) g (ap (λ (u : List ℕ). getD u r 3) (sym is) ∙ z) fits
-  parted p l (nowhere e f) c = absurd (omega (arith, many, v .ends-a))
+  parted : {s us ws : List ℕ} {r : ℕ} → AtPlan n ks xs ys s us → r < length (N .reaches) → isGated ((reachAt N r) .kind) ≡ true → getD us r 3 ≡ 0 → Completed N (set (upTo N us r) r 1) ws → PartsAt ks s (bytesRow ks ws) r
+  parted {s} {us} {ws} {r} p l g z c =
+      let is : us ≡ ways (N .reaches) s = p .oriented ∙ sym (row-ways ks xs ys (v .ends-a) (v .ends-b) s) in
+      let fits : Fits N (bytesRow ks ws) (set (upTo N (ways (N .reaches) s) r) r 1) =
+      subst (λ (h : List ℕ). Fits N h (set (upTo N (ways (N .reaches) s) r) r 1)) (bytes ws)
+      (subst (λ (u : List ℕ). Fits N (bytesOf (N .reaches) ws) (set (upTo N u r) r 1)) is (c .least .fits)) in
+      parts s (bytesRow ks ws) r (plan-setting N s (p .is-plan)) (subst (λ (h : List ℕ). isSetting N h ≡ true) (bytes ws) (plan-setting N (bytesOf (N .reaches) ws) (c .least .is-plan)))
+      l g (ap (λ (u : List ℕ). getD u r 3) (sym is) ∙ z) fits
 
-  pub step-on : {s ws ws′ : List ℕ} {r : ℕ} → PartsAt ks s (bytesRow ks ws′) r → nextAnswer N s ≡ plan (bytesOf (N .reaches) ws′) → Completed N ws ws′ → Advanced N ks s ws′ r
-  step-on {s} {ws} {ws′} {r} d e c =
-      moved d (e ∙ ap plan (bytes ws′)) (subst (λ p. isPlan N p ≡ true) (bytes ws′) (c .least .is-plan))
-      (c .hung ∙ ap (ways (N .reaches)) (bytes ws′) ∙ row-ways ks xs ys (v .ends-a) (v .ends-b) (bytesRow ks ws′))
-
-  -- where it is left nowhere, the number of reaches is told
-  pub not-parted : {us ws : List ℕ} {to r : ℕ} → to ≤ length xs → (r < length xs → ⊥) → TurnedBack N us to ws r → r ≡ length ks
-  not-parted b m (turned-at k g z e str f) = absurd (m (omega arith))
-  not-parted b m (nowhere e f) = e ∙ many
-
--- ---- preparing working memory
-
--- a check that says yes: the table is accepted, and the setting is a plan
-yes-both : (N : Network) (s : List ℕ) (o : Option Refusal) (b c : Bool) → tableFault N ≡ o → unlessRefused o (unlessRefused (cond b none (some BadSetting)) (yesOr (b && c))) ≡ C.Yes → Accepted N × (b && c ≡ true)
-yes-both N s none true true t e = (t, refl)
-yes-both N s none true false t e = absurd (true≢false cc)
-yes-both N s none false c t e = absurd (true≢false cc)
-yes-both N s (some r) b c t e = absurd (true≢false cc)
-
-pub yes-plan : (N : Network) (s : List ℕ) → checkOf N s ≡ C.Yes → Accepted N × (isPlan N s ≡ true)
-unfolding checkOf settingFault isPlan
-yes-plan N s e = yes-both N s (tableFault N) (isSetting N s) (strongUnder N s) refl e
-
--- a row of ways, and working memory, for an accepted table whose rows are of one length
-module _ {n : ℕ} {ks xs ys ws head next : List ℕ} (v : Level n ks xs ys) (z : Spare ks ws head next) where
-  pub spare-ways : length ws ≡ length ks
-  spare-ways = omega (arith, z .ways-spare, accepted (netOf n ks xs ys) (v .accepted) .few-reaches, row-length ks xs ys (v .ends-a) (v .ends-b))
-
-  room : {seen queue : List ℕ} → n ≤ length seen → length seen ≤ length queue → Room n ks xs ys ws head next seen queue
-  room h k =
-      record {
-        accepted = v .accepted;
-        ends-a = v .ends-a;
-        ends-b = v .ends-b;
-        ways-room = spare-ways;
-        head-room = omega (arith, z .head-spare, accepted (netOf n ks xs ys) (v .accepted) .few-basins);
-        next-room = omega (arith, z .next-spare, accepted (netOf n ks xs ys) (v .accepted) .few-reaches, row-length ks xs ys (v .ends-a) (v .ends-b), v .ends-a);
-        seen-room = h;
-        queue-room = k;
-      }
-
-  pub spare-index : {head′ next′ : List ℕ} → length head′ ≡ length head → length next′ ≡ length next → Indexable n xs ys head′ next′
-  spare-index e f = room-index (room {seen = replicate n 0} {queue = replicate n 0} (omega (arith, length-replicate {A = ℕ} n 0)) (omega arith)) e f
-
-  pub spare-ready : {ws′ head′ next′ seen queue : List ℕ} → length ws′ ≡ length ws → Index n xs ys head′ next′ → n ≤ length seen → length seen ≤ length queue → Ready n xs ys ws′ head′ next′ seen queue
-  spare-ready {ws′} {head′} {next′} {seen} {queue} e ix h k = room-ready {seen = seen} {queue = queue} (room h k) e ix refl refl
+  -- what a step from a plan came to
+  pub advanced : {s us ws₀ ws : List ℕ} {r : ℕ} → AtPlan n ks xs ys s us → ws₀ ≡ waysRow ks s → Stepped N us (length xs) ws r → Advanced N ks s ws r
+  advanced {s} {us} {ws₀} {ws} {r} p e d = go d
+    where
+      go : Stepped N us (length xs) ws r → Advanced N ks s ws r
+      go (stepped-at l g z f c) =
+          let below : r < length (N .reaches) = omega (arith, many, v .ends-a) in
+          moved (parted p below g z c) (plan-next n ks xs ys p e d l ∙ ap plan (bytes ws)) (subst (λ p. isPlan N p ≡ true) (bytes ws) (c .least .is-plan))
+          (c .oriented ∙ ap (ways (N .reaches)) (bytes ws) ∙ row-ways ks xs ys (v .ends-a) (v .ends-b) (bytesRow ks ws))
+      go (no-step m f) = at-last (m ∙ many) (plan-last n ks xs ys p e d (λ l. omega (arith, many, v .ends-a)))

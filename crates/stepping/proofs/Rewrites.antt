@@ -14,7 +14,7 @@ use Rattle.network.specs.Tables.{kindOf}
 use Rattle.network.specs.Settings.{isGated}
 use Rattle.network.specs.Hangings.{way, after}
 use Rattle.tables.specs.Rows.{gatesIn, waysRow, bytesRow}
-use Rattle.runs.specs.Advances.{gatesBefore}
+use Rattle.stepping.specs.Advances.{gatesBefore}
 
 -- the gates before reach r and those from it on are all
 gates-more : (g : Bool) (m k n : ℕ) → n ≡ m + k → cond g (suc n) n ≡ cond g (suc m) m + k

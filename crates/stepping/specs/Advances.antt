@@ -1,19 +1,17 @@
 -- What a step from a plan to the next leaves.
 -- Assumes nothing.
-use Prim.Native.Nat.{ℕ, _*_, _<_, min}
+use Prim.Native.Nat.{ℕ, _<_}
 use mathlib.Core.Path.{_≡_}
-use mathlib.Core.Bool.{Bool, true, false}
+use mathlib.Core.Bool.{true}
 use mathlib.Core.List.{List}
 use Rattle.network.specs.declared.Refusal.the-variants.{LastPlan}
 use lib.ListN.{length, getD, take}
-use Rattle.network.specs.Networks.{Network, maxBasins, maxReaches}
+use Rattle.network.specs.Networks.{Network}
 use Rattle.network.specs.Tables.{kindOf}
 use Rattle.network.specs.Settings.{isGated}
 use Rattle.network.specs.Plans.{isPlan}
 use Rattle.network.specs.Replies.{plan, refused, nextAnswer}
-use Rattle.search.specs.Chains.{Index}
 use Rattle.tables.specs.Rows.{gatesIn, waysRow, bytesRow}
-use Rattle.finder.specs.Seeks.{AtPlan}
 
 -- The number of gated reaches before reach r, by their kinds: the place of a gate's byte in a setting.
 abbrev pub gatesBefore : List ℕ → ℕ → ℕ
@@ -32,14 +30,3 @@ pub data Advanced (N : Network) (ks s : List ℕ) : List ℕ → ℕ → Type 0 
   moved : {ws′ : List ℕ} {r : ℕ} → PartsAt ks s (bytesRow ks ws′) r → nextAnswer N s ≡ plan (bytesRow ks ws′) → isPlan N (bytesRow ks ws′) ≡ true
       → ws′ ≡ waysRow ks (bytesRow ks ws′) → Advanced N ks s ws′ r
   at-last : {ws′ : List ℕ} {r : ℕ} → r ≡ length ks → nextAnswer N s ≡ refused LastPlan → Advanced N ks s ws′ r
-
--- Working memory for a table: for as many ways as it has reaches, up to the limit, and for an index.
-pub record Spare (ks ws head next : List ℕ) : Type 0 where
-  pub ways-spare : length ws ≡ min (length ks) maxReaches
-  pub head-spare : length head ≡ maxBasins
-  pub next-spare : length next ≡ 2 * maxReaches
-
--- It stands at the plan s: its ways, and the index of the half-edges. Or s is no plan of an accepted table whose rows are of one length.
-pub data Primed (n : ℕ) (ks xs ys s ws head next : List ℕ) : Bool → Type 0 where
-  elsewhere : {r : Bool} → r ≡ false → Primed n ks xs ys s ws head next r
-  at-plan : {r : Bool} → r ≡ true → AtPlan n ks xs ys s ws → Index n xs ys head next → Primed n ks xs ys s ws head next r

@@ -6,10 +6,9 @@ ghost use mathlib.Core.List.{_++_};
 ghost use Prim.Native.Nat.{_≤_};
 ghost use lib.ListN.{length, take, drop};
 ghost use Rattle.tables.specs.Rows.{netOf, gatesIn, bytesRow};
-ghost use Rattle.gates.specs.Ready.{Ready};
-ghost use Rattle.finder.specs.Seeks.{AtPlan};
-ghost use Rattle.runs.specs.Advances.{gatesBefore, Advanced, Spare, Primed};
-use planner::CheckAnswer;
+ghost use Rattle.orienting.specs.Ready.{Ready};
+ghost use Rattle.seeking.specs.Seeks.{AtPlan};
+ghost use Rattle.stepping.specs.Advances.{gatesBefore, Advanced};
 
 // Copies a row.
 fn copy_row(from: &[u8], to: &mut [u8])
@@ -20,37 +19,6 @@ fn copy_row(from: &[u8], to: &mut [u8])
     while i < from.len() {
         to[i] = from[i];
         i += 1;
-    }
-}
-
-// Prepares working memory for the plans after a setting, if it is a plan: its ways, and the index of the half-edges. Says whether it is.
-pub fn prime(
-    basins: u16,
-    kinds: &[u8],
-    a: &[u16],
-    b: &[u16],
-    setting: &[u8],
-    ways: &mut [u8],
-    head: &mut [u16],
-    next: &mut [u16],
-) -> bool
-    requires { ⌜ Spare (now kinds) (now ways) (now head) (now next) ⌝ }
-    ensures { λ r. ⌜ Primed basins (now (kinds .entry)) (now (a .entry)) (now (b .entry)) (now (setting .entry)) (now (ways .exit)) (now (head .exit)) (now (next .exit)) r ⌝ }
-{
-    if a.len() != kinds.len() {
-        return false;
-    }
-    if b.len() != kinds.len() {
-        return false;
-    }
-    match planner::check_rows(basins, kinds, a, b, setting) {
-        CheckAnswer::Refused(_) => false,
-        CheckAnswer::No => false,
-        CheckAnswer::Yes => {
-            tables::hang(kinds, setting, ways);
-            search::index(basins as usize, a, b, head, next);
-            true
-        }
     }
 }
 
@@ -72,27 +40,12 @@ pub fn advance(
     requires { ⌜ Ready n (now a) (now b) (now ways) (now head) (now next) (now seen) (now queue) ⌝ }
     requires { ⌜ AtPlan n (now kinds) (now a) (now b) (now setting) (now ways) ⌝ }
     requires { ⌜ length (now under) ≡ length (now ways) ⌝ }
-    ensures { λ r. ⌜ Advanced (netOf n (now (kinds .entry)) (now (a .entry)) (now (b .entry))) (now (kinds .entry)) (now (setting .entry)) (now (ways .exit)) r ⌝ }
+    ensures { λ r. ⌜ Advanced (netOf n (now (kinds .entry)) (now (a .entry)) (now (b .entry))) (now (kinds .entry)) (now (setting .entry))
+        (now (ways .exit)) r ⌝ }
 {
     copy_row(ways, under);
-    let at = gates::turn_back(
-        n,
-        kinds,
-        a,
-        b,
-        under,
-        ways,
-        head,
-        next,
-        a.len(),
-        seen,
-        queue,
-    );
-    if at < a.len() {
-        gates::complete(n, kinds, a, b, ways, head, next, at + 1, seen, queue);
-        return at;
-    }
-    at
+    let m = a.len();
+    seeking::step(n, kinds, a, b, under, ways, head, next, m, seen, queue)
 }
 
 // Puts the bytes of the gates from reach r on into a plan in which those of the gates before it stand. The reaches have g gates.

@@ -1,14 +1,14 @@
--- `runs::prime` meets its contract: where the check says yes, the ways are the plan's.
+-- `listing::prime` meets its contract: where the check says yes, the ways are the plan's.
 -- Assumes nothing.
 use native.Mathlib.Omega.{arith}
 use mathlib.Core.Path.{refl, sym, _∙_}
 use borrow.Author.Needs.{needs}
 use Rattle.tables.specs.Rows.{netOf}
-use Rattle.finder.specs.Rooms.{Level}
-use Rattle.runs.specs.Advances.{elsewhere, at-plan}
-use Rattle.runs.proofs.Advances.{yes-plan, spare-ways, spare-index}
-use Rattle.runs.proofs.prime.Statement.{statement}
-use Rattle.runs.proofs.prime.Tie as tie
+use Rattle.seeking.specs.Levels.{Level}
+use Rattle.listing.specs.Priming.{elsewhere, at-plan}
+use Rattle.listing.proofs.Priming.{yes-plan, spare-ways, spare-index}
+use Rattle.listing.proofs.prime.Statement.{statement}
+use Rattle.listing.proofs.prime.Tie as tie
 
 -- where the check says yes
 abbrev start : tie.After-enum-told3 → tie.Start
@@ -69,7 +69,7 @@ returns-5 c =
     record {
       level = level k;
       is-plan = yes-plan (netOf (s .basins) (s .kinds .now) (s .a .now) (s .b .now)) (s .setting .now) (sym (k .before .before .check-rows .ensures) ∙ k .enum-told3 .given .1) .1;
-      hung = c .before .before .before .before .before .before .before .before .before .hang .ensures;
+      oriented = c .before .before .before .before .before .before .before .before .before .hang .ensures;
     }
     (c .before .before .before .before .index .ensures)
 

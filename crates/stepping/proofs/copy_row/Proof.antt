@@ -1,4 +1,4 @@
--- `runs::copy_row` meets its contract: the entries passed are copied.
+-- `stepping::copy_row` meets its contract: the entries passed are copied.
 -- Assumes nothing.
 use Prim.Native.Nat.{ℕ, _≤_, _<_, _-_, _+_}
 use native.Mathlib.Omega.{arith}
@@ -7,8 +7,8 @@ use mathlib.Core.Path.{_≡_, _∙_}
 use mathlib.Core.List.{List}
 use lib.ListN.{length, getD, set, length-set}
 use lib.Seq.{getD-set-same, getD-set-other, ext-getD}
-use Rattle.runs.proofs.copy_row.Statement.{statement}
-use Rattle.runs.proofs.copy_row.Tie as tie
+use Rattle.stepping.proofs.copy_row.Statement.{statement}
+use Rattle.stepping.proofs.copy_row.Tie as tie
 
 abbrev Inv-loop : tie.InvT-loop
 Inv-loop from to₀ i₀ to i = (i ≤ length from) × (length to ≡ length from) × ((k : ℕ) → k < i → getD to k 0 ≡ getD from k 0)

@@ -1,11 +1,11 @@
--- `runs::rewrite` meets its contract: the bytes from reach r on come to stand after those of the gates before it.
+-- `stepping::rewrite` meets its contract: the bytes from reach r on come to stand after those of the gates before it.
 -- Assumes nothing.
 use native.Mathlib.Omega.{arith}
 use lib.ListN.{length-take, length-drop}
 use borrow.Author.Needs.{needs}
-use Rattle.runs.proofs.Rewrites.{gates-rest, rewritten}
-use Rattle.runs.proofs.rewrite.Statement.{statement}
-use Rattle.runs.proofs.rewrite.Tie as tie
+use Rattle.stepping.proofs.Rewrites.{gates-rest, rewritten}
+use Rattle.stepping.proofs.rewrite.Statement.{statement}
+use Rattle.stepping.proofs.rewrite.Tie as tie
 
 sub-rest : tie.Need-sub-rest
 sub-rest c = omega (arith, c .before .before .before .pre .1 .0)
