@@ -10,7 +10,7 @@ use Rattle.network.specs.Tables.{kindOf}
 use Rattle.network.specs.Settings.{isGated}
 use Rattle.network.specs.Hangings.{reached}
 use Rattle.network.specs.Marks.{bit}
-use Rattle.search.specs.Ends.{arcsOf}
+use Rattle.half_edges.specs.Ends.{arcsOf}
 use Rattle.search.specs.Searches.{Noted}
 use Rattle.orienting.specs.Tries.{Tried}
 use Rattle.orienting.proofs.Readies.{tried-same, tried-rest, tried-led, tried-lost}

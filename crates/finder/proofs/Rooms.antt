@@ -6,7 +6,7 @@ use mathlib.Core.Path.{_≡_, sym, _∙_}
 use mathlib.Core.List.{List}
 use lib.ListN.{length}
 use Rattle.network.proofs.Networks.{accepted}
-use Rattle.search.specs.Chains.{Index, Indexable}
+use Rattle.half_edges.specs.Chains.{Index, Indexable}
 use Rattle.tables.specs.Rows.{netOf}
 use Rattle.orienting.specs.Ready.{Ready}
 use Rattle.seeking.specs.Levels.{Level}

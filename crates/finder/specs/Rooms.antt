@@ -7,8 +7,8 @@ use mathlib.Core.List.{List}
 use lib.ListN.{length}
 use Rattle.network.specs.Networks.{Accepted}
 use Rattle.network.specs.Settings.{isSetting}
-use Rattle.search.specs.Ends.{halves}
-use Rattle.search.specs.Chains.{Index, Indexable}
+use Rattle.half_edges.specs.Ends.{halves}
+use Rattle.half_edges.specs.Chains.{Index, Indexable}
 use Rattle.tables.specs.Rows.{netOf, waysRow}
 
 -- The rows with the working memory that they need.

@@ -24,7 +24,7 @@ fn prepare(
         (now (ways .exit)) (now (head .exit)) (now (next .exit)) ⌝ }
 {
     tables::hang(kinds, setting, ways);
-    search::index(n, a, b, head, next);
+    half_edges::index(n, a, b, head, next);
 }
 
 // Whether everything reaches everything under the setting, in lent working memory.

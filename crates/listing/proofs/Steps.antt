@@ -103,7 +103,7 @@ module _ (l : Lister) (ks xs ys ws : List ℕ) (left g : ℕ) (held : g ≡ gate
       where
         stands : (k : ℕ) → Standing (l .basins) ks xs ys (planDue k) (take g bytes) ws′
         stands zero = tt
-        stands (suc k) = subst⁻¹ (λ (v : List ℕ). AtPlan (l .basins) ks xs ys v ws′) in-hand (record { level = p .level; is-plan = is; hung = hung })
+        stands (suc k) = subst⁻¹ (λ (v : List ℕ). AtPlan (l .basins) ks xs ys v ws′) in-hand (record { level = p .level; is-plan = is; oriented = hung })
 
 -- ---- what a step says
 

@@ -6,7 +6,7 @@ use mathlib.Core.Bool.{Bool, true, false}
 use mathlib.Core.List.{List}
 use lib.ListN.{length}
 use Rattle.network.specs.Networks.{maxBasins, maxReaches}
-use Rattle.search.specs.Chains.{Index}
+use Rattle.half_edges.specs.Chains.{Index}
 use Rattle.seeking.specs.Seeks.{AtPlan}
 
 -- Working memory for a table: for as many ways as it has reaches, up to the limit, and for an index.

@@ -395,7 +395,7 @@ fn prime(
         CheckAnswer::No => false,
         CheckAnswer::Yes => {
             tables::hang(kinds, setting, ways);
-            search::index(basins as usize, a, b, head, next);
+            half_edges::index(basins as usize, a, b, head, next);
             true
         }
     }

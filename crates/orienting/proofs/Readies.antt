@@ -16,10 +16,11 @@ use Rattle.network.specs.Marks.{bit}
 use Rattle.network.proofs.Bools.{fails, clash}
 use Rattle.network.proofs.Finds.{every-at, every-make, range-has, range-in}
 use Rattle.network.proofs.Walks.{walk-trans, walk-reached, reached-walk}
-use Rattle.search.specs.Ends.{arcsOf}
+use Rattle.half_edges.specs.Ends.{arcsOf, pick}
 use Rattle.search.specs.Searches.{Searchable, Noted}
+use Rattle.search.proofs.Fronts.{bit-0}
 use Rattle.orienting.specs.Ready.{Ready, FirstUnseen, FirstUnreached, ShutInBasin}
-use Rattle.orienting.specs.Tries.{leftOut, endBy, ledRound, Tried, oriented, undecided}
+use Rattle.orienting.specs.Tries.{leftOut, ledRound, Tried, oriented, undecided}
 
 pub searchable : {n : ℕ} {xs ys ws head next seen queue : List ℕ} (start : ℕ) → Ready n xs ys ws head next seen queue → start < n → Searchable n xs ys ws head next start seen queue
 searchable start r l =
@@ -60,18 +61,18 @@ pub tried-lost : (xs ys ws : List ℕ) (i : ℕ) {way : ℕ} {ws₁ : List ℕ} 
 tried-lost xs ys ws i (oriented p e q) y = clash q y
 tried-lost xs ys ws i (undecided p e q) y = (p, e)
 
--- the ends of a reach, by its way
-pub end-first : (way u v : ℕ) → way ≡ 0 → u ≡ endBy way u v
-end-first zero u v e = refl
-end-first (suc way) u v e = absurd (omega arith)
+-- one of two ends
+pub pick-first : (way u v : ℕ) → way ≡ 0 → u ≡ pick way u v
+pick-first zero u v e = refl
+pick-first (suc way) u v e = absurd (omega arith)
 
-pub end-second : (way u v : ℕ) → (way ≡ 0 → ⊥) → v ≡ endBy way u v
-end-second zero u v n = absurd (n refl)
-end-second (suc way) u v n = refl
+pub pick-second : (way u v : ℕ) → (way ≡ 0 → ⊥) → v ≡ pick way u v
+pick-second zero u v n = absurd (n refl)
+pick-second (suc way) u v n = refl
 
-pub end-below : (way u v : ℕ) {n : ℕ} → u < n → v < n → endBy way u v < n
-end-below zero u v l k = l
-end-below (suc way) u v l k = k
+pub pick-below : (way u v : ℕ) {n : ℕ} → u < n → v < n → pick way u v < n
+pick-below zero u v l k = l
+pick-below (suc way) u v l k = k
 
 -- a reach is a gate exactly if its kind is 0
 pub kind-gate : (k : ℕ) → k ≡ 0 → isGated (kindOf k) ≡ true
@@ -83,10 +84,6 @@ kind-plain (suc zero) n = refl
 kind-plain (suc (suc k)) n = refl
 
 -- ---- all basins
-
-bit-0 : (b : Bool) → bit b ≡ 0 → b ≡ false
-bit-0 true e = absurd (omega arith)
-bit-0 false e = refl
 
 bit-above : (b : Bool) → 0 < bit b → b ≡ true
 bit-above true e = refl

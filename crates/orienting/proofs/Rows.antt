@@ -10,8 +10,8 @@ use Rattle.network.specs.Tables.{kindOf, tableOf}
 use Rattle.network.specs.Settings.{isGated}
 use Rattle.network.specs.Hangings.{arcs, reached}
 use Rattle.network.specs.Lone.{reachAt}
-use Rattle.search.specs.Ends.{arcsOf}
-use Rattle.search.proofs.Laws.{arcs-ends}
+use Rattle.half_edges.specs.Ends.{arcsOf}
+use Rattle.half_edges.proofs.Laws.{arcs-ends}
 use Rattle.tables.specs.Rows.{netOf}
 use Rattle.tables.proofs.Laws.{row-length, row-kind, row-a, row-b, row-ends-a, row-ends-b}
 use Rattle.orienting.specs.Tries.{leftOut, ledRound}

@@ -10,7 +10,7 @@ use Rattle.network.specs.Networks.{maxBasins}
 use Rattle.network.specs.Hangings.{Arc, reached}
 use Rattle.network.specs.Plans.{reachesAll}
 use Rattle.network.specs.Marks.{bit}
-use Rattle.search.specs.Chains.{Index, Table}
+use Rattle.half_edges.specs.Chains.{Index, Table}
 
 -- A table of n basins, one at least and no more than the limit, with ends xs and ys, a way for each reach, an index of its half-edges, and room for a search.
 pub record Ready (n : ℕ) (xs ys ws head next seen queue : List ℕ) : Type 0 where

@@ -3,9 +3,9 @@
 ghost use mathlib.Core.Path.{_≡_};
 ghost use Prim.Native.Nat.{_≤_, _<_};
 ghost use lib.ListN.{length, getD};
-ghost use Rattle.search.specs.Ends.{arcsOf, sided};
+ghost use Rattle.half_edges.specs.Ends.{arcsOf, sided, pick};
 ghost use Rattle.orienting.specs.Ready.{Ready, FirstUnseen, FirstUnreached, ShutInBasin};
-ghost use Rattle.orienting.specs.Tries.{endBy, ledRound, Tried};
+ghost use Rattle.orienting.specs.Tries.{ledRound, Tried};
 
 // The lowest basin whose byte is 0, or n if there is none.
 fn first_unseen(n: usize, seen: &[u8]) -> usize
@@ -67,7 +67,7 @@ pub fn shut_in_basin(
 fn end_by(a: &[u16], b: &[u16], i: usize, way: u8) -> u16
     requires { ⌜ i < length (now a) ⌝ }
     requires { ⌜ i < length (now b) ⌝ }
-    ensures { λ r. ⌜ r ≡ endBy way (getD (now (a .entry)) i 0) (getD (now (b .entry)) i 0) ⌝ }
+    ensures { λ r. ⌜ r ≡ pick way (getD (now (a .entry)) i 0) (getD (now (b .entry)) i 0) ⌝ }
 {
     if way == 0 { a[i] } else { b[i] }
 }
@@ -91,7 +91,7 @@ fn leads_round(
 {
     let from = end_by(b, a, i, way);
     let to = end_by(a, b, i, way);
-    search::leads(n, a, b, ways, head, next, from, to, seen, queue)
+    leading::leads(n, a, b, ways, head, next, from, to, seen, queue)
 }
 
 // Gives reach i the way if that loses nothing; otherwise it is usable either way. Says whether it could.

@@ -14,7 +14,8 @@ use Rattle.network.specs.Hangings.{Arc, Walk, stay, step, reached}
 use Rattle.network.specs.Marks.{bit}
 use Rattle.network.proofs.Bools.{clash}
 use Rattle.network.proofs.Walks.{walk-trans, walk-arc, walk-reached, reached-walk}
-use Rattle.search.specs.Searches.{Seen, Next, Visited, first, again, Grown, stay as none-more, more, Scanned, Noted, Meets, meeting, apart}
+use Rattle.half_edges.specs.Ends.{Next}
+use Rattle.search.specs.Searches.{Seen, Visited, first, again, Grown, stay as none-more, more, Scanned, Noted, Meets, meeting, apart}
 use Rattle.search.proofs.Counts.{unseen-le, unseen-set}
 use Rattle.search.proofs.Visits.{Room, Waits, Grew, marked-news, visited-grew, visited-seen, grown-grew}
 
@@ -182,7 +183,7 @@ joins {A} {goal} {queue} against s t (meeting k _ b x _) e =
     walk-reached (walk-trans (s .walks k b) (reached-walk A (getD queue k 0) goal (sym (against goal (getD queue k 0)) ∙ walk-reached (t .walked (getD queue k 0) (s .basins k b) x))))
 joins against s t (apart _ n) e = clash e n
 
-bit-0 : (b : Bool) → bit b ≡ 0 → b ≡ false
+pub bit-0 : (b : Bool) → bit b ≡ 0 → b ≡ false
 bit-0 true e = absurd (omega arith)
 bit-0 false e = refl
 

@@ -34,7 +34,7 @@ use Rattle.seeking.specs.declared.Found.the-variants.{Closed, Bridge, Or
 use Rattle.seeking.specs.Found.{outcomeOf, otherThan, SideNoted, FirstFound, found-closed, found-bridge, found-plan}
 use Rattle.seeking.specs.Levels.{Level}
 use Rattle.seeking.proofs.Levels.{level-under, passable-open}
-use Rattle.search.specs.Ends.{arcsOf}
+use Rattle.half_edges.specs.Ends.{arcsOf}
 use Rattle.tables.specs.Rows.{netOf, waysRow}
 
 -- ---- shut in

@@ -12,8 +12,8 @@ use Rattle.network.specs.Settings.{gateCount, isSetting}
 use Rattle.network.specs.Hangings.{ways, arcs}
 use Rattle.network.specs.Plans.{strong, strongUnder, passable}
 use Rattle.network.proofs.Networks.{accepted}
-use Rattle.search.specs.Ends.{arcsOf}
-use Rattle.search.specs.Chains.{Table}
+use Rattle.half_edges.specs.Ends.{arcsOf}
+use Rattle.half_edges.specs.Chains.{Table}
 use Rattle.tables.specs.Rows.{netOf, waysRow}
 use Rattle.tables.proofs.Laws.{row-length, row-a, row-b, row-ways, ways-unhung}
 use Rattle.orientations.specs.Partials.{Under}

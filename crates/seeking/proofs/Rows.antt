@@ -7,7 +7,7 @@ use mathlib.Core.List.{List, []}
 use lib.ListN.{length}
 use Rattle.network.specs.Networks.{Network}
 use Rattle.network.specs.Hangings.{Arc, ways, arcs}
-use Rattle.search.specs.Ends.{arcsOf}
+use Rattle.half_edges.specs.Ends.{arcsOf}
 use Rattle.tables.specs.Rows.{netOf, waysRow}
 use Rattle.orientations.specs.Partials.{Begun}
 use Rattle.orientations.proofs.Parts.{open-none}

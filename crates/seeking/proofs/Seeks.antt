@@ -23,7 +23,7 @@ use Rattle.network.proofs.Order.{plan-setting}
 use Rattle.network.proofs.Lone.{lone-blocks}
 use Rattle.network.proofs.Theorem.{plan-reaches, plan-passable}
 use Rattle.network.proofs.Replies.{given-iff, next-given}
-use Rattle.search.specs.Ends.{arcsOf}
+use Rattle.half_edges.specs.Ends.{arcsOf}
 use Rattle.tables.specs.Rows.{netOf, waysRow}
 use Rattle.tables.specs.Partial.{bytesOf}
 use Rattle.orientations.specs.Least.{LeastPlan, NoneFrom}

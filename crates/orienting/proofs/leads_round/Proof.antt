@@ -5,8 +5,8 @@ use native.Mathlib.Omega.{arith}
 use mathlib.Core.Path.{ap₂, subst⁻¹, _∙_}
 use borrow.Author.Needs.{needs}
 use Rattle.network.specs.Hangings.{reached}
-use Rattle.search.specs.Ends.{arcsOf}
-use Rattle.orienting.proofs.Readies.{searchable, end-below}
+use Rattle.half_edges.specs.Ends.{arcsOf}
+use Rattle.orienting.proofs.Readies.{searchable, pick-below}
 use Rattle.orienting.proofs.leads_round.Statement.{statement}
 use Rattle.orienting.proofs.leads_round.Tie as tie
 
@@ -22,8 +22,8 @@ leads-requires c κs =
     let below-a = s .pre .0 .table .ends-a (s .args .i) (s .pre .1) in
     let below-b = s .pre .0 .table .ends-b (s .args .i) (s .pre .1) in
     (
-      searchable _ (s .pre .0) (subst⁻¹ (λ (v : ℕ). v < s .args .n) (c .before .before .before .end-by .ensures) (end-below (s .args .way) _ _ below-b below-a)),
-      (subst⁻¹ (λ (v : ℕ). v < s .args .n) (c .before .before .end-by2 .ensures) (end-below (s .args .way) _ _ below-a below-b), s .pre .0 .few-basins),
+      searchable _ (s .pre .0) (subst⁻¹ (λ (v : ℕ). v < s .args .n) (c .before .before .before .end-by .ensures) (pick-below (s .args .way) _ _ below-b below-a)),
+      (subst⁻¹ (λ (v : ℕ). v < s .args .n) (c .before .before .end-by2 .ensures) (pick-below (s .args .way) _ _ below-a below-b), s .pre .0 .few-basins),
     )
 
 same-length : tie.Need-same-length

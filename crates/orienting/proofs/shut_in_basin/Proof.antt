@@ -6,10 +6,10 @@ use mathlib.Core.Path.{_≡_, subst}
 use mathlib.Core.Bool.{true, false}
 use mathlib.Core.List.{List}
 use borrow.Author.Needs.{needs}
-use Rattle.search.specs.Ends.{arcsOf, sided}
+use Rattle.half_edges.specs.Ends.{arcsOf, sided}
 use Rattle.orienting.specs.Ready.{FirstUnreached, ShutInBasin}
 use Rattle.orienting.proofs.Readies.{ready-notes, shut-in-0, shut-in-back}
-use Rattle.search.proofs.Laws.{reached-flipped}
+use Rattle.half_edges.proofs.Laws.{reached-flipped}
 use Rattle.orienting.proofs.shut_in_basin.Statement.{statement}
 use Rattle.orienting.proofs.shut_in_basin.Tie as tie
 use Rattle.orienting.proofs.shut_in_basin.Lts as lts

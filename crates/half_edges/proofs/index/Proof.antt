@@ -4,10 +4,10 @@ use Prim.Native.Nat.{_*_, _-_, _≤_, _<_}
 use mathlib.Core.Path.{_≡_, refl, _∙_}
 use native.Mathlib.Omega.{arith}
 use lib.ListN.{length, getD}
-use Rattle.search.specs.Chains.{Linked}
-use Rattle.search.proofs.Links.{linked-none, linked-reach}
-use Rattle.search.proofs.index.Statement.{statement}
-use Rattle.search.proofs.index.Tie as tie
+use Rattle.half_edges.specs.Chains.{Linked}
+use Rattle.half_edges.proofs.Links.{linked-none, linked-reach}
+use Rattle.half_edges.proofs.index.Statement.{statement}
+use Rattle.half_edges.proofs.index.Tie as tie
 
 abbrev Inv-loop : tie.InvT-loop
 Inv-loop n a b head₀ next₀ i₀ head next i = (i ≤ length a) × Linked (2 * i) n a b head next × (length head ≡ length head₀) × (length next ≡ length next₀)

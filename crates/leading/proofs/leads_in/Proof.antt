@@ -8,13 +8,12 @@ use mathlib.Core.List.{List, map}
 use native.Mathlib.Omega.{arith}
 use lib.ListN.{length, getD}
 use Rattle.network.specs.Hangings.{Arc, reached}
-use Rattle.search.specs.Ends.{arcsOf, flipWay}
-use Rattle.search.specs.Searches.{Next}
-use Rattle.search.proofs.Halves.{arc-below}
-use Rattle.search.proofs.Laws.{reached-flipped}
+use Rattle.half_edges.specs.Ends.{arcsOf, flipWay, Next}
+use Rattle.half_edges.proofs.Halves.{arc-below}
+use Rattle.half_edges.proofs.Laws.{reached-flipped}
 use Rattle.search.proofs.Fronts.{Searching, cleared, begins, begins-grew, scans, scans-grew, newly-apart, unmet, joins, shut}
-use Rattle.search.proofs.leads_in.Statement.{statement}
-use Rattle.search.proofs.leads_in.Tie as tie
+use Rattle.leading.proofs.leads_in.Statement.{statement}
+use Rattle.leading.proofs.leads_in.Tie as tie
 
 abbrev Inv-loop : tie.InvT-loop
 Inv-loop n a b ways head next start goal seen₀ queue₀ upseen₀ upqueue₀ tail₀ uptail₀ done₀ updone₀ seen queue upseen upqueue tail uptail done updone =

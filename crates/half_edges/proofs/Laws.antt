@@ -10,9 +10,8 @@ use Rattle.network.specs.declared.Reach.{Reach}
 use Rattle.network.specs.Hangings.{Arc, arc, passing, arcs, Walk, stay, step, reached}
 use Rattle.network.proofs.Bools.{same-test}
 use Rattle.network.proofs.Walks.{Within, walk-trans, walk-arc, walk-reached, reached-walk, reached-same}
-use Rattle.search.specs.Ends.{arcsOf, flipWay}
-use Rattle.search.specs.Chains.{Table}
-use Rattle.search.specs.Searches.{Next}
+use Rattle.half_edges.specs.Ends.{arcsOf, flipWay, Next}
+use Rattle.half_edges.specs.Chains.{Table}
 
 -- a table passes what its two lists of ends pass
 pub arcs-ends : (t : List Reach) (ws : List ℕ) → arcs t ws ≡ arcsOf (map (λ r. r .a) t) (map (λ r. r .b) t) ws

@@ -2,10 +2,10 @@
 -- Assumes nothing.
 use Prim.Native.Nat.{_-_}
 use native.Mathlib.Omega.{arith}
-use Rattle.search.specs.Chains.{none}
-use Rattle.search.proofs.Fills.{Filled, filled-none, filled-more, filled-all}
-use Rattle.search.proofs.empty.Statement.{statement}
-use Rattle.search.proofs.empty.Tie as tie
+use Rattle.half_edges.specs.Chains.{none}
+use Rattle.half_edges.proofs.Fills.{Filled, filled-none, filled-more, filled-all}
+use Rattle.half_edges.proofs.empty.Statement.{statement}
+use Rattle.half_edges.proofs.empty.Tie as tie
 
 abbrev Inv-loop : tie.InvT-loop
 Inv-loop n head₀ i₀ head i = Filled n none head₀ head i

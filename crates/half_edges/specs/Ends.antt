@@ -2,10 +2,10 @@
 -- Assumes nothing.
 use Prim.Native.Nat.{ℕ, zero, suc, _*_, _/_, _%_}
 use mathlib.Core.Bool.{Bool, true, false, _||_}
-use mathlib.Core.List.{List, [], _∷_, _++_, map}
+use mathlib.Core.List.{List, [], _∷_, _++_, map, List·Memᴰ}
 use lib.ListN.{length, getD}
 use lib.Dec.{eqb}
-use Rattle.network.specs.Hangings.{Arc, passing}
+use Rattle.network.specs.Hangings.{Arc, arc, passing}
 
 -- What the reaches with ends A xs and ends B ys pass, each in its way. proofs/Laws.antt: the `arcs` of the table with these ends.
 abbrev pub arcsOf : List ℕ → List ℕ → List ℕ → List Arc
@@ -13,6 +13,10 @@ arcsOf [] ys ws = []
 arcsOf (a ∷ xs) [] ws = []
 arcsOf (a ∷ xs) (b ∷ ys) [] = []
 arcsOf (a ∷ xs) (b ∷ ys) (w ∷ ws) = passing w a b ++ arcsOf xs ys ws
+
+-- w is the end of an arc from u.
+abbrev pub Next : List Arc → ℕ → ℕ → Type 0
+Next A u w = List·Memᴰ (arc u w) A
 
 -- The way against the arrows.
 abbrev pub flipWay : ℕ → ℕ

@@ -11,10 +11,9 @@ use lib.Dec.{eqb}
 use borrow.Author.Tests.{eqb-true}
 use Rattle.network.specs.Hangings.{Arc, arc, passing}
 use Rattle.network.proofs.Bools.{or-cases}
-use Rattle.search.specs.Ends.{arcsOf, halves, pick, endOf, otherOf, leaves}
-use Rattle.search.specs.Chains.{Table}
-use Rattle.search.specs.Searches.{Next}
-use Rattle.search.proofs.Laws.{table-turned}
+use Rattle.half_edges.specs.Ends.{arcsOf, halves, pick, endOf, otherOf, leaves, Next}
+use Rattle.half_edges.specs.Chains.{Table}
+use Rattle.half_edges.proofs.Laws.{table-turned}
 
 -- ---- where they stand
 

@@ -2,8 +2,8 @@
 -- Assumes nothing.
 use mathlib.Core.Path.{refl}
 use borrow.Author.Needs.{needs}
-use Rattle.search.proofs.leads.Statement.{statement}
-use Rattle.search.proofs.leads.Tie as tie
+use Rattle.leading.proofs.leads.Statement.{statement}
+use Rattle.leading.proofs.leads.Tie as tie
 
 slice-aggregate-leads-in : tie.Need-slice-aggregate-leads-in
 slice-aggregate-leads-in c = search needs

@@ -8,9 +8,9 @@ use native.Mathlib.Omega.{arith}
 use borrow.Author.Count.{below-more}
 use lib.ListN.{length, getD, set, drop, replicate, length-append, length-drop, length-set, length-replicate, getD-replicate, List·getD-append}
 use lib.Seq.{getD-set-same, getD-set-other}
-use Rattle.search.specs.Ends.{halves, endOf}
-use Rattle.search.specs.Chains.{none, Last, nothing, last, Linked, Table}
-use Rattle.search.proofs.Halves.{end-even, end-odd}
+use Rattle.half_edges.specs.Ends.{halves, endOf}
+use Rattle.half_edges.specs.Chains.{none, Last, nothing, last, Linked, Table}
+use Rattle.half_edges.proofs.Halves.{end-even, end-odd}
 
 module _ (n : ℕ) (xs ys : List ℕ) where
   -- a half-edge at another basin changes nothing

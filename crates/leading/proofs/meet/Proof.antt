@@ -5,9 +5,9 @@ use mathlib.Core.Path.{_≡_, refl}
 use native.Mathlib.Omega.{arith}
 use borrow.Author.Count.{below-more}
 use lib.ListN.{getD}
 use Rattle.search.specs.Searches.{meeting, apart}
-use Rattle.search.proofs.meet.Statement.{statement}
-use Rattle.search.proofs.meet.Tie as tie
+use Rattle.leading.proofs.meet.Statement.{statement}
+use Rattle.leading.proofs.meet.Tie as tie
 
 abbrev Inv-loop : tie.InvT-loop
 Inv-loop queue from to seen k₀ k = (from ≤ k) × ((j : ℕ) → from ≤ j → j < k → getD seen (getD queue j 0) 0 ≡ 0)

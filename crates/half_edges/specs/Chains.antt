@@ -4,7 +4,7 @@ use Prim.Native.Nat.{ℕ, _≤_, _<_}
 use mathlib.Core.Path.{_≡_}
 use mathlib.Core.List.{List}
 use lib.ListN.{length, getD}
-use Rattle.search.specs.Ends.{halves, endOf}
+use Rattle.half_edges.specs.Ends.{halves, endOf}
 
 -- What stands where there is no half-edge.
 abbrev pub none : ℕ
