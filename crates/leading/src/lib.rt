@@ -6,6 +6,7 @@ ghost use Rattle.network.specs.Networks.{maxBasins};
 ghost use Rattle.network.specs.Hangings.{reached};
 ghost use Rattle.half_edges.specs.Ends.{arcsOf};
 ghost use Rattle.search.specs.Searches.{Searchable, Queued, Meets};
+ghost use Rattle.leading.specs.Leads.{Underway};
 use network::MAX_BASINS;
 
 // Whether one of the basins at the places of a queue from `from` on and below `to` is seen.
@@ -24,9 +25,9 @@ fn meet(queue: &[u16], from: usize, to: usize, seen: &[u8]) -> bool
     false
 }
 
-// Whether the goal is reached from start, searched for from both ends by turns: along the arrows from start, and upstream, against the arrows, from
-// the goal, until the two meet or one of them has nothing left to search from.
-fn leads_in(
+// Goes on with two searches that have begun, by turns: along the arrows from start, and upstream, against the arrows, from the goal, until the two meet
+// or one of them has nothing left to search from. Says whether they met: whether the goal is reached from start.
+fn search_on(
     n: usize,
     a: &[u16],
     b: &[u16],
@@ -39,21 +40,16 @@ fn leads_in(
     queue: &mut [u16],
     upseen: &mut [u8],
     upqueue: &mut [u16],
+    first: usize,
+    upfirst: usize,
 ) -> bool
-    requires { ⌜ Searchable n (now a) (now b) (now ways) (now head) (now next) start (now seen) (now queue) ⌝ }
-    requires { ⌜ goal < n ⌝ }
-    requires { ⌜ n ≤ maxBasins ⌝ }
-    requires { ⌜ length (now upseen) ≡ maxBasins ⌝ }
-    requires { ⌜ length (now upqueue) ≡ maxBasins ⌝ }
+    requires { ⌜ Underway n (now a) (now b) (now ways) (now head) (now next) start goal (now seen) (now queue) (now upseen) (now upqueue) first upfirst ⌝ }
     ensures { λ r. ⌜ r ≡ reached (arcsOf (now (a .entry)) (now (b .entry)) (now (ways .entry))) start goal ⌝ }
 {
-    let mut tail = search::begin(n, start, seen, queue);
-    let mut uptail = search::begin(n, goal, upseen, upqueue);
+    let mut tail = first;
+    let mut uptail = upfirst;
     let mut done = 0;
     let mut updone = 0;
-    if meet(queue, 0, tail, upseen) {
-        return true;
-    }
     while done < tail {
         if updone >= uptail {
             return false;
@@ -87,6 +83,51 @@ fn leads_in(
         }
     }
     false
+}
+
+// Whether the goal is reached from start, searched for from both ends.
+fn leads_in(
+    n: usize,
+    a: &[u16],
+    b: &[u16],
+    ways: &[u8],
+    head: &[u16],
+    next: &[u16],
+    start: u16,
+    goal: u16,
+    seen: &mut [u8],
+    queue: &mut [u16],
+    upseen: &mut [u8],
+    upqueue: &mut [u16],
+) -> bool
+    requires { ⌜ Searchable n (now a) (now b) (now ways) (now head) (now next) start (now seen) (now queue) ⌝ }
+    requires { ⌜ goal < n ⌝ }
+    requires { ⌜ n ≤ maxBasins ⌝ }
+    requires { ⌜ length (now upseen) ≡ maxBasins ⌝ }
+    requires { ⌜ length (now upqueue) ≡ maxBasins ⌝ }
+    ensures { λ r. ⌜ r ≡ reached (arcsOf (now (a .entry)) (now (b .entry)) (now (ways .entry))) start goal ⌝ }
+{
+    let tail = search::begin(n, start, seen, queue);
+    let uptail = search::begin(n, goal, upseen, upqueue);
+    if meet(queue, 0, tail, upseen) {
+        return true;
+    }
+    search_on(
+        n,
+        a,
+        b,
+        ways,
+        head,
+        next,
+        start,
+        goal,
+        seen,
+        queue,
+        upseen,
+        upqueue,
+        tail,
+        uptail,
+    )
 }
 
 // The same, with working memory for the search upstream. What is left in seen and in the queue is free.

@@ -1,361 +1,102 @@
--- `leads_in` meets its contract. The loop's invariant: both searches are under way, the one along the arrows from start, the other against them from the goal,
--- and neither has seen where the other began.
--- The measure is what is left of both queues.
+-- `leads_in` meets its contract: both searches begin, and where they have not met at once they go on.
 -- Assumes nothing.
-use Prim.Native.Nat.{ℕ, _+_, _-_, _≤_, _<_}
+use Prim.Native.Nat.{ℕ, _≤_}
 use mathlib.Core.Path.{_≡_, refl, sym, _∙_}
 use mathlib.Core.List.{List, map}
 use native.Mathlib.Omega.{arith}
-use lib.ListN.{length, getD}
+use lib.ListN.{length}
 use Rattle.network.specs.Hangings.{Arc, reached}
-use Rattle.half_edges.specs.Ends.{arcsOf, flipWay, Next}
-use Rattle.half_edges.proofs.Halves.{arc-below}
+use Rattle.half_edges.specs.Ends.{arcsOf, flipWay}
 use Rattle.half_edges.proofs.Laws.{reached-flipped}
-use Rattle.search.proofs.Fronts.{Searching, cleared, begins, begins-grew, scans, scans-grew, newly-apart, unmet, joins, shut}
+use Rattle.search.proofs.Fronts.{cleared, begins, begins-grew, newly-apart, unmet, joins}
 use Rattle.leading.proofs.leads_in.Statement.{statement}
 use Rattle.leading.proofs.leads_in.Tie as tie
 
-abbrev Inv-loop : tie.InvT-loop
-Inv-loop n a b ways head next start goal seen₀ queue₀ upseen₀ upqueue₀ tail₀ uptail₀ done₀ updone₀ seen queue upseen upqueue tail uptail done updone =
-    Searching (arcsOf a b ways) n start seen queue done tail × Searching (arcsOf a b (map flipWay ways)) n goal upseen upqueue updone uptail
-    × (length seen ≡ length seen₀) × (length queue ≡ length queue₀) × (length upseen ≡ length upseen₀) × (length upqueue ≡ length upqueue₀)
-    × (getD seen goal 0 ≡ 0) × (getD upseen start 0 ≡ 0)
-
-abbrev μ-loop : tie.MeasureT-loop
-μ-loop n a b ways head next start goal seen₀ queue₀ upseen₀ upqueue₀ tail₀ uptail₀ done₀ updone₀ seen queue upseen upqueue tail uptail done updone =
-    (length queue₀ - done) + (length upqueue₀ - updone)
-
--- the function's entry
-abbrev entry : tie.At-loop Inv-loop μ-loop → tie.Start Inv-loop μ-loop
-entry c = c .before .before .before .before .before .before .before .before .before .before .before .before .before .before .before .before .before .before .before .before .before .before .before .before .before .before .before .before
-
 -- what the table passes, along the arrows and against them
-abbrev along : tie.Start Inv-loop μ-loop → List Arc
+abbrev along : tie.Start → List Arc
 along c = arcsOf (c .args .a .now) (c .args .b .now) (c .args .ways .now)
 
-abbrev up : tie.Start Inv-loop μ-loop → List Arc
+abbrev up : tie.Start → List Arc
 up c = arcsOf (c .args .a .now) (c .args .b .now) (map flipWay (c .args .ways .now))
 
-against : (c : tie.Start Inv-loop μ-loop) (u v : ℕ) → reached (up c) u v ≡ reached (along c) v u
+against : (c : tie.Start) (u v : ℕ) → reached (up c) u v ≡ reached (along c) v u
 against c = reached-flipped (c .args .a .now) (c .args .b .now) (c .args .ways .now)
 
-along-against : (c : tie.Start Inv-loop μ-loop) (u v : ℕ) → reached (along c) u v ≡ reached (up c) v u
-along-against c u v = sym (against c v u)
-
--- every arc leads to a basin
-along-in : (c : tie.Start Inv-loop μ-loop) (u w : ℕ) → Next (along c) u w → w < c .args .n
-along-in c u w m = arc-below (c .args .a .now) (c .args .b .now) (c .args .ways .now) (c .args .n) u w (c .pre .0 .table) m
-
-up-in : (c : tie.Start Inv-loop μ-loop) (u w : ℕ) → Next (up c) u w → w < c .args .n
-up-in c u w m = arc-below (c .args .a .now) (c .args .b .now) (map flipWay (c .args .ways .now)) (c .args .n) u w (c .pre .0 .table) m
-
 -- room for the search upstream
-up-seen : (c : tie.Start Inv-loop μ-loop) → c .args .n ≤ length (c .args .upseen .now)
+up-seen : (c : tie.Start) → c .args .n ≤ length (c .args .upseen .now)
 up-seen c = omega (arith, c .pre .1 .1 .0, c .pre .1 .1 .1 .0)
 
-up-queue : (c : tie.Start Inv-loop μ-loop) → length (c .args .upseen .now) ≤ length (c .args .upqueue .now)
+up-queue : (c : tie.Start) → length (c .args .upseen .now) ≤ length (c .args .upqueue .now)
 up-queue c = omega (arith, c .pre .1 .1 .1 .0, c .pre .1 .1 .1 .1)
 
--- the four slices keep their lengths
-seen-kept : (c : tie.At-loop Inv-loop μ-loop) → length (c .loop .seen) ≡ length (entry c .args .seen .now)
-seen-kept c = c .loop .inv .2 ∙ c .before .before .before .before .before .before .before .before .before .before .before .before .before .before .before .before .begin .kept .1 .1 .0
-
-queue-kept : (c : tie.At-loop Inv-loop μ-loop) → length (c .loop .queue) ≡ length (entry c .args .queue .now)
-queue-kept c = c .loop .inv .3 ∙ c .before .before .before .before .before .before .before .before .before .before .before .before .before .before .before .before .begin .kept .1 .1 .1 .0
-
-upseen-kept : (c : tie.At-loop Inv-loop μ-loop) → length (c .loop .upseen) ≡ length (entry c .args .upseen .now)
-upseen-kept c = c .loop .inv .4 ∙ c .before .before .before .before .before .before .before .before .before .begin2 .kept .1 .1 .0
-
-upqueue-kept : (c : tie.At-loop Inv-loop μ-loop) → length (c .loop .upqueue) ≡ length (entry c .args .upqueue .now)
-upqueue-kept c = c .loop .inv .5 ∙ c .before .before .before .before .before .before .before .before .before .begin2 .kept .1 .1 .1 .0
-
-begin-requires : tie.Need-begin-requires Inv-loop μ-loop
+begin-requires : tie.Need-begin-requires
 begin-requires c κs = let start = c .before .before .before .before .before .before .before .before .before .before .before in (start .pre .0 .starts, (start .pre .0 .seen-room, start .pre .0 .queue-room))
 
-begin-requires-2 : tie.Need-begin-requires-2 Inv-loop μ-loop
+begin-requires-2 : tie.Need-begin-requires-2
 begin-requires-2 c κs = let start = c .before .before .before .before .before .before .before .before .before .before .before .before .before .before .before .before .before .before in (start .pre .1 .0, (up-seen start, up-queue start))
 
-meet-requires : tie.Need-meet-requires Inv-loop μ-loop
+meet-requires : tie.Need-meet-requires
 meet-requires c κs =
     let start = c .before .before .before .before .before .before .before .before .before .before .before .before .before .before .before .before .before .before .before .before .before .before .before .before .before in
     let d = begins {A = along start} (start .args .seen .now) (start .pre .0 .seen-room) (start .pre .0 .queue-room) (start .pre .0 .starts) refl (c .before .before .before .before .before .before .before .before .before .before .before .before .before .begin .ensures) in
     let u = begins {A = up start} (start .args .upseen .now) (up-seen start) (up-queue start) (start .pre .1 .0) refl (c .before .before .before .before .before .before .begin2 .ensures) in
     (omega (arith, d .sound .room), λ k l. omega (arith, d .sound .basins k l, u .sound .long))
 
-same-length : tie.Need-same-length Inv-loop μ-loop
+same-length : tie.Need-same-length
 same-length c = c .before .before .before .before .before .before .before .before .before .before .before .before .before .before .before .begin .kept .1 .1 .0
 
-same-length-2 : tie.Need-same-length-2 Inv-loop μ-loop
+same-length-2 : tie.Need-same-length-2
 same-length-2 c = c .before .before .before .before .before .before .before .before .before .before .before .before .before .before .before .begin .kept .1 .1 .1 .0
 
-same-length-3 : tie.Need-same-length-3 Inv-loop μ-loop
+same-length-3 : tie.Need-same-length-3
 same-length-3 c = c .before .before .before .before .before .before .before .before .begin2 .kept .1 .1 .0
 
-same-length-4 : tie.Need-same-length-4 Inv-loop μ-loop
+same-length-4 : tie.Need-same-length-4
 same-length-4 c = c .before .before .before .before .before .before .before .before .begin2 .kept .1 .1 .1 .0
 
-returns : tie.Need-returns Inv-loop μ-loop
+returns : tie.Need-returns
 returns c =
     let start = c .before .before .before .before .before .before .before .before .before .before .before .before .before .before .before .before .before .before .before .before .before .before .before .before .before .before .before in
     let d = begins {A = along start} (start .args .seen .now) (start .pre .0 .seen-room) (start .pre .0 .queue-room) (start .pre .0 .starts) refl (c .before .before .before .before .before .before .before .before .before .before .before .before .before .before .before .begin .ensures) in
     let u = begins {A = up start} (start .args .upseen .now) (up-seen start) (up-queue start) (start .pre .1 .0) refl (c .before .before .before .before .before .before .before .before .begin2 .ensures) in
     sym (joins (against start) (d .sound) (u .sound) (c .before .meet .ensures) (c .if1 .taken))
 
-loop-holds : tie.Need-loop-holds Inv-loop μ-loop
-loop-holds c =
-    let start = c .before .before .before .before .before .before .before .before .before .before .before .before .before .before .before .before .before .before .before .before .before .before .before .before .before .before .before in
-    let d = begins {A = along start} (start .args .seen .now) (start .pre .0 .seen-room) (start .pre .0 .queue-room) (start .pre .0 .starts) refl (c .before .before .before .before .before .before .before .before .before .before .before .before .before .before .before .begin .ensures) in
-    let u = begins {A = up start} (start .args .upseen .now) (up-seen start) (up-queue start) (start .pre .1 .0) refl (c .before .before .before .before .before .before .before .before .begin2 .ensures) in
-    let g = begins-grew (start .args .seen .now) (start .pre .0 .seen-room) (start .pre .0 .queue-room) (start .pre .0 .starts) (c .before .before .before .before .before .before .before .before .before .before .before .before .before .before .before .begin .ensures) in
-    let m = c .before .meet .ensures in (
-      d,
-      u,
-      refl,
-      refl,
-      refl,
-      refl,
-      unmet g m (c .if1 .left) (start .args .goal) (cleared (start .args .n) (start .args .seen .now) (start .pre .0 .seen-room) (start .args .goal) (start .pre .1 .0)) (u .started),
-      newly-apart g m (c .if1 .left) (start .args .start) (cleared (start .args .n) (start .args .seen .now) (start .pre .0 .seen-room) (start .args .start) (start .pre .0 .starts)) (d .started),
-    )
-
-same-length-5 : tie.Need-same-length-5 Inv-loop μ-loop
-same-length-5 c = seen-kept (c .before .before)
-
-same-length-6 : tie.Need-same-length-6 Inv-loop μ-loop
-same-length-6 c = queue-kept (c .before .before)
-
-same-length-7 : tie.Need-same-length-7 Inv-loop μ-loop
-same-length-7 c = upseen-kept (c .before .before)
-
-same-length-8 : tie.Need-same-length-8 Inv-loop μ-loop
-same-length-8 c = upqueue-kept (c .before .before)
-
-returns-2 : tie.Need-returns-2 Inv-loop μ-loop
-returns-2 c =
-    let l = c .before .before in
-    let start = entry l in
-    shut (start .args .start) (up-in start) (start .pre .1 .0) (start .pre .0 .starts) (c .if2 .taken) (l .loop .inv .1) (l .loop .inv .7) ∙ against start (start .args .goal) (start .args .start)
-
-sub-if3 : tie.Need-sub-if3 Inv-loop μ-loop
-sub-if3 c = omega (arith, c .before .before .loop .inv .0 .placed)
-
-add-if3 : tie.Need-add-if3 Inv-loop μ-loop
-add-if3 c =
-    let l = c .before .before in
-    omega (arith, l .loop .inv .0 .placed, l .loop .inv .1 .placed, l .loop .inv .0 .sound .room, l .loop .inv .1 .sound .room, queue-kept l, upqueue-kept l, entry l .good, entry l .pre .1 .1 .1 .1)
-
-add-if3-2 : tie.Need-add-if3-2 Inv-loop μ-loop
-add-if3-2 c =
-    let l = c .before .before in
-    omega (arith, l .loop .inv .0 .placed, l .loop .inv .1 .placed, l .loop .inv .0 .sound .room, l .loop .inv .1 .sound .room, queue-kept l, upqueue-kept l, entry l .good, entry l .pre .1 .1 .1 .1)
-
-sub-if3-2 : tie.Need-sub-if3-2 Inv-loop μ-loop
-sub-if3-2 c = omega (arith, c .before .before .loop .inv .1 .placed)
-
-scan-requires : tie.Need-scan-requires Inv-loop μ-loop
-scan-requires c κs =
-    let t = c .before .before .before .before in
-    let start = entry (t .before) in
-    let s = t .before .loop .inv .0 .sound in
+search-on-requires : tie.Need-search-on-requires
+search-on-requires c κs =
+    let start = c .before .before .before .before .before .before .before .before .before .before .before .before .before .before .before .before .before .before .before .before .before .before .before .before .before .before .before .before .before .before .before in
+    let d = begins {A = along start} (start .args .seen .now) (start .pre .0 .seen-room) (start .pre .0 .queue-room) (start .pre .0 .starts) refl (c .before .before .before .before .before .before .before .before .before .before .before .before .before .before .before .before .before .before .before .begin .ensures) in
+    let u = begins {A = up start} (start .args .upseen .now) (up-seen start) (up-queue start) (start .pre .1 .0) refl (c .before .before .before .before .before .before .before .before .before .before .before .before .begin2 .ensures) in
+    let g = begins-grew (start .args .seen .now) (start .pre .0 .seen-room) (start .pre .0 .queue-room) (start .pre .0 .starts) (c .before .before .before .before .before .before .before .before .before .before .before .before .before .before .before .before .before .before .before .begin .ensures) in
+    let m = c .before .before .before .before .before .meet .ensures in
     record {
-      basins = start .args .n;
       table = start .pre .0 .table;
       ways-room = start .pre .0 .ways-room;
       index = start .pre .0 .index;
-      seen-room = s .long;
-      waiting = t .loop-test .taken;
-      basin = s .basins (t .before .loop .done) (t .loop-test .taken);
-      room = s .room;
+      starts = start .pre .0 .starts;
+      goals = start .pre .1 .0;
+      up-room = c .before .before .before .before .before .before .before .before .before .before .before .before .begin2 .kept .1 .1 .1 .0 ∙ start .pre .1 .1 .1 .1;
+      down = d;
+      up = u;
+      goal-unseen = unmet g m (c .before .before .before .before .if1 .left) (start .args .goal) (cleared (start .args .n) (start .args .seen .now) (start .pre .0 .seen-room) (start .args .goal) (start .pre .1 .0)) (u .started);
+      start-unseen = newly-apart g m (c .before .before .before .before .if1 .left) (start .args .start) (cleared (start .args .n) (start .args .seen .now) (start .pre .0 .seen-room) (start .args .start) (start .pre .0 .starts)) (d .started);
     }
 
-meet-requires-2 : tie.Need-meet-requires-2 Inv-loop μ-loop
-meet-requires-2 c κs =
-    let t = c .before .before .before .before .before .before .before .before .before .before .before in
-    let start = entry (t .before) in
-    let s = c .before .before .before .before .before .before .scan in
-    let d = scans (along-in start) (t .loop-test .taken) (t .before .loop .inv .0) (s .ensures) in
-    (omega (arith, d .sound .room), λ k l. omega (arith, d .sound .basins k l, t .before .loop .inv .1 .sound .long))
+same-length-5 : tie.Need-same-length-5
+same-length-5 c = c .before .before .before .before .before .before .before .before .search-on .kept .1 .1 .1 .1 .1 .1 .1 .1 .0 ∙ c .before .before .before .before .before .before .before .before .before .before .before .before .before .before .before .before .before .before .before .before .before .before .before .before .before .before .before .before .begin .kept .1 .1 .0
 
-same-length-9 : tie.Need-same-length-9 Inv-loop μ-loop
-same-length-9 c = c .before .before .before .before .before .before .before .before .scan .kept .1 .1 .1 .1 .1 .0 ∙ seen-kept (c .before .before .before .before .before .before .before .before .before .before .before .before .before .before)
+same-length-6 : tie.Need-same-length-6
+same-length-6 c = c .before .before .before .before .before .before .before .before .search-on .kept .1 .1 .1 .1 .1 .1 .1 .1 .1 .0 ∙ c .before .before .before .before .before .before .before .before .before .before .before .before .before .before .before .before .before .before .before .before .before .before .before .before .before .before .before .before .begin .kept .1 .1 .1 .0
 
-same-length-10 : tie.Need-same-length-10 Inv-loop μ-loop
-same-length-10 c = c .before .before .before .before .before .before .before .before .scan .kept .1 .1 .1 .1 .1 .1 .0 ∙ queue-kept (c .before .before .before .before .before .before .before .before .before .before .before .before .before .before)
+same-length-7 : tie.Need-same-length-7
+same-length-7 c = c .before .before .before .before .before .before .before .before .search-on .kept .1 .1 .1 .1 .1 .1 .1 .1 .1 .1 .0 ∙ c .before .before .before .before .before .before .before .before .before .before .before .before .before .before .before .before .before .before .before .before .before .begin2 .kept .1 .1 .0
 
-same-length-11 : tie.Need-same-length-11 Inv-loop μ-loop
-same-length-11 c = upseen-kept (c .before .before .before .before .before .before .before .before .before .before .before .before .before .before)
+same-length-8 : tie.Need-same-length-8
+same-length-8 c = c .before .before .before .before .before .before .before .before .search-on .kept .1 .1 .1 .1 .1 .1 .1 .1 .1 .1 .1 .0 ∙ c .before .before .before .before .before .before .before .before .before .before .before .before .before .before .before .before .before .before .before .before .before .begin2 .kept .1 .1 .1 .0
 
-same-length-12 : tie.Need-same-length-12 Inv-loop μ-loop
-same-length-12 c = upqueue-kept (c .before .before .before .before .before .before .before .before .before .before .before .before .before .before)
-
-returns-3 : tie.Need-returns-3 Inv-loop μ-loop
-returns-3 c =
-    let t = c .before .before .before .before .before .before .before .before .before .before .before .before .before in
-    let start = entry (t .before) in
-    let s = c .before .before .before .before .before .before .before .before .scan in
-    let d = scans (along-in start) (t .loop-test .taken) (t .before .loop .inv .0) (s .ensures) in
-    sym (joins (against start) (d .sound) (t .before .loop .inv .1 .sound) (c .before .meet2 .ensures) (c .if4 .taken))
-
-add-done : tie.Need-add-done Inv-loop μ-loop
-add-done c =
-    let t = c .before .before .before .before .before .before .before .before .before .before .before .before .before in
-    omega (arith, t .loop-test .taken, t .before .loop .inv .0 .sound .room, queue-kept (t .before), entry (t .before) .good)
-
-loop-less : tie.Need-loop-less Inv-loop μ-loop
-loop-less c =
-    let t = c .before .before .before .before .before .before .before .before .before .before .before .before .before in
-    omega (arith, t .loop-test .taken, t .before .loop .inv .0 .sound .room, t .before .loop .inv .3)
-
-loop-again : tie.Need-loop-again Inv-loop μ-loop
-loop-again c =
-    let t = c .before .before .before .before .before .before .before .before .before .before .before .before .before in
-    let start = entry (t .before) in
-    let s = c .before .before .before .before .before .before .before .before .scan in
-    let d = scans (along-in start) (t .loop-test .taken) (t .before .loop .inv .0) (s .ensures) in (
-      d,
-      t .before .loop .inv .1,
-      s .kept .1 .1 .1 .1 .1 .0 ∙ t .before .loop .inv .2,
-      s .kept .1 .1 .1 .1 .1 .1 .0 ∙ t .before .loop .inv .3,
-      t .before .loop .inv .4,
-      t .before .loop .inv .5,
-      unmet (scans-grew (along-in start) (t .before .loop .inv .0) (s .ensures)) (c .before .meet2 .ensures) (c .if4 .left) (start .args .goal) (t .before .loop .inv .6) (t .before .loop .inv .1 .started),
-      t .before .loop .inv .7,
-    )
-
-scan-requires-2 : tie.Need-scan-requires-2 Inv-loop μ-loop
-scan-requires-2 c κs =
-    let t = c .before .before .before .before in
-    let start = entry (t .before) in
-    let s = t .before .loop .inv .1 .sound in
-    record {
-      basins = start .args .n;
-      table = start .pre .0 .table;
-      ways-room = start .pre .0 .ways-room;
-      index = start .pre .0 .index;
-      seen-room = s .long;
-      waiting = omega (arith, c .before .before .before .if2 .left);
-      basin = s .basins (t .before .loop .updone) (omega (arith, c .before .before .before .if2 .left));
-      room = s .room;
-    }
-
-meet-requires-3 : tie.Need-meet-requires-3 Inv-loop μ-loop
-meet-requires-3 c κs =
-    let t = c .before .before .before .before .before .before .before .before .before .before .before in
-    let start = entry (t .before) in
-    let s = c .before .before .before .before .before .before .scan2 in
-    let d = scans (up-in start) (omega (arith, c .before .before .before .before .before .before .before .before .before .before .if2 .left)) (t .before .loop .inv .1) (s .ensures) in
-    (omega (arith, d .sound .room), λ k l. omega (arith, d .sound .basins k l, t .before .loop .inv .0 .sound .long))
-
-same-length-13 : tie.Need-same-length-13 Inv-loop μ-loop
-same-length-13 c = seen-kept (c .before .before .before .before .before .before .before .before .before .before .before .before .before .before)
-
-same-length-14 : tie.Need-same-length-14 Inv-loop μ-loop
-same-length-14 c = queue-kept (c .before .before .before .before .before .before .before .before .before .before .before .before .before .before)
-
-same-length-15 : tie.Need-same-length-15 Inv-loop μ-loop
-same-length-15 c = c .before .before .before .before .before .before .before .before .scan2 .kept .1 .1 .1 .1 .1 .0 ∙ upseen-kept (c .before .before .before .before .before .before .before .before .before .before .before .before .before .before)
-
-same-length-16 : tie.Need-same-length-16 Inv-loop μ-loop
-same-length-16 c = c .before .before .before .before .before .before .before .before .scan2 .kept .1 .1 .1 .1 .1 .1 .0 ∙ upqueue-kept (c .before .before .before .before .before .before .before .before .before .before .before .before .before .before)
-
-returns-4 : tie.Need-returns-4 Inv-loop μ-loop
-returns-4 c =
-    let t = c .before .before .before .before .before .before .before .before .before .before .before .before .before in
-    let start = entry (t .before) in
-    let s = c .before .before .before .before .before .before .before .before .scan2 in
-    let d = scans (up-in start) (omega (arith, c .before .before .before .before .before .before .before .before .before .before .before .before .if2 .left)) (t .before .loop .inv .1) (s .ensures) in
-    sym (along-against start (start .args .start) (start .args .goal) ∙ joins (along-against start) (d .sound) (t .before .loop .inv .0 .sound) (c .before .meet3 .ensures) (c .if5 .taken))
-
-add-updone : tie.Need-add-updone Inv-loop μ-loop
-add-updone c =
-    let t = c .before .before .before .before .before .before .before .before .before .before .before .before .before in
-    omega (arith, c .before .before .before .before .before .before .before .before .before .before .before .before .if2 .left, t .before .loop .inv .1 .sound .room, upqueue-kept (t .before), entry (t .before) .good)
-
-loop-less-2 : tie.Need-loop-less-2 Inv-loop μ-loop
-loop-less-2 c =
-    let t = c .before .before .before .before .before .before .before .before .before .before .before .before .before in
-    omega (arith, c .before .before .before .before .before .before .before .before .before .before .before .before .if2 .left, t .before .loop .inv .1 .sound .room, t .before .loop .inv .5)
-
-loop-again-2 : tie.Need-loop-again-2 Inv-loop μ-loop
-loop-again-2 c =
-    let t = c .before .before .before .before .before .before .before .before .before .before .before .before .before in
-    let start = entry (t .before) in
-    let s = c .before .before .before .before .before .before .before .before .scan2 in
-    let d = scans (up-in start) (omega (arith, c .before .before .before .before .before .before .before .before .before .before .before .before .if2 .left)) (t .before .loop .inv .1) (s .ensures) in (
-      t .before .loop .inv .0,
-      d,
-      t .before .loop .inv .2,
-      t .before .loop .inv .3,
-      s .kept .1 .1 .1 .1 .1 .0 ∙ t .before .loop .inv .4,
-      s .kept .1 .1 .1 .1 .1 .1 .0 ∙ t .before .loop .inv .5,
-      t .before .loop .inv .6,
-      unmet (scans-grew (up-in start) (t .before .loop .inv .1) (s .ensures)) (c .before .meet3 .ensures) (c .if5 .left) (start .args .start) (t .before .loop .inv .7) (t .before .loop .inv .0 .started),
-    )
-
-same-length-17 : tie.Need-same-length-17 Inv-loop μ-loop
-same-length-17 c = seen-kept (c .before)
-
-same-length-18 : tie.Need-same-length-18 Inv-loop μ-loop
-same-length-18 c = queue-kept (c .before)
-
-same-length-19 : tie.Need-same-length-19 Inv-loop μ-loop
-same-length-19 c = upseen-kept (c .before)
-
-same-length-20 : tie.Need-same-length-20 Inv-loop μ-loop
-same-length-20 c = upqueue-kept (c .before)
-
-returns-5 : tie.Need-returns-5 Inv-loop μ-loop
-returns-5 c =
-    let l = c .before in
-    let start = entry l in
-    shut (start .args .goal) (along-in start) (start .pre .0 .starts) (start .pre .1 .0) (c .loop-test .left) (l .loop .inv .0) (l .loop .inv .6)
+returns-2 : tie.Need-returns-2
+returns-2 c = c .before .before .before .before .before .before .before .before .search-on .ensures
 
 pub leads-in-spec : {M : Type 1} → statement M
 leads-in-spec =
     tie.close
-    (tie.spec
-    Inv-loop
-    μ-loop
-    begin-requires
-    begin-requires-2
-    meet-requires
-    same-length
-    same-length-2
-    same-length-3
-    same-length-4
-    returns
-    loop-holds
-    same-length-5
-    same-length-6
-    same-length-7
-    same-length-8
-    returns-2
-    sub-if3
-    add-if3
-    add-if3-2
-    sub-if3-2
-    scan-requires
-    meet-requires-2
-    same-length-9
-    same-length-10
-    same-length-11
-    same-length-12
-    returns-3
-    add-done
-    loop-less
-    loop-again
-    scan-requires-2
-    meet-requires-3
-    same-length-13
-    same-length-14
-    same-length-15
-    same-length-16
-    returns-4
-    add-updone
-    loop-less-2
-    loop-again-2
-    same-length-17
-    same-length-18
-    same-length-19
-    same-length-20
-    returns-5)
+    (tie.spec begin-requires begin-requires-2 meet-requires same-length same-length-2 same-length-3 same-length-4 returns search-on-requires same-length-5 same-length-6 same-length-7 same-length-8 returns-2)
