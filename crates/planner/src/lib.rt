@@ -17,12 +17,12 @@ ghost use Rattle.planner.specs.Answers.{checkOf, Written};
 ghost use Rattle.seeking.specs.Found.{otherThan};
 ghost use Rattle.planner.specs.Reports.{MarksWritten, Reportable, Reported};
 ghost use Rattle.planner.specs.Demands.{DemandOver};
-use seeking::Found;
-use seeking::Sought;
 use marks::MARK_BYTES;
 use network::MAX_BASINS;
 use network::MAX_REACHES;
 use network::Refusal;
+use seeking::Found;
+use seeking::Sought;
 use tables::TableAnswer;
 
 // A finding: the number of the lone reach (0 where the network is shut in) and the count of marked basins.

@@ -27,8 +27,7 @@ loop-holds c = let s = c .before .before .before .before .before .before .before
 
 orient-as-requires : tie.Need-orient-as-requires Inv-loop μ-loop
 orient-as-requires c κs =
-    let s = c .before .before .before .before .before .before .before .before .before .before .before .before .before .before in
-    (
+    let s = c .before .before .before .before .before .before .before .before .before .before .before .before .before .before in (
       record { ready = c .before .before .before .before .loop .inv .1; kinds-full = s .pre .1 .0 .kinds-full; below = c .before .before .before .loop-test .taken },
       under-length (s .args .n) (s .args .kinds .now) (s .args .a .now) (s .args .b .now) (sym (s .pre .1 .0 .kinds-full)) (s .pre .0 .table .paired ∙ sym (s .pre .1 .0 .kinds-full)) (s .args .under .now) (s .pre .1 .0 .under) ∙ s .pre .1 .0 .kinds-full,
     )

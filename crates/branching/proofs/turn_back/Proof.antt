@@ -29,8 +29,7 @@ sub-i c = omega arith
 part-at-requires : tie.Need-part-at-requires Inv-loop μ-loop
 part-at-requires c κs =
     let s = c .before .before .before .before .before .before .before .before .before .before .before .before .before .before in
-    let l = (c .before .before .before .before) .loop in
-    (
+    let l = (c .before .before .before .before) .loop in (
       record { ready = l .inv .1; kinds-full = s .pre .1 .0 .kinds-full; below = omega (arith, c .before .before .before .loop-test .taken, l .inv .0, s .pre .1 .0 .bound) },
       under-length (s .args .n) (s .args .kinds .now) (s .args .a .now) (s .args .b .now) (sym (s .pre .1 .0 .kinds-full)) (s .pre .0 .table .paired ∙ sym (s .pre .1 .0 .kinds-full)) (s .args .under .now) (s .pre .1 .0 .under) ∙ s .pre .1 .0 .kinds-full,
     )

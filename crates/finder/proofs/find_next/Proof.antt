@@ -12,8 +12,7 @@ prepare-requires c κs = let s = c .before .before .before .before .before .befo
 next-of-requires : tie.Need-next-of-requires
 next-of-requires c κs =
     let s = c .before .before .before .before .before .before .before .before .before .before .before .before .before .before .before .before .before .before .before .before .before .before .before .before .before .before in
-    let p = c .before .before .before .before .before .before .before .before .before .before .before .before .prepare in
-    (
+    let p = c .before .before .before .before .before .before .before .before .before .before .before .before .prepare in (
       room-ready (s .pre .room) refl (p .ensures .index) refl refl,
       record { level = room-level (s .pre .room); fits = s .pre .fits; oriented = p .ensures .oriented; ways-room = s .pre .room .ways-room },
     )

@@ -20,8 +20,7 @@ leads-requires : tie.Need-leads-requires
 leads-requires c κs =
     let s = c .before .before .before .before .before .before .before .before .before .before .before in
     let below-a = s .pre .0 .table .ends-a (s .args .i) (s .pre .1) in
-    let below-b = s .pre .0 .table .ends-b (s .args .i) (s .pre .1) in
-    (
+    let below-b = s .pre .0 .table .ends-b (s .args .i) (s .pre .1) in (
       searchable _ (s .pre .0) (subst⁻¹ (λ (v : ℕ). v < s .args .n) (c .before .before .before .end-by .ensures) (pick-below (s .args .way) _ _ below-b below-a)),
       (subst⁻¹ (λ (v : ℕ). v < s .args .n) (c .before .before .end-by2 .ensures) (pick-below (s .args .way) _ _ below-a below-b), s .pre .0 .few-basins),
     )

@@ -35,8 +35,7 @@ returns c =
 orient-all-requires : tie.Need-orient-all-requires
 orient-all-requires c κs =
     let s = c .before .before .before .before .before .before .before .before .before .before .before .before .before .before .before .before .before .before .before .before in
-    let w = c .before .before .before .before .before .before .before .before .shut-in-basin in
-    (
+    let w = c .before .before .before .before .before .before .before .before .shut-in-basin in (
       ready-notes _ _ (s .pre .0) (w .kept .1 .1 .1 .1 .1 .1 .0) (w .kept .1 .1 .1 .1 .1 .1 .1 .0),
       row-passable (s .args .n) (s .args .kinds .now) (s .args .a .now) (s .args .b .now) (s .pre .1) (w .ensures) (λ l. omega (arith, c .before .before .before .if1 .left)),
     )

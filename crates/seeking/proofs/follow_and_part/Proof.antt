@@ -43,8 +43,7 @@ part-from-requires : tie.Need-part-from-requires
 part-from-requires c κs =
     let s = c .before .before .before .before .before .before .before .before .before .before .before .before .before .before .before .before .before .before .before .before .before .before .before .before .before .before .before .before in
     let h = c .before .before .before .before .before .before .before .before .before .before .before .before .before .before .before .before .hang in
-    let f = c .before .before .before .before .before .before .before .before .before .before .follow in
-    (
+    let f = c .before .before .before .before .before .before .before .before .before .before .follow in (
       ready-ways _ (ready-notes _ _ (s .pre .0) (f .kept .1 .1 .1 .1 .1 .1 .1 .1 .0) (f .kept .1 .1 .1 .1 .1 .1 .1 .1 .1 .0)) (simp length-set (f .kept .1 .1 .1 .1 .1 .0 ∙ h .kept .1 .1 .0)),
       follow-partable (s .args .n) (s .args .kinds .now) (s .args .a .now) (s .args .b .now) (s .pre .1) (h .ensures) (f .ensures),
     )

@@ -33,8 +33,7 @@ follow-and-part-requires : tie.Need-follow-and-part-requires
 follow-and-part-requires c κs =
     let s = c .before .before .before .before .before .before .before .before .before .before .before .before .before .before .before .before .before .before .before .before .before .before .before .before .before .before .before .before .before in
     let f = c .before .before .before .before .before .before .before .before .before .before .before .first-from in
-    let e = f .kept .1 .1 .1 .1 .0 ∙ c .before .before .before .before .before .before .before .before .before .before .before .before .before .before .before .before .before .hang .kept .1 .1 .0 in
-    (
+    let e = f .kept .1 .1 .1 .1 .0 ∙ c .before .before .before .before .before .before .before .before .before .before .before .before .before .before .before .before .before .hang .kept .1 .1 .0 in (
       ready-notes _ _ (ready-ways _ (s .pre .0) e) (f .kept .1 .1 .1 .1 .1 .1 .1 .0) (f .kept .1 .1 .1 .1 .1 .1 .1 .1 .0),
       other-followable (s .args .n) (s .args .kinds .now) (s .args .a .now) (s .args .b .now) (s .pre .1) e (c .before .before .before .enum-told2 .given .1) (f .ensures),
     )

@@ -16,8 +16,7 @@ add-complete c = search needs
 complete-requires : tie.Need-complete-requires
 complete-requires c κs =
     let s = c .before .before .before .before .before .before .before .before .before .before .before .before .before .before .before .before .before .before .before .before .before .before .before in
-    let t = c .before .before .before .before .before .before .before .before .before .before .turn-back in
-    (
+    let t = c .before .before .before .before .before .before .before .before .before .before .turn-back in (
       ready-ways _ (ready-notes _ _ (s .pre .0) (t .kept .1 .1 .1 .1 .1 .1 .1 .1 .1 .0) (t .kept .1 .1 .1 .1 .1 .1 .1 .1 .1 .1 .0)) (t .kept .1 .1 .1 .1 .1 .0),
       (step-completable (s .args .n) (s .args .kinds .now) (s .args .a .now) (s .args .b .now) (s .pre .1) (t .ensures) (c .before .before .before .if1 .taken), bridgeless _ (s .pre .1 .some-plan)),
     )
