@@ -23,7 +23,8 @@ use Rattle.orientations.proofs.Parts.{up-length, up-all, up-more, up-plain, up-
 use Rattle.orienting.specs.Tries.{leftOut, ledRound, Tried}
 use Rattle.orienting.proofs.Readies.{tried-same, tried-led, tried-lost}
 use Rattle.orienting.proofs.Rows.{row-below, row-led, row-led-turned, row-gated}
-use Rattle.branching.specs.Follows.{Followed, through, stopped, TurnedBack, turned-at, nowhere, OrientedAs, no-gate, as-under, PartedAt, passed, freed, tried}
+use Rattle.parting.specs.Parts.{OrientedAs, no-gate, as-under, PartedAt, passed, freed, tried}
+use Rattle.branching.specs.Follows.{Followed, through, stopped, TurnedBack, turned-at, nowhere}
 
 -- the gates below i are oriented as us has them, the others usable either way, and everything reaches everything
 pub record Along (N : Network) (us ws : List ℕ) (i : ℕ) : Type 0 where

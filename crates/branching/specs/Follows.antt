@@ -2,16 +2,14 @@
 -- Assumes nothing.
 use Prim.Native.Nat.{ℕ, suc, _≤_, _<_}
 use mathlib.Core.Path.{_≡_}
-use mathlib.Core.Bool.{Bool, true, false}
+use mathlib.Core.Bool.{true}
 use mathlib.Core.List.{List}
 use lib.ListN.{length, getD, set}
 use Rattle.network.specs.Networks.{Network, Accepted}
 use Rattle.network.specs.Settings.{isGated}
 use Rattle.network.specs.Lone.{reachAt}
-use Rattle.network.specs.Tables.{kindOf}
 use Rattle.tables.specs.Rows.{netOf}
 use Rattle.orientations.specs.Partials.{StronglyConnected, NotStronglyConnected, Under, upTo, NoPart}
-use Rattle.orienting.specs.Tries.{Tried}
 
 -- An accepted table, with a kind for each reach, and the ways us under a setting; ws are these up to reach i.
 pub record Following (n : ℕ) (ks xs ys us ws : List ℕ) (i : ℕ) : Type 0 where
@@ -31,15 +29,3 @@ pub data TurnedBack (N : Network) (us : List ℕ) (to : ℕ) : List ℕ → ℕ 
   turned-at : {ws : List ℕ} {r : ℕ} → r < to → isGated ((reachAt N r) .kind) ≡ true → getD us r 3 ≡ 0 → ws ≡ set (upTo N us r) r 1 → StronglyConnected N ws
       → ((j : ℕ) → r < j → j < to → NoPart N us j) → TurnedBack N us to ws r
   nowhere : {ws : List ℕ} {r : ℕ} → r ≡ length (N .reaches) → ((j : ℕ) → j < to → NoPart N us j) → TurnedBack N us to ws r
-
--- What orienting reach i as us has it does: nothing if it is no gate, else the way that us has is tried.
-pub data OrientedAs (ks xs ys us ws : List ℕ) (i : ℕ) : List ℕ → Bool → Type 0 where
-  no-gate : {ws′ : List ℕ} {r : Bool} → isGated (kindOf (getD ks i 0)) ≡ false → ws′ ≡ ws → r ≡ true → OrientedAs ks xs ys us ws i ws′ r
-  as-under : {ws′ : List ℕ} {r : Bool} → isGated (kindOf (getD ks i 0)) ≡ true → Tried xs ys ws i (getD us i 0) ws′ r → OrientedAs ks xs ys us ws i ws′ r
-
--- What trying to part from us upwards at reach i does: nothing if it is no gate; if it is turned already it is usable either way; else it is tried turned.
-pub data PartedAt (ks xs ys us ws : List ℕ) (i : ℕ) : List ℕ → Bool → Type 0 where
-  passed : {ws′ : List ℕ} {r : Bool} → isGated (kindOf (getD ks i 0)) ≡ false → ws′ ≡ ws → r ≡ false → PartedAt ks xs ys us ws i ws′ r
-  freed : {ws′ : List ℕ} {r : Bool} → isGated (kindOf (getD ks i 0)) ≡ true → (getD us i 0 ≡ 0 → ⊥) → ws′ ≡ set ws i 2 → r ≡ false
-      → PartedAt ks xs ys us ws i ws′ r
-  tried : {ws′ : List ℕ} {r : Bool} → isGated (kindOf (getD ks i 0)) ≡ true → getD us i 0 ≡ 0 → Tried xs ys ws i 1 ws′ r → PartedAt ks xs ys us ws i ws′ r

@@ -1,35 +1,10 @@
 // Following a setting gate by gate as far as nothing is lost, and looking back for the last gate at which a later plan parts from it.
 // These functions are for the planner; what they require it has checked.
 ghost use mathlib.Core.Path.{_≡_};
-ghost use lib.ListN.{length};
 ghost use Rattle.tables.specs.Rows.{netOf};
 ghost use Rattle.orientations.specs.Partials.{StronglyConnected, StronglyConnectedBelow};
-ghost use Rattle.orienting.specs.Ready.{Ready, AtReach};
-ghost use Rattle.branching.specs.Follows.{Following, Followed, TurnedBack, OrientedAs, PartedAt};
-
-// Orients reach i, if it is a gate, as `under` has it where that loses nothing; otherwise it is usable either way. Says whether it could.
-fn orient_as(
-    n: usize,
-    kinds: &[u8],
-    a: &[u16],
-    b: &[u16],
-    under: &[u8],
-    ways: &mut [u8],
-    head: &[u16],
-    next: &[u16],
-    i: usize,
-    seen: &mut [u8],
-    queue: &mut [u16],
-) -> bool
-    requires { ⌜ AtReach n (now kinds) (now a) (now b) (now ways) (now head) (now next) i (now seen) (now queue) ⌝ }
-    requires { ⌜ length (now under) ≡ length (now a) ⌝ }
-    ensures { λ r. ⌜ OrientedAs (now (kinds .entry)) (now (a .entry)) (now (b .entry)) (now (under .entry)) (now (ways .entry)) i (now (ways .exit)) r ⌝ }
-{
-    if kinds[i] != 0 {
-        return true;
-    }
-    orienting::try_way(n, a, b, ways, head, next, i, under[i], seen, queue)
-}
+ghost use Rattle.orienting.specs.Ready.{Ready};
+ghost use Rattle.branching.specs.Follows.{Following, Followed, TurnedBack};
 
 // Orients the gates one after the other as `under` has them, from ways of which all gates are usable either way.
 // Returns the number of reaches, or the first gate that loses something if it is oriented so: that one and those after it are usable either way.
@@ -52,40 +27,12 @@ pub fn follow(
 {
     let mut i = 0;
     while i < a.len() {
-        if !orient_as(n, kinds, a, b, under, ways, head, next, i, seen, queue) {
+        if !parting::orient_as(n, kinds, a, b, under, ways, head, next, i, seen, queue) {
             return i;
         }
         i += 1;
     }
     i
-}
-
-// Turns reach i if it is a gate that `under` has as drawn and that loses nothing; otherwise a gate is usable either way. Says whether it was turned.
-fn part_at(
-    n: usize,
-    kinds: &[u8],
-    a: &[u16],
-    b: &[u16],
-    under: &[u8],
-    ways: &mut [u8],
-    head: &[u16],
-    next: &[u16],
-    i: usize,
-    seen: &mut [u8],
-    queue: &mut [u16],
-) -> bool
-    requires { ⌜ AtReach n (now kinds) (now a) (now b) (now ways) (now head) (now next) i (now seen) (now queue) ⌝ }
-    requires { ⌜ length (now under) ≡ length (now a) ⌝ }
-    ensures { λ r. ⌜ PartedAt (now (kinds .entry)) (now (a .entry)) (now (b .entry)) (now (under .entry)) (now (ways .entry)) i (now (ways .exit)) r ⌝ }
-{
-    if kinds[i] != 0 {
-        return false;
-    }
-    if under[i] != 0 {
-        ways[i] = 2;
-        return false;
-    }
-    orienting::try_way(n, a, b, ways, head, next, i, 1, seen, queue)
 }
 
 // From ways that `under` has up to reach `to`, looks back for the last gate before it that is drawn and can be turned without loss, and turns it.
@@ -111,7 +58,7 @@ pub fn turn_back(
     let mut i = to;
     while i > 0 {
         i -= 1;
-        if part_at(n, kinds, a, b, under, ways, head, next, i, seen, queue) {
+        if parting::part_at(n, kinds, a, b, under, ways, head, next, i, seen, queue) {
             return i;
         }
     }

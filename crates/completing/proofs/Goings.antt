@@ -19,7 +19,7 @@ use Rattle.orientations.proofs.Least.{bytes-ways}
 use Rattle.orientations.proofs.Goings.{Going, going-plain, going-drawn, going-turned, going-end, bridge-cut, is-bridge}
 use Rattle.orienting.specs.Tries.{leftOut, ledRound}
 use Rattle.orienting.proofs.Rows.{row-arcs, row-below, row-led, row-led-turned, row-gated}
-use Rattle.completing.specs.Gates.{OrientedGate, no-gate, drawn, turned, neither, Settled, as-it-was, as-drawn, as-turned}
+use Rattle.deciding.specs.Gates.{OrientedGate, no-gate, drawn, turned, neither, Settled, as-it-was, as-drawn, as-turned}
 use Rattle.completing.specs.Greedy.{Greedy, all-oriented, bridge-at, Completed}
 
 bit-small : (b : Bool) → bit b ≤ 1

@@ -1,3 +1,2 @@
 -- What the contracts of the functions that complete a partial orientation say.
-pub mod Gates
 pub mod Greedy

@@ -3,40 +3,8 @@
 ghost use mathlib.Core.Path.{_≡_};
 ghost use Rattle.tables.specs.Rows.{netOf};
 ghost use Rattle.orientations.specs.Partials.{Bridgeless};
-ghost use Rattle.orienting.specs.Ready.{Ready, AtReach};
-ghost use Rattle.completing.specs.Gates.{OrientedGate, Settled};
+ghost use Rattle.orienting.specs.Ready.{Ready};
 ghost use Rattle.completing.specs.Greedy.{Completable, Greedy, Completed};
-
-// Orients reach i, if it is a gate, as drawn where that loses nothing, else turned where that does not. Says whether it could; if not, seen holds
-// what its end A leads to without it.
-fn orient_gate(
-    n: usize,
-    kinds: &[u8],
-    a: &[u16],
-    b: &[u16],
-    ways: &mut [u8],
-    head: &[u16],
-    next: &[u16],
-    i: usize,
-    seen: &mut [u8],
-    queue: &mut [u16],
-) -> bool
-    requires { ⌜ AtReach n (now kinds) (now a) (now b) (now ways) (now head) (now next) i (now seen) (now queue) ⌝ }
-    ensures { λ r. ⌜ OrientedGate n (now (kinds .entry)) (now (a .entry)) (now (b .entry)) (now (ways .entry)) i (now (ways .exit)) (now (seen .exit)) r ⌝ }
-{
-    if kinds[i] != 0 {
-        return true;
-    }
-    if orienting::try_way(n, a, b, ways, head, next, i, 0, seen, queue) {
-        return true;
-    }
-    if orienting::try_way(n, a, b, ways, head, next, i, 1, seen, queue) {
-        return true;
-    }
-    ways[i] = 3;
-    search::search(n, a, b, ways, head, next, a[i], false, seen, queue);
-    false
-}
 
 // Orients the gates from reach `from` on, one after the other. Returns the number of reaches, or the first gate that can get neither way.
 pub fn greedy(
@@ -58,38 +26,12 @@ pub fn greedy(
 {
     let mut i = from;
     while i < a.len() {
-        if !orient_gate(n, kinds, a, b, ways, head, next, i, seen, queue) {
+        if !deciding::orient_gate(n, kinds, a, b, ways, head, next, i, seen, queue) {
             return i;
         }
         i += 1;
     }
     i
-}
-
-// Orients reach i, if it is a gate, as drawn where that loses nothing, else turned: for a gate that is no bridge, one of the two loses nothing.
-fn settle(
-    n: usize,
-    kinds: &[u8],
-    a: &[u16],
-    b: &[u16],
-    ways: &mut [u8],
-    head: &[u16],
-    next: &[u16],
-    i: usize,
-    seen: &mut [u8],
-    queue: &mut [u16],
-)
-    requires { ⌜ AtReach n (now kinds) (now a) (now b) (now ways) (now head) (now next) i (now seen) (now queue) ⌝ }
-    ensures { λ _. ⌜ Settled (now (kinds .entry)) (now (a .entry)) (now (b .entry)) (now (ways .entry)) i (now (ways .exit)) ⌝ }
-{
-    if kinds[i] != 0 {
-        return;
-    }
-    let drawn = orienting::try_way(n, a, b, ways, head, next, i, 0, seen, queue);
-    if drawn {
-        return;
-    }
-    ways[i] = 1;
 }
 
 // The same as `greedy` where no reach is a bridge: one search for each gate, and every gate gets a way.
@@ -112,7 +54,7 @@ pub fn complete(
 {
     let mut i = from;
     while i < a.len() {
-        settle(n, kinds, a, b, ways, head, next, i, seen, queue);
+        deciding::settle(n, kinds, a, b, ways, head, next, i, seen, queue);
         i += 1;
     }
 }

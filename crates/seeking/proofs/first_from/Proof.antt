@@ -50,7 +50,7 @@ same-length-6 : tie.Need-same-length-6
 same-length-6 c = search needs
 
 returns-2 : tie.Need-returns-2
-returns-2 c = search needs
+returns-2 c = c .before .before .before .before .before .before .orient-all .ensures
 
 pub first-from-spec : {M : Type 1} → statement M
 first-from-spec =

@@ -1,13 +1,13 @@
--- `completing::settle` meets its contract: as drawn, else turned.
+-- `deciding::settle` meets its contract: as drawn, else turned.
 -- Assumes nothing.
 use native.Mathlib.Omega.{arith}
 use mathlib.Core.Path.{refl}
 use borrow.Author.Needs.{needs}
-use Rattle.completing.specs.Gates.{as-it-was}
+use Rattle.deciding.specs.Gates.{as-it-was}
 use Rattle.orienting.proofs.Readies.{kind-gate, kind-plain}
-use Rattle.completing.proofs.Gates.{settled-drawn, settled-turned}
-use Rattle.completing.proofs.settle.Statement.{statement}
-use Rattle.completing.proofs.settle.Tie as tie
+use Rattle.deciding.proofs.Gates.{settled-drawn, settled-turned}
+use Rattle.deciding.proofs.settle.Statement.{statement}
+use Rattle.deciding.proofs.settle.Tie as tie
 
 shared-slice-read-if1 : tie.Need-shared-slice-read-if1
 shared-slice-read-if1 c = omega arith

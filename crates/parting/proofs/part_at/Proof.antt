@@ -1,12 +1,12 @@
--- `branching::part_at` meets its contract: a gate that is as drawn is tried turned.
+-- `parting::part_at` meets its contract: a gate that is as drawn is tried turned.
 -- Assumes nothing.
 use native.Mathlib.Omega.{arith}
 use mathlib.Core.Path.{refl}
 use borrow.Author.Needs.{needs}
-use Rattle.branching.specs.Follows.{passed, freed, tried}
+use Rattle.parting.specs.Parts.{passed, freed, tried}
 use Rattle.orienting.proofs.Readies.{kind-gate, kind-plain}
-use Rattle.branching.proofs.part_at.Statement.{statement}
-use Rattle.branching.proofs.part_at.Tie as tie
+use Rattle.parting.proofs.part_at.Statement.{statement}
+use Rattle.parting.proofs.part_at.Tie as tie
 
 shared-slice-read-if1 : tie.Need-shared-slice-read-if1
 shared-slice-read-if1 c = omega arith

@@ -1,12 +1,12 @@
--- `branching::orient_as` meets its contract: the try that the byte asks for.
+-- `parting::orient_as` meets its contract: the try that the byte asks for.
 -- Assumes nothing.
 use native.Mathlib.Omega.{arith}
 use mathlib.Core.Path.{refl}
 use borrow.Author.Needs.{needs}
-use Rattle.branching.specs.Follows.{no-gate, as-under}
+use Rattle.parting.specs.Parts.{no-gate, as-under}
 use Rattle.orienting.proofs.Readies.{kind-gate, kind-plain}
-use Rattle.branching.proofs.orient_as.Statement.{statement}
-use Rattle.branching.proofs.orient_as.Tie as tie
+use Rattle.parting.proofs.orient_as.Statement.{statement}
+use Rattle.parting.proofs.orient_as.Tie as tie
 
 shared-slice-read-if1 : tie.Need-shared-slice-read-if1
 shared-slice-read-if1 c = omega arith

@@ -14,7 +14,7 @@ use Rattle.half_edges.specs.Ends.{arcsOf}
 use Rattle.search.specs.Searches.{Noted}
 use Rattle.orienting.specs.Tries.{Tried}
 use Rattle.orienting.proofs.Readies.{tried-same, tried-rest, tried-led, tried-lost}
-use Rattle.completing.specs.Gates.{OrientedGate, drawn, turned, neither, Settled, as-drawn, as-turned}
+use Rattle.deciding.specs.Gates.{OrientedGate, drawn, turned, neither, Settled, as-drawn, as-turned}
 
 module _ (ks : List ℕ) {xs ys : List ℕ} (ws : List ℕ) (i : ℕ) (g : isGated (kindOf (getD ks i 0)) ≡ true) {ws₁ : List ℕ} {r₁ : Bool} (t : Tried xs ys ws i 0 ws₁ r₁) where
   -- the first try succeeded

@@ -1,14 +1,14 @@
--- `completing::orient_gate` meets its contract: as drawn, else turned.
+-- `deciding::orient_gate` meets its contract: as drawn, else turned.
 -- Assumes nothing.
 use native.Mathlib.Omega.{arith}
 use mathlib.Core.Path.{refl, _∙_}
 use lib.ListN.{length-set}
 use borrow.Author.Needs.{needs}
-use Rattle.completing.specs.Gates.{no-gate}
+use Rattle.deciding.specs.Gates.{no-gate}
 use Rattle.orienting.proofs.Readies.{searchable, ready-ways, ready-notes, kind-gate, kind-plain}
-use Rattle.completing.proofs.Gates.{gate-drawn, gate-turned, gate-neither}
-use Rattle.completing.proofs.orient_gate.Statement.{statement}
-use Rattle.completing.proofs.orient_gate.Tie as tie
+use Rattle.deciding.proofs.Gates.{gate-drawn, gate-turned, gate-neither}
+use Rattle.deciding.proofs.orient_gate.Statement.{statement}
+use Rattle.deciding.proofs.orient_gate.Tie as tie
 
 shared-slice-read-if1 : tie.Need-shared-slice-read-if1
 shared-slice-read-if1 c = omega arith
