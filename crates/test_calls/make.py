@@ -470,7 +470,7 @@ class Group:
         k, x, y = (self.total if z is None else z for z in (k, x, y))
         n = len(data) if n is None else n
         c = [CALLS.index(call) + (128 if listed else 0)] + [z for v in (basins, k, x, y, p, m, n, limit) for z in two(v)] + list(data)
-        fields = {'basins': 1, 'basins high': 2, 'k': 3, 'k high': 4, 'x': 5, 'y': 7, 'p': 9, 'p high': 10, 'm': 11, 'n': 13}
+        fields = {'basins': 1, 'basins high': 2, 'k': 3, 'k high': 4, 'x': 5, 'y': 7, 'p': 9, 'm': 11, 'n': 13}
         vary = [(fields[v[0]] if v[0] in fields else 17 + v[0],) + tuple(v[1:]) for v in vary]
         mode = mode if mode is not None else BRIEF if vary else FULL
         name = name or call
@@ -583,7 +583,8 @@ for title, kind in (('flaps', F), ('two-way reaches', T)):
 gr = group('case 12: gates round a ring of 256 basins, four times', [(G, 0, 1)], 1030, 1, 256)
 zeros = [0] * 1025
 gr.case('first', 0, p=1024, k=1024, vary=EDGES)
-gr.case('first', 256, p=1023, k=1024, vary=[('p high', 2, 3), ('m', 3, 31)])
+gr.case('first', 256, p=1023, k=1024, vary=[('m', 3, 31)])
+gr.case('first', 256, p=1024, k=1024, vary=[('p', 3, 0), ('m', 3, 31)])
 gr.case('check', 256, zeros, n=1024, k=1024, vary=[('k', 2, 0), ('n', 2, 0), (1023, 3, 0)])
 gr.case('next', 256, zeros, n=1024, p=1024, k=1024, vary=[('k', 2, 0), ('n', 2, 0), (1023, 3, 0)])
 gr.case('make', 256, zeros, n=1024, p=16, k=1024, vary=[('k', 2, 0), ('n', 2, 0), (1023, 3, 0)])
