@@ -317,7 +317,7 @@ class Out:
         self.number, self.run = number, 1
 
     def value(self, x):
-        if self.mode != QUIET:
+        if self.mode != QUIET and self.number in (0, 9, 10):
             self.text.append(',%d' % x)
         self.add(x)
 
@@ -329,16 +329,15 @@ class Out:
 
     def listing(self, text):
         self.text.append('\n' + text[:2000])
-        for x in text.encode():
-            self.add(x)
 
     def end(self):
         self.end_run()
         return ''.join(self.text) + ' #%06x\n' % self.sum
 
 
-CALLS = ['table', 'check', 'first', 'next', 'make', 'step', 'walk', 'read network', 'write network', 'read sheet', 'write sheet', 'write reply', 'list',
-         'walker']
+# first plan is a walk that does not go on, a step a walker that does not
+CALLS = ['table', 'check', 'walk', 'next', 'make', 'walker', 'read network', 'write network', 'read sheet', 'write sheet', 'write reply', 'list']
+CODES = dict([(call, i) for i, call in enumerate(CALLS)] + [('first', 2), ('step', 5)])
 
 
 def padded(front, n, old=OLD):
@@ -361,20 +360,18 @@ def show_step(o, answer, held, p, m):
     o.row(held)
 
 
-def play(o, c, rows):
-    """One call, from its bytes, on a group's rows or on those that stand in it."""
-    if c[0] >= 128:
-        rows, c = rows_of(c[17:]), [c[0] - 128] + c[1:]
-    call, basins, k, x, y, p, m, n, limit = (CALLS[c[0]],) + tuple(word(c, i) for i in range(1, 16, 2))
-    s = c[17:17 + n]
-    reaches = tuple(rows[:min(k, x, y)])
+def play(o, c, table):
+    """One call, from its bytes, on a table or on that which stands in its data."""
+    call, basins, k, x, y, p, m, n, limit = (CALLS[c[0]],) + tuple(word(c, i) for i in range(1, 17, 2))
+    s = c[19:19 + n]
+    reaches = rows_of(c[19:] if table is None else table, k, x, y)
     held = s + [OLD] * (1024 - len(s))
     if call == 'table':
         o.reply(table_fault(basins, reaches))
     elif call == 'check':
         o.reply(check(basins, reaches, s))
-    elif call in ('first', 'next'):
-        show_plan_call(o, plan_call(basins, reaches, s if call == 'next' else None, p, m), p, m)
+    elif call == 'next':
+        show_plan_call(o, plan_call(basins, reaches, s, p, m), p, m)
     elif call == 'make':
         number = check(basins, reaches, s)
         number = 0 if number in ('y', 'n') else number
@@ -382,9 +379,6 @@ def play(o, c, rows):
         made = s + [0] * (1024 - len(s)) if number == 0 else [0] * 1024
         o.row(made[:p])
         o.row(made)
-    elif call == 'step':
-        answer, held = step_call(held, basins, reaches, p, m)
-        show_step(o, answer, held, p, m)
     elif call == 'walk':
         setting = None
         for _ in range(1 + limit):
@@ -417,91 +411,91 @@ def play(o, c, rows):
         o.reply(0)
         o.value(len(text))
         o.listing(text)
-        o.row([OLD] * (p + 2 - len(text)))
+        o.row(padded(text.encode(), p))
     else:
         got = read_sheet(basins, reaches, s, p) if call == 'read sheet' else write(call, basins, reaches, s, p)
         o.reply(got if isinstance(got, int) else 0)
-        if isinstance(got, int):
-            got = ()
-        else:
-            o.value(len(got))
+        got = () if isinstance(got, int) else got
+        o.value(len(got))
         o.row(padded(got, p))
 
 
 # ---- the case file
 
-def hexed(s):
-    return ''.join('%02x' % x for x in s)
+def table_bytes(reaches):
+    """The number of reaches, a kind for each, then both ends of each."""
+    out = two(len(reaches)) + [k for k, _, _ in reaches] + [x for _, a, b in reaches for x in two(a) + two(b)]
+    return out + [0] * (len(out) % 2)
 
 
-def table_bytes(listed, total=None, by=0, size=0, odd=None):
-    """How a table is made. The first reaches are listed; each later one is the reach as many places before, with its ends moved on; one may be odd."""
-    place, (kind, a, b) = odd or (65535, (0, 0, 0))
-    total = len(listed) if total is None else total
-    head = two(len(listed)) + two(total) + two(by) + two(size) + two(place) + [kind] + two(a) + two(b)
-    return head, [x for kind, a, b in listed for x in [kind] + two(a) + two(b)]
+@lru_cache(maxsize=None)
+def kept_rows(s, k, x, y):
+    n = word(s, 0)
+    kinds = list(s[2:2 + n])
+    ends = [(word(s, 2 + n + 4 * i), word(s, 4 + n + 4 * i)) for i in range(n)] + [(0, 0)] * (1030 - n)
+    return tuple((kind, a, b) for kind, (a, _), (_, b) in zip(kinds[:k], ends[:x], ends[:y]))
 
 
-def rows_of(s):
-    """The table that is made so: 15 bytes of head, two for the number of cases, those listed."""
-    count, total, by, size, place = (word(s, i) for i in range(0, 10, 2))
-    rows = []
-    for i in range(total):
-        at = 10 if i == place else 17 + 5 * i
-        if i == place or i < count:
-            rows.append((s[at], word(s, at + 1), word(s, at + 3)))
-        else:
-            kind, a, b = rows[i - count]
-            rows.append((kind, (a + by) % size, (b + by) % size))
-    return rows + [(0, 0, 0)] * (1030 - total)
+def rows_of(s, k, x, y):
+    """A table whose rows are lent to such lengths; it is as long as the shortest."""
+    return kept_rows(tuple(s), k, x, y)
 
 
 class Group:
     """The cases on one table."""
 
-    def __init__(self, title, listed, *how):
-        self.title, self.lines, self.expected = title, [], []
-        self.head, self.listed = table_bytes(listed, *how)
-        self.rows = rows_of(self.head + [0, 0] + self.listed)
-        self.total = word(self.head, 2)
+    def __init__(self, title, reaches):
+        self.title, self.cases, self.expected = title, [], []
+        self.reaches, self.table, self.total = tuple(reaches), table_bytes(reaches), len(reaches)
 
     def case(self, call, basins, data=(), p=0, m=32, n=None, k=None, x=None, y=None, limit=0, vary=(), mode=None, name=None, listed=False):
-        """A call, once or with variations: (field or place in the data, number of values, lowest), of which the last varies first."""
+        """A call, once or with variations: (field or place in the data, number of values, lowest), of which the last varies first.
+        Where it is listed, the data is the table."""
         k, x, y = (self.total if z is None else z for z in (k, x, y))
         n = len(data) if n is None else n
-        c = [CALLS.index(call) + (128 if listed else 0)] + [z for v in (basins, k, x, y, p, m, n, limit) for z in two(v)] + list(data)
+        c = [CODES[call]] + [z for v in (basins, k, x, y, p, m, n, limit, 0) for z in two(v)] + list(data)
         fields = {'basins': 1, 'basins high': 2, 'k': 3, 'k high': 4, 'x': 5, 'y': 7, 'p': 9, 'm': 11, 'n': 13}
-        vary = [(fields[v[0]] if v[0] in fields else 17 + v[0],) + tuple(v[1:]) for v in vary]
-        mode = mode if mode is not None else BRIEF if vary else FULL
+        vary = [(fields[v[0]] if v[0] in fields else 19 + v[0],) + tuple(v[1:]) for v in vary]
+        mode = mode if mode is not None else BRIEF if vary or call == 'list' else FULL
         name = name or call
-        if not self.lines:
+        if not self.cases:
             name = '== %s\n%s' % (self.title, name)
         count = 1
         for _, values, _ in vary:
             count *= values
         v = [z for place, values, lowest in vary for z in two(place) + two(values) + [lowest]]
-        self.lines.append('%02x "%s" %s %s%s %s' % (
-            len(name), name, hexed([mode, len(vary)] + two(count % 65536) + [count // 65536]), hexed(two(len(c))), ' ' + hexed(v) if v else '',
-            hexed(c[:17]) + (' ' + hexed(data) if data else '')))
+        head = [len(name)] + list(name.encode()) + [mode, len(vary)] + two(count % 65536) + [count // 65536] + two(len(c)) + v
+        self.cases.append((head, c, listed))
         o = Out(mode)
         for i in range(count):
             d = list(c)
             for place, values, lowest in reversed(vary):
                 d[place], i = (i % values + lowest) % 256, i // values
-            play(o, d, self.rows)
+            play(o, d, None if listed else self.table)
         self.expected.append(name + ':' + o.end())
 
-    def stdin(self):
-        return '%s %s%s\n%s\n' % (hexed(self.head), hexed(two(len(self.lines))),
-                                        ' ' + hexed(self.listed) if self.listed else '', '\n'.join(self.lines))
+    def bytes(self, place):
+        """The cases, where the table stands at this place, in steps of two bytes."""
+        out = []
+        for head, c, listed in self.cases:
+            out += head + c[:17] + two(0 if listed else place) + c[19:]
+        return out
 
 
 GROUPS = []
 
 
-def group(*args, **more):
-    GROUPS.append(Group(*args, **more))
+def group(title, reaches):
+    GROUPS.append(Group(title, reaches))
     return GROUPS[-1]
+
+
+def ring(basins, size, kind, odd=None):
+    """Reaches of a kind from each basin to the next, round and round, of which one may be odd."""
+    out = [(kind, i % basins, (i + 1) % basins) for i in range(size)]
+    if odd:
+        out[odd[0]] = odd[1]
+    return out
 
 
 class Sequence:
@@ -550,7 +544,7 @@ def whole(title, basins, reaches):
     sheet = plan_sheet(reaches, zeros)
     gr.case('read sheet', basins, sheet, p=g, vary=[(3 + 3 * i, 2, 17) for i in range(g)])
     gr.case('read sheet', basins, reply_sheet(basins, reaches), p=g + 1)
-    gr.case('list', 0, file, p=len(listing(file)) + 3)
+    gr.case('list', 0, file, p=len(listing(file)) + 16)
 
 
 whole('case 1: one basin, no reach', 1, [])
@@ -572,7 +566,7 @@ whole('case 13: four basins, all six pairs gated', 4, [(G, a, b) for a in range(
 EDGES = [('basins high', 2, 0), ('basins', 2, 0), ('k', 2, 0)]      # 0, 1, 256 and 257 basins; 1,024 and 1,025 reaches
 
 for title, kind in (('flaps', F), ('two-way reaches', T)):
-    gr = group('case 12: %s round a ring of 256 basins' % title, [(kind, 0, 1)], 1030, 1, 256)
+    gr = group('case 12: %s round a ring of 256 basins' % title, ring(256, 1026, kind))
     for call in ('table', 'check', 'first', 'next', 'make', 'step', 'write reply', 'write sheet'):
         gr.case(call, 0, p=4, k=1024, vary=EDGES)
     gr.case('read sheet', 0, [16, 0, 0, 9], p=0, k=1024, vary=EDGES)
@@ -580,7 +574,7 @@ for title, kind in (('flaps', F), ('two-way reaches', T)):
     gr.case('write network', 256, p=5123, k=1024, vary=[('p', 3, 3)])
     gr.case('first', 256, k=256)
 
-gr = group('case 12: gates round a ring of 256 basins, four times', [(G, 0, 1)], 1030, 1, 256)
+gr = group('case 12: gates round a ring of 256 basins, four times', ring(256, 1026, G))
 zeros = [0] * 1025
 gr.case('first', 0, p=1024, k=1024, vary=EDGES)
 gr.case('first', 256, p=1023, k=1024, vary=[('m', 3, 31)])
@@ -590,15 +584,14 @@ gr.case('next', 256, zeros, n=1024, p=1024, k=1024, vary=[('k', 2, 0), ('n', 2, 
 gr.case('make', 256, zeros, n=1024, p=16, k=1024, vary=[('k', 2, 0), ('n', 2, 0), (1023, 3, 0)])
 gr.case('step', 256, zeros[:1024], p=1024, k=1024, vary=[('k', 2, 0), (1023, 3, 0)])
 gr.case('write sheet', 256, zeros, n=1024, p=3076, k=1024, vary=[('k', 2, 0), ('n', 2, 0), ('p', 3, 3)])
-gr.case('read sheet', 256, plan_sheet(tuple(gr.rows[:1024]), zeros[:1024]), p=1024, k=1024, vary=[('k', 2, 0), (3 + 3 * 1023, 2, 17)])
+gr.case('read sheet', 256, plan_sheet(gr.reaches[:1024], zeros[:1024]), p=1024, k=1024, vary=[('k', 2, 0), (3 + 3 * 1023, 2, 17)])
 gr.case('walk', 256, p=1024, k=1024, limit=2)
 gr.case('walker', 256, zeros[:1024], p=1024, k=1024, limit=2)
-gr.case('table', 256, k=1025, x=1024, y=1030)
-gr.case('table', 256, k=1030, x=1030, y=1025)
+gr.case('table', 256, k=1025, x=1024, y=1026)
+gr.case('table', 256, k=1026, x=1026, y=1025)
 
-for odd, title in (((G, 256, 0), 'G 256-0'), ((G, 0, 256), 'G 0-256'), ((G, 0, 255), 'G 0-255'), ((F, 0, 255), 'F 0-255'), ((F, 255, 0), 'F 255-0'),
-                   ((T, 0, 255), 'T 0-255')):
-    gr = group('gates round a ring of 255 basins, and reach 700 is ' + title, [(G, 0, 1)], 1030, 1, 255, (700, odd))
+for odd, title in (((G, 256, 0), 'G 256-0'), ((G, 0, 255), 'G 0-255'), ((F, 0, 255), 'F 0-255'), ((T, 0, 255), 'T 0-255')):
+    gr = group('gates round a ring of 255 basins, and reach 700 is ' + title, ring(255, 1025, G, (700, odd)))
     gr.case('table', 0, k=1024, vary=EDGES)
     gr.case('first', 256, p=1024, k=1024)
     gr.case('write reply', 0, p=3076, k=1024, vary=EDGES)
@@ -613,19 +606,19 @@ for x, y in ((3, 3), (3, 4), (4, 3), (4, 4), (65535, 0)):
     gr.case('read sheet', 4, [16, 0, 0, 9], p=0)
 
 for place, odd, title in ((245, (G, 245, 246), 'G 245-246'), (9, (F, 10, 9), 'F 10-9'), (0, (F, 0, 1), 'F 0-1')):
-    gr = group('256 basins in a line of two-way reaches, and reach %d is %s' % (place, title), [(T, 0, 1)], 255, 1, 256, (place, odd))
+    gr = group('256 basins in a line of two-way reaches, and reach %d is %s' % (place, title), ring(256, 255, T, (place, odd)))
     gr.case('first', 256, p=1)
-    gr.case('next', 256, [0] * gates_of(gr.rows[:255]), p=1, m=34)
+    gr.case('next', 256, [0] * gates_of(gr.reaches), p=1, m=34)
     gr.case('write reply', 256, p=36)
 
 
 # ---- case 14: a 16 by 16 grid, row by row the reaches to the right, then those down
 
-grid = [(G, v, v + 1) for v in range(15)] + [(G, v, v + 16) for v in range(16)]
-gr = group('case 14: a 16 by 16 grid', grid, 480, 16, 256)
+grid = [r for row in range(0, 256, 16) for r in [(G, v, v + 1) for v in range(row, row + 15)] + [(G, v, v + 16) for v in range(row, row + 16) if row < 240]]
+gr = group('case 14: a 16 by 16 grid', grid)
 gr.case('walk', 256, p=480, limit=10)
 gr.case('walker', 256, [0] * 480, p=480, limit=10)
-gr.case('check', 256, network(256, tuple(gr.rows[:480])).next_plan(), vary=[(479, 2, 0)])
+gr.case('check', 256, network(256, gr.reaches).next_plan(), vary=[(479, 2, 0)])
 gr.case('write reply', 256, p=1444)
 
 
@@ -697,9 +690,9 @@ for i, (basins, reaches) in enumerate(some_networks()):
 # ---- all networks of a few reaches: their plans in order
 
 def networks(basins, size, mode):
-    head, listed = table_bytes([(G, 0, 0)] * size)
-    vary = [v for i in range(size) for v in ((17 + 5 * i, 3, 0), (18 + 5 * i, basins, 0), (20 + 5 * i, basins, 0))]
-    gr.case('walk', basins, head + [0, 0] + listed, p=size, k=size, x=size, y=size, limit=1100, vary=vary, mode=mode, listed=True,
+    ends = 2 + size
+    vary = [v for i in range(size) for v in ((2 + i, 3, 0), (ends + 4 * i, basins, 0), (ends + 2 + 4 * i, basins, 0))]
+    gr.case('walk', basins, table_bytes([(G, 0, 0)] * size), p=size, k=size, x=size, y=size, limit=1100, vary=vary, mode=mode, listed=True,
             name='%d basins, %d reaches' % (basins, size))
 
 
@@ -766,9 +759,13 @@ gr.case('write sheet', 3, [0, 0, 0], vary=settings(3) + [('p', 16, 0)])
 
 def main():
     here = os.path.dirname(os.path.abspath(__file__))
-    with open(os.path.join(here, 'stdin'), 'w') as f:
-        f.write('# The cases of test_calls, made by make.py: pairs of hexadecimal digits, and text in quotes.\n%s\n' % hexed(two(len(GROUPS))))
-        f.write(''.join(g.stdin() for g in GROUPS))
+    tables, places = [], []
+    for g in GROUPS:
+        places.append((4 + len(tables)) // 2)
+        tables += g.table
+    cases = [x for g, place in zip(GROUPS, places) for x in g.bytes(place)]
+    with open(os.path.join(here, 'stdin'), 'wb') as f:
+        f.write(bytes(two(sum(len(g.cases) for g in GROUPS)) + two((4 + len(tables)) // 2) + tables + cases))
     with open(os.path.join(here, 'stdout'), 'w') as f:
         f.write(''.join(x for g in GROUPS for x in g.expected))
 

@@ -1,4 +1,4 @@
-// Reads and stores that stay within their row, and parts of rows: nothing here asks its caller for a proof.
+// Reads that stay within their row, and parts of rows: nothing here asks its caller for a proof.
 ghost use Rattle.io.specs.Counts.{Counts};
 
 // What every entry of a lent buffer holds before a call.
@@ -6,15 +6,9 @@ pub const OLD: u8 = 170;
 
 pub const OLD_WORD: u16 = 43690;
 
-// The byte at a place, 0 past the end; and a store there, none past the end.
+// The byte at a place, 0 past the end.
 pub fn byte_at(s: &[u8], i: usize) -> u8 {
     if i < s.len() { s[i] } else { 0 }
-}
-
-pub fn put(s: &mut [u8], i: usize, x: u8) {
-    if i < s.len() {
-        s[i] = x;
-    }
 }
 
 // The sum of two numbers that are not large.

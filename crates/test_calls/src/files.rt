@@ -3,7 +3,6 @@ use crate::bounds::OLD;
 use crate::bounds::OLD_WORD;
 use crate::bounds::front;
 use crate::bounds::front_words;
-use crate::bounds::rest;
 use crate::bounds::sum;
 use crate::bounds::within;
 use crate::bounds::within_words;
@@ -11,7 +10,6 @@ use crate::plans::number;
 use crate::show;
 use crate::show::Out;
 use crate::table_rows::ROOM;
-use crate::table_rows::Rows;
 use netfile::ReadAnswer;
 use netfile::WriteAnswer;
 use sheetfile::SheetAnswer;
@@ -26,7 +24,9 @@ pub struct Lengths {
 // A reader's answer, and the rows afterwards.
 pub struct Reading {
     answer: ReadAnswer,
-    rows: Rows,
+    kinds: [u8; ROOM],
+    a: [u16; ROOM],
+    b: [u16; ROOM],
 }
 
 pub fn read(file: &[u8], n: Lengths) -> Reading {
@@ -39,7 +39,9 @@ pub fn read(file: &[u8], n: Lengths) -> Reading {
     let answer = netfile::read_network_rows(file, &mut kinds[..k], &mut a[..x], &mut b[..y]);
     Reading {
         answer,
-        rows: Rows { kinds, a, b },
+        kinds,
+        a,
+        b,
     }
 }
 
@@ -62,10 +64,9 @@ fn show_ends(o: Out, row: &[u16; ROOM], n: usize) -> Out {
 // Prints a reader's answer and the rows, with two entries beyond each.
 pub fn show_rows(o: Out, r: Reading, n: Lengths) -> Out {
     let answer = r.answer;
-    let rows = r.rows;
-    let kinds = rows.kinds;
-    let a = rows.a;
-    let b = rows.b;
+    let kinds = r.kinds;
+    let a = r.a;
+    let b = r.b;
     let o = show_read(o, answer);
     let o = show::bytes(o, front(&kinds, sum(n.kinds, 2)));
     let o = show_ends(o, &a, n.a);
@@ -101,17 +102,19 @@ fn sheet_read(answer: SheetAnswer) -> Size {
 // An answer, and the buffer afterwards.
 pub struct Left {
     size: Size,
-    bytes: [u8; 5200],
+    bytes: [u8; 11100],
 }
 
 // The calls, by the bytes of the case file.
-pub const WRITE_NETWORK: u8 = 8;
+const WRITE_NETWORK: u8 = 7;
 
-pub const READ_SHEET: u8 = 9;
+const READ_SHEET: u8 = 8;
 
-pub const WRITE_SHEET: u8 = 10;
+const WRITE_SHEET: u8 = 9;
 
-pub const WRITE_REPLY: u8 = 11;
+const WRITE_REPLY: u8 = 10;
+
+const LIST: u8 = 11;
 
 fn fill(
     call: u8,
@@ -126,7 +129,11 @@ fn fill(
         WRITE_NETWORK => written(netfile::write_network_rows(basins, kinds, a, b, out)),
         READ_SHEET => sheet_read(sheet::read_sheet_rows(basins, kinds, a, b, s, out)),
         WRITE_SHEET => written(sheet::write_sheet_rows(basins, kinds, a, b, s, out)),
-        _ => written(sheet::write_reply_rows(basins, kinds, a, b, out)),
+        WRITE_REPLY => written(sheet::write_reply_rows(basins, kinds, a, b, out)),
+        _ => Size {
+            number: 0,
+            length: listing::laws::list(s, out),
+        },
     }
 }
 
@@ -139,42 +146,25 @@ pub fn filled(
     s: &[u8],
     room: usize,
 ) -> Left {
-    let mut bytes = [OLD; 5200];
+    let mut bytes = [OLD; 11100];
     let n = within(&bytes, room);
     let size = fill(call, basins, kinds, a, b, s, &mut bytes[..n]);
     Left { size, bytes }
 }
 
+// A listing as the text it is, or what is at most 2,000 bytes of it.
+fn show_text(call: u8, s: &[u8]) {
+    if call == LIST {
+        io::write_all(1, b"\n");
+        io::write_all(1, front(s, 2000));
+    }
+}
+
 // Prints an answer and the buffer, with two bytes beyond it.
-pub fn show_left(o: Out, x: Left, room: usize) -> Out {
+pub fn show_left(o: Out, call: u8, x: Left, room: usize) -> Out {
     let size = x.size;
     let bytes = x.bytes;
-    let o = show::reply(o, size.number);
-    if size.number != 0 {
-        return show::bytes(o, front(&bytes, sum(room, 2)));
-    }
-    let o = show::value(o, size.length as u64);
+    let o = show::value(show::reply(o, size.number), size.length as u64);
+    show_text(call, front(&bytes, size.length));
     show::bytes(o, front(&bytes, sum(room, 2)))
-}
-
-// A file's listing: how many bytes it puts down, these, and those beyond them.
-struct Listing {
-    count: usize,
-    bytes: [u8; 11100],
-}
-
-fn list(file: &[u8], room: usize) -> Listing {
-    let mut bytes = [OLD; 11100];
-    let n = within(&bytes, room);
-    let count = listing::laws::list(file, &mut bytes[..n]);
-    Listing { count, bytes }
-}
-
-pub fn show_list(o: Out, file: &[u8], room: usize) -> Out {
-    let x = list(file, room);
-    let bytes = x.bytes;
-    let all = front(&bytes, sum(room, 2));
-    let o = show::value(show::reply(o, 0), x.count as u64);
-    let o = show::text(o, front(all, x.count));
-    show::bytes(o, rest(all, x.count))
 }

@@ -8,6 +8,7 @@ use crate::show::Out;
 use network::Refusal;
 use planner::Answer;
 use planner::CheckAnswer;
+use planner::Finding;
 use planner::Verdict;
 use tables::TableAnswer;
 use walker::MakeAnswer;
@@ -28,6 +29,7 @@ pub fn number(r: Refusal) -> u8 {
     }
 }
 
+// What the table gets, and the check of a setting.
 pub fn table_number(basins: u16, kinds: &[u8], a: &[u16], b: &[u16]) -> u8 {
     match tables::table_fault(basins, kinds, a, b) {
         TableAnswer::Refused(r) => number(r),
@@ -43,38 +45,22 @@ pub fn check_number(basins: u16, kinds: &[u8], a: &[u16], b: &[u16], setting: &[
     }
 }
 
-// What first and next plan answer: 0 for a plan, else the number, and of a finding the reach and the count.
-struct Said {
-    number: u8,
-    reach: u16,
-    count: u16,
+// A finding's number, reach and count.
+fn show_finding(o: Out, number: u8, f: Finding) -> Out {
+    let o = show::value(show::reply(o, number), f.reach as u64);
+    show::value(o, f.count as u64)
 }
 
-fn said_by(answer: Answer) -> Said {
+// What first and next plan answer: 0 for a plan, else the number.
+fn show_answer(o: Out, answer: Answer) -> Out {
     match answer {
-        Answer::Refused(r) => Said {
-            number: number(r),
-            reach: 0,
-            count: 0,
-        },
+        Answer::Refused(r) => show::reply(o, number(r)),
         Answer::Given(reply) => {
             let verdict = reply.verdict;
             match verdict {
-                Verdict::Plan => Said {
-                    number: 0,
-                    reach: 0,
-                    count: 0,
-                },
-                Verdict::ShutIn(f) => Said {
-                    number: 9,
-                    reach: f.reach,
-                    count: f.count,
-                },
-                Verdict::Lone(f) => Said {
-                    number: 10,
-                    reach: f.reach,
-                    count: f.count,
-                },
+                Verdict::Plan => show::reply(o, 0),
+                Verdict::ShutIn(f) => show_finding(o, 9, f),
+                Verdict::Lone(f) => show_finding(o, 10, f),
             }
         }
     }
@@ -88,19 +74,22 @@ pub struct Room {
 
 // An answer, and the buffers afterwards.
 pub struct Got {
-    said: Said,
+    answer: Answer,
     plan: [u8; 1040],
     marks: [u8; 40],
 }
 
-pub fn first(basins: u16, kinds: &[u8], a: &[u16], b: &[u16], room: Room) -> Got {
+fn first(basins: u16, kinds: &[u8], a: &[u16], b: &[u16], room: Room) -> Got {
     let mut plan = [OLD; 1040];
     let mut marks = [OLD; 40];
     let p = within(&plan, room.plan);
     let m = within(&marks, room.marks);
     let answer = planner::first_plan_rows(basins, kinds, a, b, &mut plan[..p], &mut marks[..m]);
-    let said = said_by(answer);
-    Got { said, plan, marks }
+    Got {
+        answer,
+        plan,
+        marks,
+    }
 }
 
 pub fn next(basins: u16, kinds: &[u8], a: &[u16], b: &[u16], setting: &[u8], room: Room) -> Got {
@@ -117,45 +106,42 @@ pub fn next(basins: u16, kinds: &[u8], a: &[u16], b: &[u16], setting: &[u8], roo
         &mut plan[..p],
         &mut marks[..m],
     );
-    let said = said_by(answer);
-    Got { said, plan, marks }
+    Got {
+        answer,
+        plan,
+        marks,
+    }
 }
 
 // Prints an answer and the buffers, with two bytes beyond each.
 pub fn show_got(o: Out, g: Got, room: Room) -> Out {
     let plan = g.plan;
     let marks = g.marks;
-    let said = g.said;
-    let o = show_said(o, said);
+    let answer = g.answer;
+    let o = show_answer(o, answer);
     let o = show::bytes(o, front(&plan, sum(room.plan, 2)));
     show::bytes(o, front(&marks, sum(room.marks, 2)))
 }
 
-fn show_said(o: Out, s: Said) -> Out {
-    let o = show::reply(o, s.number);
-    if s.number < 9 || s.number > 10 {
-        return o;
-    }
-    let o = show::value(o, s.reach as u64);
-    show::value(o, s.count as u64)
-}
-
 // A step's answer and buffers, and the walker after it.
-pub struct Step {
+struct Step {
     got: Got,
     walker: Walker,
 }
 
-pub fn take_step(walker: Walker, basins: u16, kinds: &[u8], a: &[u16], b: &[u16], room: Room) -> Step {
+fn take_step(walker: Walker, basins: u16, kinds: &[u8], a: &[u16], b: &[u16], room: Room) -> Step {
     let mut plan = [OLD; 1040];
     let mut marks = [OLD; 40];
     let p = within(&plan, room.plan);
     let m = within(&marks, room.marks);
     let stepped = walker.step_rows(basins, kinds, a, b, &mut plan[..p], &mut marks[..m]);
     let answer = stepped.answer;
-    let said = said_by(answer);
     let walker = stepped.walker;
-    let got = Got { said, plan, marks };
+    let got = Got {
+        answer,
+        plan,
+        marks,
+    };
     Step { got, walker }
 }
 
@@ -165,7 +151,7 @@ fn show_setting(o: Out, setting: &[u8; 1024], n: usize) -> Out {
     show::bytes(o, setting)
 }
 
-pub fn show_step(o: Out, s: Step, room: Room) -> Out {
+fn show_step(o: Out, s: Step, room: Room) -> Out {
     let walker = s.walker;
     let setting = walker.setting;
     let got = s.got;

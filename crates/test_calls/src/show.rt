@@ -1,5 +1,5 @@
 // What is printed of a call, and the sum of all that it replies and leaves.
-use crate::bounds::front;
+use crate::bounds::sum;
 
 // How much is printed: of a single call all, but for long buffers; of many calls the numbers, and the short buffers of those that are not refused;
 // or only how many calls there were.
@@ -13,18 +13,8 @@ pub const QUIET: u8 = 2;
 pub struct Out {
     pub mode: u8,
     pub number: u8,
-    pub run: u64,
+    pub run: usize,
     pub sum: u64,
-}
-
-// Nothing is printed yet.
-pub fn start(mode: u8) -> Out {
-    Out {
-        mode,
-        number: 255,
-        run: 0,
-        sum: 0,
-    }
 }
 
 // The answers of the check of a setting that are no refusals.
@@ -116,22 +106,11 @@ pub fn words(o: Out, s: &[u16]) -> Out {
     o
 }
 
-// A text from a new line on, at most 2,000 bytes of it.
-pub fn text(o: Out, s: &[u8]) -> Out {
-    io::write_all(1, b"\n");
-    io::write_all(1, front(s, 2000));
-    let mut unseen = o;
-    unseen.mode = QUIET;
-    let mut o = o;
-    o.sum = bytes(unseen, s).sum;
-    o
-}
-
 // How often the last number came, if it came again.
-fn end_run(run: u64) {
+fn end_run(run: usize) {
     if run > 1 {
         io::write_all(1, b"x");
-        io::print_decimal(1, run);
+        io::print_decimal(1, run as u64);
     }
 }
 
@@ -144,16 +123,12 @@ fn show_number(number: u8) {
     };
 }
 
-fn one_more(x: u64) -> u64 {
-    if x < 1000000 { x + 1 } else { x }
-}
-
 // The number of a reply; one that comes again, with nothing else to print, is only counted.
 pub fn reply(o: Out, number: u8) -> Out {
     let mut o = added(o, number as u64);
     if o.mode == QUIET || number == o.number && number != 0 && number != 9 && number != 10 {
         o.number = number;
-        o.run = one_more(o.run);
+        o.run = sum(o.run, 1);
         return o;
     }
     end_run(o.run);
@@ -163,9 +138,9 @@ pub fn reply(o: Out, number: u8) -> Out {
     o
 }
 
-// A number that goes with the reply.
+// A number that goes with the reply, if that is no refusal.
 pub fn value(o: Out, x: u64) -> Out {
-    if o.mode != QUIET {
+    if o.mode != QUIET && (o.number == 0 || o.number == 9 || o.number == 10) {
         io::write_all(1, b",");
         io::print_decimal(1, x);
     }

@@ -6,10 +6,10 @@ use Rattle.test_calls.proofs.play_all.Statement.{statement}
 use Rattle.test_calls.proofs.play_all.Tie as tie
 
 abbrev Inv-loop : tie.InvT-loop
-Inv-loop c variations count kinds a b case o₀ v₀ o v = Unit
+Inv-loop c variations count file case o₀ v₀ o v = Unit
 
 abbrev μ-loop : tie.MeasureT-loop
-μ-loop c variations count kinds a b case o₀ v₀ o v = count - v
+μ-loop c variations count file case o₀ v₀ o v = count - v
 
 copied-requires : tie.Need-copied-requires Inv-loop μ-loop
 copied-requires c κs = tt
@@ -20,8 +20,8 @@ loop-holds c = tt
 varied-requires : tie.Need-varied-requires Inv-loop μ-loop
 varied-requires c κs = tt
 
-play-varied-requires : tie.Need-play-varied-requires Inv-loop μ-loop
-play-varied-requires c κs = tt
+play-requires : tie.Need-play-requires Inv-loop μ-loop
+play-requires c κs = tt
 
 add-v : tie.Need-add-v Inv-loop μ-loop
 add-v c = omega arith
@@ -44,7 +44,7 @@ play-all-spec =
     copied-requires
     loop-holds
     varied-requires
-    play-varied-requires
+    play-requires
     add-v
     loop-less
     loop-again

@@ -6,10 +6,25 @@ use Rattle.test_calls.proofs.play_cases.Statement.{statement}
 use Rattle.test_calls.proofs.play_cases.Tie as tie
 
 abbrev Inv-loop : tie.InvT-loop
-Inv-loop s n kinds a b at₀ i₀ at i = Unit
+Inv-loop file n at₀ i₀ at i = Unit
 
 abbrev μ-loop : tie.MeasureT-loop
-μ-loop s n kinds a b at₀ i₀ at i = n - i
+μ-loop file n at₀ i₀ at i = n - i
+
+word-at-requires : tie.Need-word-at-requires Inv-loop μ-loop
+word-at-requires c κs = tt
+
+cast-n : tie.Need-cast-n Inv-loop μ-loop
+cast-n c = omega arith
+
+word-at-requires-2 : tie.Need-word-at-requires-2 Inv-loop μ-loop
+word-at-requires-2 c κs = tt
+
+cast-at : tie.Need-cast-at Inv-loop μ-loop
+cast-at c = omega arith
+
+mul-at : tie.Need-mul-at Inv-loop μ-loop
+mul-at c = omega arith
 
 loop-holds : tie.Need-loop-holds Inv-loop μ-loop
 loop-holds c = tt
@@ -41,6 +56,11 @@ play-cases-spec =
     (tie.spec
     Inv-loop
     μ-loop
+    word-at-requires
+    cast-n
+    word-at-requires-2
+    cast-at
+    mul-at
     loop-holds
     rest-requires
     play-case-requires

@@ -16,35 +16,14 @@ loop-holds c = tt
 sub-n : tie.Need-sub-n Inv-loop μ-loop
 sub-n c = omega arith
 
-mul-at : tie.Need-mul-at Inv-loop μ-loop
-mul-at c = omega arith
+mul-rest : tie.Need-mul-rest Inv-loop μ-loop
+mul-rest c = omega arith
 
-sum-requires : tie.Need-sum-requires Inv-loop μ-loop
-sum-requires c κs = tt
+rest-requires : tie.Need-rest-requires Inv-loop μ-loop
+rest-requires c κs = tt
 
-word-at-requires : tie.Need-word-at-requires Inv-loop μ-loop
-word-at-requires c κs = tt
-
-cast-count : tie.Need-cast-count Inv-loop μ-loop
-cast-count c = omega arith
-
-sum-requires-2 : tie.Need-sum-requires-2 Inv-loop μ-loop
-sum-requires-2 c κs = tt
-
-byte-at-requires : tie.Need-byte-at-requires Inv-loop μ-loop
-byte-at-requires c κs = tt
-
-value-of-requires : tie.Need-value-of-requires Inv-loop μ-loop
-value-of-requires c κs = tt
-
-word-at-requires-2 : tie.Need-word-at-requires-2 Inv-loop μ-loop
-word-at-requires-2 c κs = tt
-
-cast-with-byte : tie.Need-cast-with-byte Inv-loop μ-loop
-cast-with-byte c = omega arith
-
-with-byte-requires : tie.Need-with-byte-requires Inv-loop μ-loop
-with-byte-requires c κs = tt
+with-value-requires : tie.Need-with-value-requires Inv-loop μ-loop
+with-value-requires c κs = tt
 
 number-left-requires : tie.Need-number-left-requires Inv-loop μ-loop
 number-left-requires c κs = tt
@@ -66,16 +45,9 @@ varied-spec =
     μ-loop
     loop-holds
     sub-n
-    mul-at
-    sum-requires
-    word-at-requires
-    cast-count
-    sum-requires-2
-    byte-at-requires
-    value-of-requires
-    word-at-requires-2
-    cast-with-byte
-    with-byte-requires
+    mul-rest
+    rest-requires
+    with-value-requires
     number-left-requires
     loop-less
     loop-again

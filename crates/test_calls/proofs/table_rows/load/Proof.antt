@@ -20,8 +20,11 @@ cast-n c = omega arith
 loop-holds : tie.Need-loop-holds Inv-loop μ-loop
 loop-holds c = tt
 
-reach-of-requires : tie.Need-reach-of-requires Inv-loop μ-loop
-reach-of-requires c κs = tt
+sum-requires : tie.Need-sum-requires Inv-loop μ-loop
+sum-requires c κs = tt
+
+rest-requires : tie.Need-rest-requires Inv-loop μ-loop
+rest-requires c κs = tt
 
 with-reach-requires : tie.Need-with-reach-requires Inv-loop μ-loop
 with-reach-requires c κs = tt
@@ -47,7 +50,8 @@ load-spec =
     word-at-requires
     cast-n
     loop-holds
-    reach-of-requires
+    sum-requires
+    rest-requires
     with-reach-requires
     add-i
     loop-less
