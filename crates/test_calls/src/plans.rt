@@ -173,7 +173,15 @@ pub fn walker_of(s: &[u8]) -> Walker {
 }
 
 // Makes a walker of a setting.
-pub fn show_made(o: Out, basins: u16, kinds: &[u8], a: &[u16], b: &[u16], s: &[u8], n: usize) -> Out {
+pub fn show_made(
+    o: Out,
+    basins: u16,
+    kinds: &[u8],
+    a: &[u16],
+    b: &[u16],
+    s: &[u8],
+    n: usize,
+) -> Out {
     let made = Walker::make_rows(basins, kinds, a, b, s);
     let answer = made.answer;
     let walker = made.walker;
@@ -191,7 +199,14 @@ pub fn show_made(o: Out, basins: u16, kinds: &[u8], a: &[u16], b: &[u16], s: &[u
 // The next plan of the plan that was got.
 fn after(g: Got, basins: u16, kinds: &[u8], a: &[u16], b: &[u16], room: Room) -> Got {
     let plan = g.plan;
-    next(basins, kinds, a, b, front(&plan, tables::count_gates(kinds)), room)
+    next(
+        basins,
+        kinds,
+        a,
+        b,
+        front(&plan, tables::count_gates(kinds)),
+        room,
+    )
 }
 
 // The first plan and the next ones, to a refusal, or so many of these.

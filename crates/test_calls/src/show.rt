@@ -120,7 +120,8 @@ fn show_number(number: u8) {
         YES => io::write_all(1, b"y"),
         NO => io::write_all(1, b"n"),
         _ => io::print_hex(1, number as u64, 1),
-    };
+    }
+    ;
 }
 
 // The number of a reply; one that comes again, with nothing else to print, is only counted.
