@@ -15,13 +15,13 @@ use Rattle.network.specs.declared.Reach.{Reach}
 use Rattle.network.specs.declared.Refusal.the-variants.{ShortBuffer}
 use Rattle.network.specs.Networks.{Network, maxReaches}
 use Rattle.network.specs.Tables.{kindNumber, tableOf}
+use Rattle.network.proofs.Networks.{accepted}
 use Rattle.tables.proofs.Laws.{table-of-rows}
-use Rattle.netfile.specs.declared.ReadAnswer.{ReadAnswer}
-use Rattle.netfile.specs.Records.{areBytes}
-use Rattle.netfile.specs.Files.{Reading, refused, read, readFile}
-use Rattle.netfile.specs.Answers.{roomOf, readAnswer, readingNumber, withRoom, reachesRead, Rows, ReadCall}
-use Rattle.netfile.proofs.Accepting.{good}
-use Rattle.netfile.proofs.Files.{write-read}
+use Rattle.netfile_format.specs.declared.ReadAnswer.{ReadAnswer}
+use lib.Pow.{areBytes}
+use Rattle.netfile_format.specs.Files.{Reading, refused, read, readFile}
+use Rattle.netfile_format.specs.Answers.{roomOf, readAnswer, readingNumber, withRoom, reachesRead, RowsFilled, NetworkRead}
+use Rattle.netfile_format.proofs.Files.{write-read}
 use Rattle.lent.specs.declared.Packed.{Packed}
 use Rattle.lent.specs.Rows.{unpackedInto}
 use Rattle.lent.proofs.Rows.{unpacked-into}
@@ -29,7 +29,7 @@ use Rattle.filecalls.specs.Reads.{leftIn, countOf, ReadPacked}
 
 -- no more reaches are read than a network may have
 few : (file : List ℕ) (N : Network) → areBytes file ≡ true → readFile file ≡ read N → length (N .reaches) ≤ maxReaches
-few file N b e = leb-true (length (N .reaches)) maxReaches (good N (write-read file N b e .accepted) .few)
+few file N b e = accepted N (write-read file N b e .accepted) .few-reaches
 
 room-usable : (file : List ℕ) → areBytes file ≡ true → (room : ℕ) → withRoom (min room maxReaches) (readFile file) ≡ withRoom room (readFile file)
 room-usable file b room = go (readFile file) refl
@@ -58,7 +58,7 @@ front f t xs rest row e = ap (λ r. take (length t) (r ++ rest)) e ∙ ap (take 
 long : (f : Reach → ℕ) (t : List Reach) (xs rest : List ℕ) {row : List ℕ} → row ≡ map f t ++ xs → length t ≤ length (row ++ rest)
 long f t xs rest {row} e = omega (arith, length-append row rest, ap length e, length-append (map f t) xs, length-map t f)
 
-module _ (file kinds a b kinds′ a′ b′ : List ℕ) (r : ReadAnswer) (room : ℕ) (bytes : areBytes file ≡ true) (same : roomOf kinds a b ≡ min room maxReaches) (c : ReadCall file kinds a b r kinds′ a′ b′)
+module _ (file kinds a b kinds′ a′ b′ : List ℕ) (r : ReadAnswer) (room : ℕ) (bytes : areBytes file ≡ true) (same : roomOf kinds a b ≡ min room maxReaches) (c : NetworkRead file kinds a b r kinds′ a′ b′)
     (zk za zb : List ℕ) where
   -- what is read, with the rows' room and with the table's
   usable : withRoom (roomOf kinds a b) (readFile file) ≡ withRoom room (readFile file)
@@ -67,14 +67,14 @@ module _ (file kinds a b kinds′ a′ b′ : List ℕ) (r : ReadAnswer) (room :
   abbrev rows : ℕ → Packed
   rows n = record { n = n; kinds = kinds′ ++ zk; a = a′ ++ za; b = b′ ++ zb }
 
-  made : (N : Network) → Rows (N .reaches) kinds a b kinds′ a′ b′
+  made : (N : Network) → RowsFilled (N .reaches) kinds a b kinds′ a′ b′
       → tableOf (take (length (N .reaches)) (kinds′ ++ zk)) (take (length (N .reaches)) (a′ ++ za)) (take (length (N .reaches)) (b′ ++ zb)) ≡ N .reaches
   made N w = rw (front _ (N .reaches) _ zk kinds′ (w .kind-row), front _ (N .reaches) _ za a′ (w .a-row), front _ (N .reaches) _ zb b′ (w .b-row)) (table-of-rows (N .reaches))
 
   left : (x : Reading) → withRoom room (readFile file) ≡ x → (t : List Reach) → length t ≡ room → unpackedInto (rows (countOf (readAnswer x))) t ≡ leftIn x t
   left (refused e) is t l = unpacked-into (rows 0) t (omega arith) (omega arith) (omega arith) (omega arith) (omega arith)
   left (read N) is t l =
-      let w : Rows (N .reaches) kinds a b kinds′ a′ b′ = subst (λ x. Rows (reachesRead x) kinds a b kinds′ a′ b′) (usable ∙ is) (c .rows) in
+      let w : RowsFilled (N .reaches) kinds a b kinds′ a′ b′ = subst (λ x. RowsFilled (reachesRead x) kinds a b kinds′ a′ b′) (usable ∙ is) (c .rows) in
       let h : length (N .reaches) ≤ min room maxReaches = fits-room (min room maxReaches) (readFile file) N (room-usable file bytes room ∙ is) in
       unpacked-into (rows (length (N .reaches))) t (omega (arith, h, l)) (omega (arith, h)) (long (λ r. kindNumber (r .kind)) (N .reaches) _ zk (w .kind-row)) (long (λ r. r .a) (N .reaches) _ za (w .a-row)) (long (λ r. r .b) (N .reaches) _ zb (w .b-row))
       ∙ ap (λ u. u ++ drop (length (N .reaches)) t) (made N w)

@@ -5,12 +5,12 @@ use mathlib.Core.Path.{_≡_}
 use mathlib.Core.List.{List, _++_}
 use lib.ListN.{length, drop}
 use Rattle.network.specs.declared.Reach.{Reach}
-use Rattle.netfile.specs.declared.ReadAnswer.{ReadAnswer}
-use Rattle.netfile.specs.declared.ReadAnswer.the-variants.{Refused, Read}
-use Rattle.netfile.specs.Files.{Reading, readFile}
-use Rattle.netfile.specs.Answers.{readAnswer, readNumber, readingNumber, withRoom, reachesRead}
+use Rattle.netfile_format.specs.declared.ReadAnswer.{ReadAnswer}
+use Rattle.netfile_format.specs.declared.ReadAnswer.the-variants.{Refused, Read}
+use Rattle.netfile_format.specs.Files.{Reading, readFile}
+use Rattle.netfile_format.specs.Answers.{readAnswer, readNumber, readingNumber, withRoom, reachesRead}
 use Rattle.lent.specs.Rows.{unpackedInto}
-use Rattle.filecalls.specs.declared.Found.{Found}
+use Rattle.filecalls.specs.declared.FileRead.{FileRead}
 
 -- What a reading leaves in a table: its reaches in the first records; "all beyond is untouched". A refusal writes nothing.
 abbrev pub leftIn : Reading → List Reach → List Reach
@@ -28,5 +28,5 @@ countOf (Refused r) = 0
 countOf (Read n m) = m
 
 -- The same with the reaches as rows: what they leave in every table with this room.
-pub record ReadPacked (file : List ℕ) (room : ℕ) (r : Found) : Type 0 where
+pub record ReadPacked (file : List ℕ) (room : ℕ) (r : FileRead) : Type 0 where
   pub said : (t : List Reach) → length t ≡ room → ReadTable file t (r .answer) (unpackedInto (r .rows) t)

@@ -2,24 +2,24 @@
 // promises of its numbers.
 // The borrow checker does not cover a slice of structs. So each public call is a few lines, proved by a walk of its code, by hand, and leaves the
 // work to covered calls over rows.
+use file_records::WriteAnswer;
 use lent::Packed;
 use lent::held;
 use lent::pack;
 use lent::unpack;
-use netfile::ReadAnswer;
-use netfile::WriteAnswer;
+use netfile_format::ReadAnswer;
 use network::MAX_REACHES;
 use network::Reach;
 ghost use mathlib.Core.Path.{_≡_};
 ghost use Prim.Native.Nat.{min};
 ghost use Rattle.network.specs.Networks.{maxReaches};
 ghost use Rattle.lent.specs.Tables.{lentNet, OfTable};
-ghost use Rattle.netfile.specs.Answers.{WriteCall};
+ghost use Rattle.netfile_format.specs.Answers.{NetworkWritten};
 ghost use Rattle.filecalls.specs.Reads.{countOf, ReadPacked, ReadTable};
 
 // The writer over rows. The rows of an over-full table are over-full too, and refused as such.
 fn write_packed(basins: u16, p: Packed, out: &mut [u8]) -> WriteAnswer
-    ensures { λ r. ⌜ OfTable basins p (λ N. WriteCall N (now (out .entry)) r (now (out .exit))) ⌝ }
+    ensures { λ r. ⌜ OfTable basins p (λ N. NetworkWritten N (now (out .entry)) r (now (out .exit))) ⌝ }
 {
     let n = held(p.n);
     let kinds = p.kinds;
@@ -30,13 +30,13 @@ fn write_packed(basins: u16, p: Packed, out: &mut [u8]) -> WriteAnswer
 
 // The file of a network goes to the first bytes of the buffer. Refuses 1, 2, 3 and 7.
 pub fn write_network(basins: u16, table: &[Reach], out: &mut [u8]) -> WriteAnswer
-    ensures { λ r. ⌜ WriteCall (lentNet basins (now (table .entry))) (now (out .entry)) r (now (out .exit)) ⌝ }
+    ensures { λ r. ⌜ NetworkWritten (lentNet basins (now (table .entry))) (now (out .entry)) r (now (out .exit)) ⌝ }
 {
     write_packed(basins, pack(table), out)
 }
 
 // What a file is read as, with its reaches as rows.
-struct Found {
+struct FileRead {
     answer: ReadAnswer,
     rows: Packed,
 }
@@ -63,7 +63,7 @@ fn usable(room: usize) -> usize
 }
 
 // The reader over rows, for a table with this room. What stood in the rows does not matter.
-fn read_rows(file: &[u8], room: usize, rows: Packed) -> Found
+fn read_rows(file: &[u8], room: usize, rows: Packed) -> FileRead
     ensures { λ r. ⌜ ReadPacked (now (file .entry)) room r ⌝ }
 {
     let mut kinds = rows.kinds;
@@ -72,13 +72,13 @@ fn read_rows(file: &[u8], room: usize, rows: Packed) -> Found
     let m = usable(room);
     let answer = netfile::read_network_rows(file, &mut kinds[..m], &mut a[..m], &mut b[..m]);
     let n = count(answer);
-    Found {
+    FileRead {
         answer,
         rows: Packed { n, kinds, a, b },
     }
 }
 
-fn read_packed(file: &[u8], room: usize) -> Found
+fn read_packed(file: &[u8], room: usize) -> FileRead
     ensures { λ r. ⌜ ReadPacked (now (file .entry)) room r ⌝ }
 {
     read_rows(file, room, lent::empty(0))

@@ -1,4 +1,2 @@
 -- What the finder's contracts cite beside document 01's definitions.
 pub mod Rooms
-pub mod Found
-pub mod Seeks

@@ -7,8 +7,8 @@ use Rattle.network.specs.Plans.{strongUnder, isPlan, passable, firstPlan, nextP
 use Rattle.network.specs.Lone.{crossesAlone, isLone, lowestLone}
 use Rattle.network.specs.Marks.{marksOf}
 use Rattle.network.specs.Replies.{shutInSide, loneSide, shutInFinding, loneFinding, answer, firstAnswer}
-use Rattle.netfile.specs.Records.{bodyOf}
-use Rattle.netfile.specs.Files.{readReaches, readFile}
+use Rattle.file_records.specs.Records.{bodyOf}
+use Rattle.netfile_format.specs.Files.{readReaches, readFile}
 use Rattle.lines.specs.Listings.{plansFrom, listing}
 use Rattle.lines.specs.Examples.{examples, limits, case3}
 

@@ -9,7 +9,7 @@ use lib.Dec.{eqb, ltb}
 use Rattle.network.specs.Networks.{Network}
 use Rattle.network.specs.Plans.{nextPlan}
 use Rattle.network.specs.Replies.{Outcome, plan, shutIn, lone, refused, refusalNumber, firstAnswer}
-use Rattle.netfile.specs.Files.{Reading, refused as unread, read, readFile}
+use Rattle.netfile_format.specs.Files.{Reading, refused as unread, read, readFile}
 
 -- "It reads at most the first 8,000 bytes"; "at most 1,000 plans".
 abbrev pub maxBytes : ℕ

@@ -17,7 +17,7 @@ use Rattle.lines.specs.declared.Due.{Due}
 use Rattle.lines.specs.declared.Due.the-variants as D
 use Rattle.lines.specs.Listings.{line, character, planText}
 use Rattle.lines.specs.Puts.{Put}
-use Rattle.lists.proofs.Lists.{Copied, copied-none, copied-length, take-rest}
+use Rattle.lists.proofs.Lists.{Copied, nil-of-length, copied-none, copied-length, take-rest}
 use Rattle.lines.proofs.Puts.{copied-end, put-copied}
 use Rattle.listing.specs.declared.Lister.{Lister}
 use Rattle.listing.specs.declared.Filled.{Filled}
@@ -41,11 +41,6 @@ line-short (D.Refused n) s = refusal-short (ltb n 10)
     refusal-short : (b : Bool) → length (line ((114 ∷ 101 ∷ 102 ∷ 117 ∷ 115 ∷ 101 ∷ 100 ∷ 32 ∷ []) ++ cond b ((48 + n) ∷ []) ((48 + n / 10) ∷ (48 + n % 10) ∷ []))) ≤ length s + 11
     refusal-short true = omega arith
     refusal-short false = omega arith
-
--- a list of no length, and a list with nothing after its first n
-empty : (t : List ℕ) → length t ≡ 0 → t ≡ []
-empty [] z = refl
-empty (x ∷ t) z = let none : ⊥ = omega arith in absurd none
 
 module _ (l : Lister) (kinds a b out : List ℕ) where
   -- the network, and what is to be printed
@@ -113,7 +108,7 @@ module _ (l : Lister) (kinds a b out : List ℕ) where
       behind = ap (drop n) (p .laid .bytes) ∙ drop-at (take n text) (drop n out) n (length-take-le n text (p .laid .within))
 
       nothing-more : drop (length out′ - n) (drop n out′) ≡ []
-      nothing-more = empty _ (omega (arith, length-drop (length out′ - n) (drop n out′), length-drop n out′))
+      nothing-more = nil-of-length _ (omega (arith, length-drop (length out′ - n) (drop n out′), length-drop n out′))
 
       part-is : part ≡ take k (drop n text) ++ drop (n + k) out
       part-is = rest-put .bytes ∙ rw (next-bytes, behind, drop-drop k n out)
@@ -160,7 +155,7 @@ module _ (l : Lister) (kinds a b out : List ℕ) where
       pub print-end : n < length out → k ≡ 0 → (restOf N state ≡ [] → pendingOf N state ≡ []) → Filling l kinds a b out filled (record { lister = state; count = n })
       unfolding rest
       print-end room none ended =
-          let gone : restOf N state ≡ [] = empty (restOf N state) (omega (arith, rest-put .count, length-drop n out′, copied-length (p .laid))) in
+          let gone : restOf N state ≡ [] = nil-of-length (restOf N state) (omega (arith, rest-put .count, length-drop n out′, copied-length (p .laid))) in
           let same : n + k ≡ n = omega arith in
           printed-in filled
           (copied-end (subst (λ (m : ℕ). Copied text out filled m) same print-laid)
@@ -184,7 +179,7 @@ module _ {l : Lister} {kinds a b out out′ : List ℕ} {r : Filled} (f : Fillin
   -- nothing is printed into a buffer exactly if nothing is to be printed
   pub fill-done : 0 < length out → (r .count ≡ 0) ↔ (pending l kinds a b ≡ [])
   fill-done room = (
-    λ z. empty (pending l kinds a b) (omega (arith, f .printed .count)),
+    λ z. nil-of-length (pending l kinds a b) (omega (arith, f .printed .count)),
     λ e. omega (arith, f .printed .count, ap length e),
   )
 
@@ -202,7 +197,7 @@ module _ {l : Lister} {kinds a b x x′ y y′ : List ℕ} {r s : Filled} (f : F
 
   joined : (r .count ≡ length x) ⊎ (s .count ≡ 0) → x′ ++ y′ ≡ take both all ++ drop both (x ++ y)
   joined (inl full) =
-      let gone : drop (r .count) x ≡ [] = empty (drop (r .count) x) (omega (arith, length-drop (r .count) x)) in
+      let gone : drop (r .count) x ≡ [] = nil-of-length (drop (r .count) x) (omega (arith, length-drop (r .count) x)) in
       ap (λ (t : List ℕ). t ++ y′) (f .printed .bytes ∙ ap (λ (t : List ℕ). take (r .count) all ++ t) gone ∙ append-nil (take (r .count) all))
       ∙ ap (λ (t : List ℕ). take (r .count) all ++ t) (second .bytes)
       ∙ sym (append-assoc (take (r .count) all) (take (s .count) (drop (r .count) all)) (drop (s .count) y))

@@ -6,3 +6,4 @@ pub mod Fills
 pub mod Starts
 pub mod Printed
 pub mod Steps
+pub mod Priming

@@ -10,17 +10,17 @@ use lib.Dec.{eqb, leb, ltb}
 use Rattle.network.specs.declared.Reach.{Reach}
 use Rattle.network.specs.declared.Refusal.{Refusal}
 use Rattle.network.specs.declared.Refusal.the-variants.{BasinCount, TooManyReaches, EndOutOfRange, Truncated, UnknownKind, TrailingBytes, ShortBuffer, BadSetting, LastPlan}
-use Rattle.lists.specs.Lists.{elem}
 use Rattle.network.specs.Networks.{Network, maxBasins, maxReaches}
 use Rattle.lists.specs.Words.{wordOf}
+use Rattle.lists.specs.Lists.{elem}
 use Rattle.network.specs.Plans.{firstPlan}
 use Rattle.network.specs.Replies.{refusalNumber, chosen, shutInFinding, loneFinding, firstAnswer}
 use Rattle.network.proofs.Order.{first-none}
 use Rattle.network.proofs.Replies as R
-use Rattle.netfile.specs.declared.Place.the-variants.{Head, Inside}
-use Rattle.netfile.specs.Records.{Front, broken, whole, bodyOf, withBody, takeRecord, areBytes}
-use Rattle.netfile.specs.Files.{Reading, refused, read, mayCome, onRecord, atEnd, reachIn, withReach, inside, readReaches, readFile, endKind}
-use Rattle.netfile.proofs.Files.{write-read}
+use Rattle.file_records.specs.Records.{Front, broken, whole, bodyOf, withBody, takeRecord, endKind}
+use lib.Pow.{areBytes}
+use Rattle.netfile_format.specs.Files.{Reading, refused, read, headDue, reachDue, onRecord, atEnd, recordReach, withReach, inside, readReaches, readFile}
+use Rattle.netfile_format.proofs.Files.{write-read}
 use Rattle.lines.specs.Listings.{maxBytes, maxPlans, refusalLine, replyLines, readingLines, listing}
 use Rattle.listing.specs.Laws.{Printed, one-line, plans}
 use Rattle.listing.proofs.Starts.{bytes-first}
@@ -47,9 +47,9 @@ body-fair : (k : ℕ) (n : Option ℕ) (f : List ℕ) → FairFront (withBody k 
 body-fair k none f = fair-broken refl
 body-fair k (some n) f = pick FairFront (leb n (length f)) fair-whole (fair-broken refl)
 
-front-fair : (may : ℕ → Bool) (f : List ℕ) → FairFront (takeRecord may f)
-front-fair may [] = fair-broken refl
-front-fair may (k ∷ f) = pick FairFront (may k) (body-fair k (bodyOf k) f) (fair-broken refl)
+front-fair : (kinds f : List ℕ) → FairFront (takeRecord kinds f)
+front-fair kinds [] = fair-broken refl
+front-fair kinds (k ∷ f) = pick FairFront (elem k kinds) (body-fair k (bodyOf k) f) (fair-broken refl)
 
 record-fair : {x : Front} {g : ℕ → List ℕ → List ℕ → Reading} → FairFront x → ((k : ℕ) (body rest : List ℕ) → Fair (g k body rest)) → Fair (onRecord x g)
 record-fair (fair-broken e) h = fair-refused e
@@ -65,7 +65,7 @@ reach-fair r fair-read = fair-read
 
 inside-fair : (n : ℕ) (g : Reach → List ℕ → Reading) → ((r : Reach) (rest : List ℕ) → Fair (g r rest)) → (f : List ℕ) → Fair (inside n g f)
 inside-fair n g h f =
-    record-fair (front-fair (mayCome Inside) f) (λ k body rest. pick Fair (eqb k endKind) (end-fair n rest) (h (reachIn k body) rest))
+    record-fair (front-fair reachDue f) (λ k body rest. pick Fair (eqb k endKind) (end-fair n rest) (h (recordReach k body) rest))
 
 reaches-fair : (n left : ℕ) (f : List ℕ) → Fair (readReaches n left f)
 unfolding readReaches
@@ -77,7 +77,7 @@ reaches-fair n (suc left) f =
 file-fair : (f : List ℕ) → Fair (readFile f)
 unfolding readFile
 file-fair f =
-    record-fair (front-fair (mayCome Head) f)
+    record-fair (front-fair headDue f)
     (λ k body rest. pick Fair (leb 1 (wordOf body) && leb (wordOf body) maxBasins) (reaches-fair (wordOf body) maxReaches rest) (fair-refused refl))
 
 -- ---- what is printed

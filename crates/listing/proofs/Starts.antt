@@ -1,15 +1,15 @@
 -- The start: the file's first bytes are read, and the first line is found.
 -- Assumes nothing.
 use Prim.Native.Nat.{ℕ, zero, suc, _≤_, min}
-use native.Mathlib.Nat.{min-zero, suc-min-suc}
 use native.Mathlib.Omega.{arith}
 use mathlib.Core.Path.{_≡_, refl, sym, ap, subst, _∙_}
 use mathlib.Core.Bool.{true}
 use mathlib.Core.List.{List, [], _∷_, _++_, map}
 use lib.ListN.{length, take, drop, length-append, length-map}
-use lib.Seq.{take-at, take-nil}
+use lib.Seq.{take-at}
 use lib.Dec.{ltb}
 use borrow.Author.Tests.{le-leb}
+use Rattle.lists.proofs.Lists.{take-min}
 use mathlib.Mathlib.Data.Bool.Basic.{and-elim-left, and-elim-right, and-intro}
 use Rattle.network.specs.declared.Reach.{Reach}
 use Rattle.network.specs.declared.Refusal.{Refusal}
@@ -18,15 +18,14 @@ use Rattle.network.specs.Tables.{kindNumber, tableOf}
 use Rattle.network.specs.Replies.{refusalNumber}
 use Rattle.network.proofs.Networks.{accepted}
 use Rattle.tables.specs.Rows.{netOf}
-use Rattle.netfile.specs.declared.ReadAnswer.{ReadAnswer}
-use Rattle.netfile.specs.declared.ReadAnswer.the-variants.{Refused, Read}
-use Rattle.netfile.specs.Records.{areBytes}
-use Rattle.netfile.specs.Files.{Reading, refused, read, readFile}
-use Rattle.netfile.specs.Answers.{roomOf, withRoom, reachesRead, Rows, ReadCall}
+use Rattle.netfile_format.specs.declared.ReadAnswer.{ReadAnswer}
+use Rattle.netfile_format.specs.declared.ReadAnswer.the-variants.{Refused, Read}
+use lib.Pow.{areBytes}
+use Rattle.netfile_format.specs.Files.{Reading, refused, read, readFile}
+use Rattle.netfile_format.specs.Answers.{roomOf, withRoom, reachesRead, RowsFilled, NetworkRead}
 use Rattle.tables.proofs.Laws.{table-of-rows}
-use Rattle.netfile.proofs.Files.{write-read}
-use Rattle.netfile.proofs.RoundTrips.{room-kept}
-use Rattle.netfile.proofs.Calls.{answer-refused, Counted, answer-read}
+use Rattle.netfile_format.proofs.Files.{write-read}
+use Rattle.netfile_format.proofs.Calls.{room-kept, answer-refused, Counted, answer-read}
 use Rattle.listing.specs.declared.Lister.{Lister}
 use Rattle.listing.specs.declared.Started.{Started}
 use Rattle.lines.specs.Listings.{maxBytes, maxPlans, replyLines, readingLines, listing}
@@ -34,16 +33,10 @@ use Rattle.listing.specs.Pending.{pendingOf, pending, fileRead, Starting
 use Rattle.listing.specs.Parts.{FirstLine, RefusalLine}
 use Rattle.listing.proofs.States.{first-roomy, refusal-pending}
 
--- as many bytes as there are, at most m
-take-min : (m : ℕ) (file : List ℕ) → take (min (length file) m) file ≡ take m file
-take-min zero file = ap (λ (k : ℕ). take k file) (min-zero (length file))
-take-min (suc m) [] = take-nil (min (length {A = ℕ} []) (suc m))
-take-min (suc m) (x ∷ file) = ap (λ (k : ℕ). take k (x ∷ file)) (suc-min-suc (length file) m) ∙ ap (λ (t : List ℕ). x ∷ t) (take-min m file)
-
 -- what is read of them is read of the first 8,000
-pub first-read : (file : List ℕ) {n : ℕ} {kinds a b kinds′ a′ b′ : List ℕ} {r : ReadAnswer} → n ≡ min (length file) maxBytes → ReadCall (take n file) kinds a b r kinds′ a′ b′ → ReadCall (take maxBytes file) kinds a b r kinds′ a′ b′
+pub first-read : (file : List ℕ) {n : ℕ} {kinds a b kinds′ a′ b′ : List ℕ} {r : ReadAnswer} → n ≡ min (length file) maxBytes → NetworkRead (take n file) kinds a b r kinds′ a′ b′ → NetworkRead (take maxBytes file) kinds a b r kinds′ a′ b′
 first-read file {kinds} {a} {b} {kinds′} {a′} {b′} {r} e c =
-    subst (λ f. ReadCall f kinds a b r kinds′ a′ b′) (ap (λ (k : ℕ). take k file) e ∙ take-min maxBytes file) c
+    subst (λ f. NetworkRead f kinds a b r kinds′ a′ b′) (ap (λ (k : ℕ). take k file) e ∙ take-min maxBytes file) c
 
 pub bytes-first : (m : ℕ) (file : List ℕ) → areBytes file ≡ true → areBytes (take m file) ≡ true
 bytes-first zero file b = refl
@@ -52,20 +45,20 @@ bytes-first (suc m) (x ∷ file) b = and-intro (and-elim-left (ltb x 256) _ b) (
 
 module _ (file kinds a b kinds′ a′ b′ : List ℕ) where
   -- the file is refused
-  pub start-refused : (r : Refusal) (l : Lister) → ReadCall (take maxBytes file) kinds a b (Refused r) kinds′ a′ b′ → RefusalLine (refusalNumber r) l → Starting file kinds a b (record { lister = l; reaches = 0 }) kinds′ a′ b′
+  pub start-refused : (r : Refusal) (l : Lister) → NetworkRead (take maxBytes file) kinds a b (Refused r) kinds′ a′ b′ → RefusalLine (refusalNumber r) l → Starting file kinds a b (record { lister = l; reaches = 0 }) kinds′ a′ b′
   start-refused r l c state =
       let none-read : fileRead file kinds a b ≡ refused r = answer-refused _ r (sym (c .answer)) in
       record { rows = c .rows; counted = rw none-read; to-print = rw none-read (refusal-pending _ _ l state) }
 
-  module _ (n m : ℕ) (c : ReadCall (take maxBytes file) kinds a b (Read n m) kinds′ a′ b′) where
+  module _ (n m : ℕ) (c : NetworkRead (take maxBytes file) kinds a b (Read n m) kinds′ a′ b′) where
     C : Counted (fileRead file kinds a b) n m
     C = answer-read (fileRead file kinds a b) n m (sym (c .answer))
 
     abbrev t : List Reach
     t = C .network .reaches
 
-    rows : Rows t kinds a b kinds′ a′ b′
-    rows = subst (λ x. Rows (reachesRead x) kinds a b kinds′ a′ b′) (C .is) (c .rows)
+    rows : RowsFilled t kinds a b kinds′ a′ b′
+    rows = subst (λ x. RowsFilled (reachesRead x) kinds a b kinds′ a′ b′) (C .is) (c .rows)
 
     -- a row holds what was read in its first m entries
     row-front : (g : Reach → ℕ) (row row′ : List ℕ) → row′ ≡ map g t ++ drop (length t) row → take m row′ ≡ map g t

@@ -1,10 +1,10 @@
 -- The state that a reply of first or next leads to: what is to be printed in it are the reply's lines.
 -- Assumes nothing.
-use Prim.Native.Nat.{ℕ, zero, suc, _≤_}
+use Prim.Native.Nat.{ℕ, zero, suc}
 use native.Mathlib.Omega.{arith}
 use mathlib.Core.Path.{_≡_, refl, ap, _∙_}
 use mathlib.Core.Bool.{Bool, true, false, cond}
-use mathlib.Core.List.{List, [], _∷_, _++_, append-nil}
+use mathlib.Core.List.{List, [], _++_, append-nil}
 use mathlib.Core.Option.{Option, none, some}
 use lib.ListN.{length, take, drop}
 use lib.Seq.{take-at}
@@ -13,13 +13,13 @@ use borrow.Author.Tests.{le-leb}
 use Rattle.network.specs.declared.Reach.{Reach}
 use Rattle.network.specs.declared.Refusal.{Refusal}
 use Rattle.network.specs.Networks.{Network, maxReaches, tableFault, Accepted}
-use Rattle.network.specs.Settings.{isGated, gatesFrom, gateCount, settingFault}
+use Rattle.network.specs.Settings.{gateCount, settingFault}
 use Rattle.network.specs.Plans.{isPlan, nextPlan}
 use Rattle.network.specs.Marks.{markBytes}
 use Rattle.network.specs.Replies.{Outcome, plan, shutIn, lone, refused, refusalNumber, chosen, firstAnswer, nextAnswer, unless, roomFault, firstReply, nextReply, planAfter}
-use Rattle.network.proofs.Networks.{accepted}
+use Rattle.network.proofs.Networks.{accepted, gates-fit}
 use Rattle.network.proofs.Order.{setting-length, plan-setting, first-is-plan, next-is-plan}
-use Rattle.network.proofs.Replies.{given-iff, first-given, next-given}
+use Rattle.network.proofs.Replies.{given-iff, first-given, next-given, unless-plan}
 use Rattle.tables.specs.Rows.{netOf}
 use Rattle.planner.specs.declared.Answer.{Answer}
 use Rattle.planner.specs.Answers.{answerOf, Written}
@@ -31,44 +31,26 @@ use Rattle.listing.specs.declared.Lister.{Lister}
 use Rattle.listing.specs.Pending.{lineOf, linesAfter, gatesHeld, restOf, pendingOf, lentNet}
 use Rattle.listing.specs.Parts.{FirstLine, LineAfter, RefusalLine}
 
--- ---- the gates of an accepted table
-
-gate-few : (b : Bool) (o : ℕ) (l : List ℕ) (n : ℕ) → length l ≤ n → length (cond b (o ∷ l) l) ≤ suc n
-gate-few true o l n e = omega arith
-gate-few false o l n e = omega arith
-
-gates-few : (o : ℕ) (t : List Reach) → length (gatesFrom o t) ≤ length t
-gates-few o [] = omega arith
-gates-few o (r ∷ t) = gate-few (isGated (r .kind)) o (gatesFrom (suc o) t) (length t) (gates-few (suc o) t)
-
--- the state holds a byte for each
-pub gates-fit : (N : Network) → Accepted N → gateCount N ≤ maxReaches
-gates-fit N ok = omega (arith, gates-few 0 (N .reaches), accepted N ok .few-reaches)
-
 -- ---- a plan that is replied is a plan of an accepted table
 
 pub record GivenPlan (N : Network) (p : List ℕ) : Type 0 where
   pub table : Accepted N
   pub is-plan : isPlan N p ≡ true
 
-passed : (f : Option Refusal) (o : Outcome) {p : List ℕ} → unless f o ≡ plan p → (f ≡ none) × (o ≡ plan p)
-passed none o e = (refl, e)
-passed (some r) o e = (cc, cc)
-
 module _ (N : Network) (k m : ℕ) where
   pub first-gives : (p : List ℕ) → firstReply N k m ≡ plan p → GivenPlan N p
   unfolding firstReply
   first-gives p e =
-      let table = passed (tableFault N) _ e in
-      let room = passed (roomFault N k m) _ (table .1) in
+      let table = unless-plan (tableFault N) _ e in
+      let room = unless-plan (roomFault N k m) _ (table .1) in
       record { table = table .0; is-plan = first-is-plan N ((first-given N (table .0) p) .0 (room .1)) }
 
   pub next-gives : (s p : List ℕ) → nextReply N s k m ≡ plan p → GivenPlan N p
   unfolding nextReply
   next-gives s p e =
-      let table = passed (tableFault N) _ e in
-      let fits = passed (settingFault N s) _ (table .1) in
-      let room = passed (roomFault N k m) _ (fits .1) in
+      let table = unless-plan (tableFault N) _ e in
+      let fits = unless-plan (settingFault N s) _ (table .1) in
+      let room = unless-plan (roomFault N k m) _ (fits .1) in
       record { table = table .0; is-plan = next-is-plan N s ((next-given N (table .0) s p) .0 (room .1)) }
 
 -- ---- the lines after a plan

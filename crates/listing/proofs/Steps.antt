@@ -14,15 +14,16 @@ use Rattle.network.specs.Plans.{isPlan}
 use Rattle.network.specs.Marks.{markBytes}
 use Rattle.network.specs.Replies.{Outcome, plan, refused, nextAnswer, nextReply}
 use Rattle.lists.proofs.Bools.{clash}
-use Rattle.network.proofs.Networks.{accepted}
+use Rattle.network.proofs.Networks.{accepted, gates-fit}
 use Rattle.network.proofs.Order.{setting-length, plan-setting}
 use Rattle.tables.specs.Rows.{netOf, gatesIn, waysRow, bytesRow}
 use Rattle.tables.proofs.Laws.{row-gates}
-use Rattle.gates.specs.Ready.{Ready}
-use Rattle.finder.specs.Seeks.{AtPlan}
-use Rattle.runs.specs.Advances.{gatesBefore, PartsAt, Advanced, moved, at-last, Spare, Primed, elsewhere, at-plan}
-use Rattle.runs.proofs.Rewrites.{gates-split}
-use Rattle.runs.proofs.Advances.{spare-ready}
+use Rattle.orienting.specs.Ready.{Ready}
+use Rattle.seeking.specs.Seeks.{AtPlan}
+use Rattle.stepping.specs.Advances.{gatesBefore, PartsAt, Advanced, moved, at-last}
+use Rattle.listing.specs.Priming.{Spare, Primed, elsewhere, at-plan}
+use Rattle.stepping.proofs.Rewrites.{gates-split}
+use Rattle.listing.proofs.Priming.{spare-ready}
 use Rattle.lines.specs.declared.Due.{Due}
 use Rattle.lines.specs.declared.Due.the-variants as D
 use Rattle.listing.specs.declared.Lister.{Lister}
@@ -31,7 +32,7 @@ use Rattle.lines.specs.Dues.{planDue}
 use Rattle.listing.specs.Pending.{gatesHeld, pendingOf, lentNet}
 use Rattle.listing.specs.Parts.{LineAfter}
 use Rattle.listing.specs.Keeping.{Standing, Kept, unknown, kept}
-use Rattle.listing.proofs.States.{GivenPlan, gates-fit, roomy, plan-held, reply-pending}
+use Rattle.listing.proofs.States.{GivenPlan, roomy, plan-held, reply-pending}
 
 module _ (l : Lister) (ks xs ys ws : List ℕ) (left g : ℕ) (held : g ≡ gatesHeld (lentNet l ks xs ys)) (p : AtPlan (l .basins) ks xs ys (take g (l .setting)) ws) where
   abbrev N : Network
@@ -102,7 +103,7 @@ module _ (l : Lister) (ks xs ys ws : List ℕ) (left g : ℕ) (held : g ≡ gate
       where
         stands : (k : ℕ) → Standing (l .basins) ks xs ys (planDue k) (take g bytes) ws′
         stands zero = tt
-        stands (suc k) = subst⁻¹ (λ (v : List ℕ). AtPlan (l .basins) ks xs ys v ws′) in-hand (record { level = p .level; is-plan = is; hung = hung })
+        stands (suc k) = subst⁻¹ (λ (v : List ℕ). AtPlan (l .basins) ks xs ys v ws′) in-hand (record { level = p .level; is-plan = is; oriented = hung })
 
 -- ---- what a step says
 

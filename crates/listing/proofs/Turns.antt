@@ -6,6 +6,7 @@ use mathlib.Core.Path.{_≡_, refl, sym, ap, _∙_}
 use mathlib.Core.List.{List, [], _∷_, _++_, append-nil}
 use lib.ListN.{length, drop, length-append, length-drop, length-map}
 use lib.Seq.{length-take-le}
+use Rattle.lists.proofs.Lists.{nil-of-length}
 use Rattle.network.specs.Networks.{Network, maxReaches}
 use Rattle.lines.specs.declared.Due.{Due}
 use Rattle.lines.specs.declared.Due.the-variants as D
@@ -47,16 +48,12 @@ module _ (N : Network) (l : Lister) (size : length (l .setting) ≡ maxReaches) 
   pub turned-next : (left : ℕ) (r : Lister) → l .due ≡ D.Plan left → planLength (gatesHeld N) ≤ l .at → LineAfter N l left r → Turned N l r
   unfolding restOf pendingOf
   turned-next left r e k a =
-      let nothing : restOf N l ≡ [] = empty (restOf N l) (omega (arith, rest-size left e)) in
+      let nothing : restOf N l ≡ [] = nil-of-length (restOf N l) (omega (arith, rest-size left e)) in
       record {
         basins-kept = a .basins-kept;
         same = a .lines ∙ sym (ap (λ (t : List ℕ). t ++ linesAfter N (l .due) (planIn N l)) nothing ∙ ap (λ (d : Due). linesAfter N d (planIn N l)) e);
         ended = λ z. let none : ⊥ = omega (arith, ap length z, ap (λ (k : ℕ). length (drop k (lineOf (r .due) (planIn N r)))) (a .begun), due-some (r .due) (planIn N r)) in absurd none;
       }
-    where
-      empty : (t : List ℕ) → length t ≡ 0 → t ≡ []
-      empty [] z = refl
-      empty (x ∷ t) z = let none : ⊥ = omega arith in absurd none
 
 -- the last line
 pub turned-last : (N : Network) (l : Lister) → linesAfter N (l .due) (planIn N l) ≡ [] → Turned N l l

@@ -5,8 +5,8 @@ use mathlib.Core.Path.{_≡_}
 use mathlib.Core.Bool.{Bool, true, false}
 use mathlib.Core.List.{List}
 use lib.ListN.{length}
-use Rattle.gates.specs.Ready.{Ready}
-use Rattle.finder.specs.Seeks.{AtPlan}
+use Rattle.orienting.specs.Ready.{Ready}
+use Rattle.seeking.specs.Seeks.{AtPlan}
 use Rattle.lines.specs.declared.Due.{Due}
 use Rattle.lines.specs.declared.Due.the-variants as D
 

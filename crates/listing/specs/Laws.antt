@@ -9,7 +9,7 @@ use lib.ListN.{take}
 use Rattle.lists.specs.Lists.{elem}
 use Rattle.network.specs.Networks.{Network}
 use Rattle.network.specs.Plans.{firstPlan}
-use Rattle.netfile.specs.Files.{read, readFile}
+use Rattle.netfile_format.specs.Files.{read, readFile}
 use Rattle.lines.specs.Listings.{maxBytes, maxPlans, line, refusedText, plansFrom, listing}
 
 pub data Printed (file : List ℕ) : Type 0 where

@@ -3,3 +3,4 @@ pub mod Laws
 pub mod Pending
 pub mod Parts
 pub mod Keeping
+pub mod Priming

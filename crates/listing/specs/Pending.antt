@@ -10,8 +10,8 @@ use Rattle.network.specs.Settings.{gateCount}
 use Rattle.network.specs.Marks.{markBytes}
 use Rattle.network.specs.Replies.{nextReply}
 use Rattle.tables.specs.Rows.{netOf}
-use Rattle.netfile.specs.Files.{Reading, readFile}
-use Rattle.netfile.specs.Answers.{roomOf, withRoom, reachesRead, Rows}
+use Rattle.netfile_format.specs.Files.{Reading, readFile}
+use Rattle.netfile_format.specs.Answers.{roomOf, withRoom, reachesRead, RowsFilled}
 use Rattle.lines.specs.declared.Due.{Due}
 use Rattle.lines.specs.declared.Due.the-variants as D
 use Rattle.lines.specs.Listings.{maxBytes, line, planText, endText, moreText, refusedText, replyLines, readingLines}
@@ -62,7 +62,7 @@ abbrev pub fileRead : List ℕ → List ℕ → List ℕ → List ℕ → Readin
 fileRead file kinds a b = withRoom (roomOf kinds a b) (readFile (take maxBytes file))
 
 pub record Starting (file kinds a b : List ℕ) (r : Started) (kinds′ a′ b′ : List ℕ) : Type 0 where
-  pub rows : Rows (reachesRead (fileRead file kinds a b)) kinds a b kinds′ a′ b′
+  pub rows : RowsFilled (reachesRead (fileRead file kinds a b)) kinds a b kinds′ a′ b′
   pub counted : r .reaches ≡ length (reachesRead (fileRead file kinds a b))
   pub to-print : pending (r .lister) (take (r .reaches) kinds′) (take (r .reaches) a′) (take (r .reaches) b′) ≡ readingLines (fileRead file kinds a b)
 

@@ -12,10 +12,11 @@ use lines::put_more;
 use lines::put_plan;
 use lines::put_refused;
 use marks::MARK_BYTES;
-use netfile::ReadAnswer;
+use netfile_format::ReadAnswer;
 use network::MAX_BASINS;
 use network::MAX_REACHES;
 use network::Refusal;
+use planner::CheckAnswer;
 use planner::HALF_EDGES;
 use tables::least;
 ghost use mathlib.Core.Path.{_≡_};
@@ -25,11 +26,12 @@ ghost use Rattle.network.specs.Networks.{maxReaches};
 ghost use Rattle.network.specs.Tables.{tableOf};
 ghost use Rattle.network.specs.Settings.{gatesFrom};
 ghost use Rattle.network.specs.Replies.{refusalNumber};
-ghost use Rattle.gates.specs.Ready.{Ready};
+ghost use Rattle.orienting.specs.Ready.{Ready};
 ghost use Rattle.planner.specs.Rooms.{Space};
-ghost use Rattle.finder.specs.Seeks.{AtPlan};
+ghost use Rattle.seeking.specs.Seeks.{AtPlan};
 ghost use Rattle.lines.specs.Puts.{Put};
 ghost use Rattle.listing.specs.Keeping.{Standing, Kept};
+ghost use Rattle.listing.specs.Priming.{Spare, Primed};
 ghost use Rattle.listing.specs.Pending.{lineOf, gatesHeld, lentNet, Starting, Filling};
 ghost use Rattle.listing.specs.Parts.{FirstLine, LineAfter, planLength, Turned, RefusalLine};
 
@@ -150,7 +152,7 @@ fn stepped(
     let basins = l.basins;
     let setting = l.setting;
     let n = basins as usize;
-    let r = runs::advance(
+    let r = stepping::advance(
         n,
         kinds,
         a,
@@ -172,7 +174,7 @@ fn stepped(
         };
     }
     let mut plan = l.setting;
-    runs::rewrite(kinds, ways, r, g, &mut plan);
+    stepping::rewrite(kinds, ways, r, g, &mut plan);
     let due = due_plan(left);
     Lister {
         basins,
@@ -367,6 +369,38 @@ fn print_lines(
     }
 }
 
+// Prepares working memory for the plans after a setting, if it is a plan: its ways, and the index of the half-edges. Says whether it is.
+fn prime(
+    basins: u16,
+    kinds: &[u8],
+    a: &[u16],
+    b: &[u16],
+    setting: &[u8],
+    ways: &mut [u8],
+    head: &mut [u16],
+    next: &mut [u16],
+) -> bool
+    requires { ⌜ Spare (now kinds) (now ways) (now head) (now next) ⌝ }
+    ensures { λ r. ⌜ Primed basins (now (kinds .entry)) (now (a .entry)) (now (b .entry)) (now (setting .entry))
+        (now (ways .exit)) (now (head .exit)) (now (next .exit)) r ⌝ }
+{
+    if a.len() != kinds.len() {
+        return false;
+    }
+    if b.len() != kinds.len() {
+        return false;
+    }
+    match planner::check_rows(basins, kinds, a, b, setting) {
+        CheckAnswer::Refused(_) => false,
+        CheckAnswer::No => false,
+        CheckAnswer::Yes => {
+            tables::hang(kinds, setting, ways);
+            half_edges::index(basins as usize, a, b, head, next);
+            true
+        }
+    }
+}
+
 // The same with lent working memory, which is prepared if the plan in hand is one.
 fn fill_in(
     l: Lister,
@@ -390,7 +424,7 @@ fn fill_in(
     let basins = l.basins;
     let setting = l.setting;
     let hung = &mut ways[..m];
-    let standing = runs::prime(basins, kinds, a, b, &setting[..g], hung, head, next);
+    let standing = prime(basins, kinds, a, b, &setting[..g], hung, head, next);
     print_lines(
         l,
         g,

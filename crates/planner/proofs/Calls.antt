@@ -26,7 +26,7 @@ use Rattle.planner.specs.declared.Answer.the-variants as A
 use Rattle.planner.specs.declared.CheckAnswer.{CheckAnswer}
 use Rattle.planner.specs.declared.CheckAnswer.the-variants as C
 use Rattle.planner.specs.Answers.{Written, yesOr, checkOf}
-use Rattle.finder.specs.Rooms.{Level}
+use Rattle.seeking.specs.Levels.{Level}
 
 -- ---- rows cut to the length of the table
 

@@ -15,21 +15,22 @@ use Rattle.network.proofs.Marks.{length-marks}
 use Rattle.tables.specs.Rows.{netOf, gatesIn, bytesRow}
 use Rattle.tables.proofs.Laws.{row-length, row-bytes, row-gates}
 use Rattle.marks.specs.Sets.{markedSet}
-use Rattle.gates.proofs.Least.{bytes-length}
+use Rattle.orientations.proofs.Least.{bytes-length}
 use Rattle.planner.specs.declared.Verdict.the-variants.{Plan, ShutIn, Lone}
 use Rattle.planner.specs.declared.Reply.{Reply}
 use Rattle.planner.specs.declared.Answer.the-variants.{Given}
-use Rattle.finder.specs.declared.Found.{Found}
-use Rattle.finder.specs.declared.Found.the-variants.{Shut, Stuck, Hung}
-use Rattle.finder.specs.declared.Sought.{Sought}
-use Rattle.finder.specs.declared.Sought.the-variants.{Last, At}
+use Rattle.seeking.specs.declared.Found.{Found}
+use Rattle.seeking.specs.declared.Found.the-variants.{Closed, Bridge, Oriented}
+use Rattle.seeking.specs.declared.Sought.{Sought}
+use Rattle.seeking.specs.declared.Sought.the-variants.{NoneLater, CameTo}
 use Rattle.network.specs.declared.Refusal.the-variants.{LastPlan}
 use Rattle.planner.specs.Answers.{given, Written}
-use Rattle.finder.specs.Rooms.{Level, Room}
+use Rattle.seeking.specs.Levels.{Level}
+use Rattle.finder.specs.Rooms.{Room}
 use Rattle.planner.specs.Rooms.{Space}
-use Rattle.finder.specs.Found.{outcomeOf, otherThan, reachFound, Noted, FirstFound, shut, stuck, hung, NextFound, no-later, next-is}
+use Rattle.seeking.specs.Found.{outcomeOf, otherThan, reachFound, SideNoted, FirstFound, found-closed, found-bridge, found-plan, NextFound, no-later, next-is}
 use Rattle.planner.specs.Reports.{MarksWritten, Reported, wrote-shut, wrote-lone, wrote-plan}
-use Rattle.finder.proofs.Firsts.{first-outcome}
+use Rattle.seeking.proofs.Firsts.{first-outcome}
 
 -- ---- working memory for rows of one length
 
@@ -55,7 +56,7 @@ level-room {n} {ks} {xs} {ys} {ws} l s =
 
 module _ (n : ℕ) (ks xs ys : List ℕ) (ea : length xs ≡ length ks) (eb : length ys ≡ length ks) where
   -- what was written down, with what was noted, is the reply
-  pub written : {ws seen : List ℕ} {f : Found} {plan marks plan′ marks′ : List ℕ} {r : Reply} → length ws ≡ length ks → Noted (netOf n ks xs ys) seen f → Reported n ks ws seen f plan marks plan′ marks′ r
+  pub written : {ws seen : List ℕ} {f : Found} {plan marks plan′ marks′ : List ℕ} {r : Reply} → length ws ≡ length ks → SideNoted (netOf n ks xs ys) seen f → Reported n ks ws seen f plan marks plan′ marks′ r
       → Written (outcomeOf (netOf n ks xs ys) ws f) plan marks plan′ marks′ (Given r)
   unfolding shutInFinding loneFinding
   written {seen} {marks} full noted (wrote-shut m) =
@@ -78,15 +79,15 @@ module _ (n : ℕ) (ks xs ys : List ℕ) (ea : length xs ≡ length ks) (eb : le
       }
 
 -- what the search for the first plan noted
-pub first-noted : {N : Network} {ws seen : List ℕ} {f : Found} → FirstFound N ws seen f → Noted N seen f
-first-noted (shut n k) = k
-first-noted (stuck p e l k) = k
-first-noted (hung p e m) = tt
+pub first-noted : {N : Network} {ws seen : List ℕ} {f : Found} → FirstFound N ws seen f → SideNoted N seen f
+first-noted (found-closed n k) = k
+first-noted (found-bridge p e l k) = k
+first-noted (found-plan p e m) = tt
 
 pub first-fits : (N : Network) → Accepted N → {ws seen : List ℕ} {f : Found} → FirstFound N ws seen f → reachFound f < 65536
-first-fits N ok (shut n k) = omega arith
-first-fits N ok (stuck p e l k) = omega (arith, (accepted N ok) .few-reaches)
-first-fits N ok (hung p e m) = omega arith
+first-fits N ok (found-closed n k) = omega arith
+first-fits N ok (found-bridge p e l k) = omega (arith, (accepted N ok) .few-reaches)
+first-fits N ok (found-plan p e m) = omega arith
 
 pub first-written : {n : ℕ} {ks xs ys : List ℕ} → Level n ks xs ys → {ws seen : List ℕ} {f : Found} {plan marks plan′ marks′ : List ℕ} {r : Reply} → length ws ≡ length ks → FirstFound (netOf n ks xs ys) ws seen f
     → Reported n ks ws seen f plan marks plan′ marks′ r → Written (firstAnswer (netOf n ks xs ys)) plan marks plan′ marks′ (Given r)
@@ -99,15 +100,15 @@ marks-written S {marks} e f = record { bytes = e; count = f ∙ ap (λ (v : List
 
 -- what was found, by cases
 module _ {n : ℕ} {ks ws seen plan marks : List ℕ} {f : Found} where
-  pub reported-shut : {marks′ : List ℕ} {c : ℕ} → f ≡ Shut → MarksWritten (markedSet n seen 1) marks marks′ c → Reported n ks ws seen f plan marks plan marks′ (record { verdict = ShutIn (record { reach = 0; count = c }) })
+  pub reported-shut : {marks′ : List ℕ} {c : ℕ} → f ≡ Closed → MarksWritten (markedSet n seen 1) marks marks′ c → Reported n ks ws seen f plan marks plan marks′ (record { verdict = ShutIn (record { reach = 0; count = c }) })
   reported-shut {marks′} {c} e m = subst⁻¹ (λ (g : Found). Reported n ks ws seen g plan marks plan marks′ (record { verdict = ShutIn (record { reach = 0; count = c }) })) e (wrote-shut m)
 
-  pub reported-lone : {marks′ : List ℕ} {r c x : ℕ} → f ≡ Stuck r → x ≡ otherThan (getD seen 0 0) → MarksWritten (markedSet n seen x) marks marks′ c → Reported n ks ws seen f plan marks plan marks′ (record { verdict = Lone (record { reach = r; count = c }) })
+  pub reported-lone : {marks′ : List ℕ} {r c x : ℕ} → f ≡ Bridge r → x ≡ otherThan (getD seen 0 0) → MarksWritten (markedSet n seen x) marks marks′ c → Reported n ks ws seen f plan marks plan marks′ (record { verdict = Lone (record { reach = r; count = c }) })
   reported-lone {marks′} {r} {c} e k m =
       subst⁻¹ (λ (g : Found). Reported n ks ws seen g plan marks plan marks′ (record { verdict = Lone (record { reach = r; count = c }) })) e
       (wrote-lone (subst (λ (y : ℕ). MarksWritten (markedSet n seen y) marks marks′ c) k m))
 
-  pub reported-plan : {plan′ : List ℕ} → f ≡ Hung → plan′ ≡ bytesRow ks ws ++ drop (gatesIn ks) plan → Reported n ks ws seen f plan marks plan′ marks (record { verdict = Plan })
+  pub reported-plan : {plan′ : List ℕ} → f ≡ Oriented → plan′ ≡ bytesRow ks ws ++ drop (gatesIn ks) plan → Reported n ks ws seen f plan marks plan′ marks (record { verdict = Plan })
   reported-plan {plan′} e m = subst⁻¹ (λ (g : Found). Reported n ks ws seen g plan marks plan′ marks (record { verdict = Plan })) e (wrote-plan m)
 
 -- ---- the next plan
@@ -115,19 +116,19 @@ module _ {n : ℕ} {ks ws seen plan marks : List ℕ} {f : Found} where
 -- what the search for it found, if that is to be written down
 pub record NextAt (N : Network) (s ws seen : List ℕ) (f : Found) : Type 0 where
   pub replies : nextAnswer N s ≡ outcomeOf N ws f
-  pub noted : Noted N seen f
+  pub noted : SideNoted N seen f
   pub fits : reachFound f < 65536
 
-at-found : {N : Network} {s ws seen : List ℕ} {f : Found} → NextFound N s ws seen (At f) → NextAt N s ws seen f
+at-found : {N : Network} {s ws seen : List ℕ} {f : Found} → NextFound N s ws seen (CameTo f) → NextAt N s ws seen f
 at-found (next-is e k b) = record { replies = e; noted = k; fits = b }
 
-pub next-at : {N : Network} {s ws seen : List ℕ} {q : Sought} {f : Found} → q ≡ At f → NextFound N s ws seen q → NextAt N s ws seen f
+pub next-at : {N : Network} {s ws seen : List ℕ} {q : Sought} {f : Found} → q ≡ CameTo f → NextFound N s ws seen q → NextAt N s ws seen f
 next-at {N} {s} {ws} {seen} e n = at-found (subst (NextFound N s ws seen) e n)
 
-last-found : {N : Network} {s ws seen : List ℕ} → NextFound N s ws seen Last → nextAnswer N s ≡ refused LastPlan
+last-found : {N : Network} {s ws seen : List ℕ} → NextFound N s ws seen NoneLater → nextAnswer N s ≡ refused LastPlan
 last-found (no-later e) = e
 
-pub next-last : {N : Network} {s ws seen : List ℕ} {q : Sought} → q ≡ Last → NextFound N s ws seen q → nextAnswer N s ≡ refused LastPlan
+pub next-last : {N : Network} {s ws seen : List ℕ} {q : Sought} → q ≡ NoneLater → NextFound N s ws seen q → nextAnswer N s ≡ refused LastPlan
 next-last {N} {s} {ws} {seen} e n = last-found (subst (NextFound N s ws seen) e n)
 
 pub next-written : {n : ℕ} {ks xs ys : List ℕ} → Level n ks xs ys → {s ws seen : List ℕ} {f : Found} {plan marks plan′ marks′ : List ℕ} {r : Reply} → length ws ≡ length ks → NextAt (netOf n ks xs ys) s ws seen f

@@ -10,9 +10,9 @@ use Rattle.tables.specs.Rows.{gatesIn, bytesRow}
 use Rattle.marks.specs.Sets.{markedSet}
 use Rattle.planner.specs.declared.Verdict.the-variants.{Plan, ShutIn, Lone}
 use Rattle.planner.specs.declared.Reply.{Reply}
-use Rattle.finder.specs.declared.Found.{Found}
-use Rattle.finder.specs.declared.Found.the-variants.{Shut, Stuck, Hung}
-use Rattle.finder.specs.Found.{otherThan, reachFound}
+use Rattle.seeking.specs.declared.Found.{Found}
+use Rattle.seeking.specs.declared.Found.the-variants.{Closed, Bridge, Oriented}
+use Rattle.seeking.specs.Found.{otherThan, reachFound}
 
 -- The marks of S stand in the first bytes, and r is their count.
 pub record MarksWritten (S marks marks′ : List ℕ) (r : ℕ) : Type 0 where
@@ -31,7 +31,7 @@ pub record Reportable (n : ℕ) (ks ws seen plan marks : List ℕ) (f : Found) :
 -- What it leaves: the marks of the basins noted, or the plan.
 pub data Reported (n : ℕ) (ks ws seen : List ℕ) : Found → List ℕ → List ℕ → List ℕ → List ℕ → Reply → Type 0 where
   wrote-shut : {plan marks marks′ : List ℕ} {c : ℕ} → MarksWritten (markedSet n seen 1) marks marks′ c
-      → Reported n ks ws seen Shut plan marks plan marks′ (record { verdict = ShutIn (record { reach = 0; count = c }) })
+      → Reported n ks ws seen Closed plan marks plan marks′ (record { verdict = ShutIn (record { reach = 0; count = c }) })
   wrote-lone : {r : ℕ} {plan marks marks′ : List ℕ} {c : ℕ} → MarksWritten (markedSet n seen (otherThan (getD seen 0 0))) marks marks′ c
-      → Reported n ks ws seen (Stuck r) plan marks plan marks′ (record { verdict = Lone (record { reach = r; count = c }) })
-  wrote-plan : {plan marks plan′ : List ℕ} → plan′ ≡ bytesRow ks ws ++ drop (gatesIn ks) plan → Reported n ks ws seen Hung plan marks plan′ marks (record { verdict = Plan })
+      → Reported n ks ws seen (Bridge r) plan marks plan marks′ (record { verdict = Lone (record { reach = r; count = c }) })
+  wrote-plan : {plan marks plan′ : List ℕ} → plan′ ≡ bytesRow ks ws ++ drop (gatesIn ks) plan → Reported n ks ws seen Oriented plan marks plan′ marks (record { verdict = Plan })

@@ -7,7 +7,7 @@ use lib.ListN.{length}
 use Rattle.network.specs.Networks.{maxBasins, maxReaches}
 use Rattle.network.specs.Marks.{markBytes}
 use Rattle.tables.specs.Rows.{gatesIn}
-use Rattle.finder.specs.Rooms.{Level}
+use Rattle.seeking.specs.Levels.{Level}
 
 -- An accepted table of rows of one length, and lent buffers that are long enough.
 pub record Lent (n : ℕ) (ks xs ys plan marks : List ℕ) : Type 0 where

@@ -11,18 +11,18 @@ ghost use Rattle.network.specs.Marks.{markBytes};
 ghost use Rattle.network.specs.Replies.{firstAnswer, nextAnswer, firstReply, nextReply};
 ghost use Rattle.marks.specs.Sets.{markedSet};
 ghost use Rattle.tables.specs.Rows.{netOf};
-ghost use Rattle.finder.specs.Rooms.{Level};
+ghost use Rattle.seeking.specs.Levels.{Level};
 ghost use Rattle.planner.specs.Rooms.{Lent, Space};
 ghost use Rattle.planner.specs.Answers.{checkOf, Written};
-ghost use Rattle.finder.specs.Found.{otherThan};
+ghost use Rattle.seeking.specs.Found.{otherThan};
 ghost use Rattle.planner.specs.Reports.{MarksWritten, Reportable, Reported};
 ghost use Rattle.planner.specs.Demands.{DemandOver};
-use finder::Found;
-use finder::Sought;
 use marks::MARK_BYTES;
 use network::MAX_BASINS;
 use network::MAX_REACHES;
 use network::Refusal;
+use seeking::Found;
+use seeking::Sought;
 use tables::TableAnswer;
 
 // A finding: the number of the lone reach (0 where the network is shut in) and the count of marked basins.
@@ -90,13 +90,13 @@ fn report(
     ensures { λ r. ⌜ Reported n (now (kinds .entry)) (now (ways .entry)) (now (seen .entry)) found (now (plan .entry)) (now (marks .entry)) (now (plan .exit)) (now (marks .exit)) r ⌝ }
 {
     match found {
-        Found::Shut => {
+        Found::Closed => {
             let count = write_marks(n, seen, 1, marks);
             Reply {
                 verdict: Verdict::ShutIn(Finding { reach: 0, count }),
             }
         }
-        Found::Stuck(r) => {
+        Found::Bridge(r) => {
             let count = write_marks(n, seen, other_than(seen[0]), marks);
             Reply {
                 verdict: Verdict::Lone(Finding {
@@ -105,7 +105,7 @@ fn report(
                 }),
             }
         }
-        Found::Hung => {
+        Found::Oriented => {
             tables::gather(kinds, ways, plan);
             Reply {
                 verdict: Verdict::Plan,
@@ -332,8 +332,8 @@ fn next_in(
         queue,
     );
     match sought {
-        Sought::Last => Answer::Refused(Refusal::LastPlan),
-        Sought::At(found) => Answer::Given(report(found, n, kinds, hung, seen, plan, marks)),
+        Sought::NoneLater => Answer::Refused(Refusal::LastPlan),
+        Sought::CameTo(found) => Answer::Given(report(found, n, kinds, hung, seen, plan, marks)),
     }
 }
 

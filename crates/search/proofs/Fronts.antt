@@ -10,11 +10,13 @@ use native.Mathlib.Omega.{arith}
 use borrow.Author.Count.{below-more}
 use lib.ListN.{length, getD, set, drop, replicate, length-append, length-drop, length-replicate, getD-replicate, List·getD-append}
 use lib.Seq.{getD-set-same, getD-set-other}
+use Rattle.network.proofs.Marks.{bit-0}
 use Rattle.network.specs.Hangings.{Arc, Walk, stay, step, reached}
 use Rattle.network.specs.Marks.{bit}
 use Rattle.lists.proofs.Bools.{clash}
 use Rattle.network.proofs.Walks.{walk-trans, walk-arc, walk-reached, reached-walk}
-use Rattle.search.specs.Searches.{Seen, Next, Visited, first, again, Grown, stay as none-more, more, Scanned, Noted, Meets, meeting, apart}
+use Rattle.half_edges.specs.Ends.{Next}
+use Rattle.search.specs.Searches.{Seen, Visited, first, again, Grown, stay as none-more, more, Scanned, Noted, Meets, meeting, apart}
 use Rattle.search.proofs.Counts.{unseen-le, unseen-set}
 use Rattle.search.proofs.Visits.{Room, Waits, Grew, marked-news, visited-grew, visited-seen, grown-grew}
 
@@ -181,10 +183,6 @@ pub joins : {A B : List Arc} {n start goal tail uptail f : ℕ} {seen queue upse
 joins {A} {goal} {queue} against s t (meeting k _ b x _) e =
     walk-reached (walk-trans (s .walks k b) (reached-walk A (getD queue k 0) goal (sym (against goal (getD queue k 0)) ∙ walk-reached (t .walked (getD queue k 0) (s .basins k b) x))))
 joins against s t (apart _ n) e = clash e n
-
-bit-0 : (b : Bool) → bit b ≡ 0 → b ≡ false
-bit-0 true e = absurd (omega arith)
-bit-0 false e = refl
 
 -- the queue is empty, and the goal is not seen: it is not reached
 pub shut : {A : List Arc} {n start at tail : ℕ} {seen queue : List ℕ} (goal : ℕ) → ((u w : ℕ) → Next A u w → w < n) → start < n → goal < n → tail ≤ at

@@ -1,9 +1,5 @@
--- The laws of the search's definitions.
-pub mod Laws
+-- The laws of a search.
 pub mod Sides
-pub mod Fills
-pub mod Halves
-pub mod Links
 pub mod Counts
 pub mod Visits
 pub mod Scans

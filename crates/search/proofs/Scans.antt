@@ -8,10 +8,10 @@ use native.Mathlib.Decide.{ℕ-discrete, decLt}
 use native.Mathlib.Omega.{arith}
 use lib.ListN.{length}
 use Rattle.lists.proofs.Bools.{clash}
-use Rattle.search.specs.Ends.{arcsOf, halves, endOf, otherOf, leaves}
-use Rattle.search.specs.Chains.{none, Last, nothing, last}
-use Rattle.search.specs.Searches.{Seen, Next, Visited, Grown, more, Scanned}
-use Rattle.search.proofs.Halves.{arc-half, half-arc}
+use Rattle.half_edges.specs.Ends.{arcsOf, halves, endOf, otherOf, leaves, Next}
+use Rattle.half_edges.specs.Chains.{none, Last, nothing, last}
+use Rattle.search.specs.Searches.{Seen, Visited, Grown, more, Scanned}
+use Rattle.half_edges.proofs.Halves.{arc-half, half-arc}
 use Rattle.search.proofs.Visits.{Grew, grew-trans, visited-grew, visited-seen}
 
 -- All half-edges at u from x on are done, and h is the last one below x.

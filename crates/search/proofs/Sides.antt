@@ -8,7 +8,7 @@ use native.Mathlib.Omega.{arith}
 use borrow.Author.Tests.{ne-eqb}
 use lib.ListN.{length, getD, length-map}
 use lib.Dec.{eqb}
-use Rattle.search.specs.Ends.{flipWay, sided, leaves}
+use Rattle.half_edges.specs.Ends.{flipWay, sided, leaves}
 
 pub length-sided : (s : Bool) (ws : List ℕ) → length (sided s ws) ≡ length ws
 length-sided false ws = refl

@@ -1,4 +1,2 @@
--- What the search's contracts say: half-edges and their arcs, the index of a table's half-edges, and one search.
-pub mod Ends
-pub mod Chains
+-- What one search does and finds.
 pub mod Searches

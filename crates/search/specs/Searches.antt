@@ -3,11 +3,12 @@
 use Prim.Native.Nat.{ℕ, zero, suc, _+_, _≤_, _<_}
 use mathlib.Core.Path.{_≡_}
 use mathlib.Core.Bool.{Bool, true, false}
-use mathlib.Core.List.{List, [], _∷_, List·Memᴰ}
+use mathlib.Core.List.{List, [], _∷_}
 use lib.ListN.{length, getD, set}
-use Rattle.network.specs.Hangings.{Arc, arc, reached}
+use Rattle.network.specs.Hangings.{Arc, reached}
 use Rattle.network.specs.Marks.{bit}
-use Rattle.search.specs.Chains.{Index, Table}
+use Rattle.half_edges.specs.Ends.{Next}
+use Rattle.half_edges.specs.Chains.{Index, Table}
 
 -- A basin is seen where its byte is not 0.
 abbrev pub Seen : List ℕ → ℕ → Type 0
@@ -29,10 +30,6 @@ pub data Grown (P : ℕ → Type 0) (seen queue : List ℕ) (tail : ℕ) : List 
   stay : Grown P seen queue tail seen queue tail
   more : {w tail′ tail″ : ℕ} {seen′ queue′ seen″ queue″ : List ℕ} → Grown P seen queue tail seen′ queue′ tail′ → P w
       → Visited w seen′ queue′ tail′ seen″ queue″ tail″ → Grown P seen queue tail seen″ queue″ tail″
-
--- w is the end of an arc from u.
-abbrev pub Next : List Arc → ℕ → ℕ → Type 0
-Next A u w = List·Memᴰ (arc u w) A
 
 -- What a scan of the basin at place `at` of the queue requires.
 pub record Scannable (xs ys ws head next seen queue : List ℕ) (at tail : ℕ) : Type 0 where

@@ -1,23 +1,17 @@
 // Plan sheets and finding sheets: their reader, their writer, and the writer of a network's reply. The reach table is lent as three rows of
 // numbers, kinds, ends A and ends B, as the crate `tables` has them. What is a plan, and what a network gets, only the planner's promises say.
-pub mod laws;
-
+use file_records::WriteAnswer;
 use marks::MARK_BYTES;
-use netfile::WriteAnswer;
 use network::MAX_REACHES;
 use network::Refusal;
-use planner::Answer;
 use planner::CheckAnswer;
-use planner::Verdict;
 use sheetfile::SheetAnswer;
 use tables::TableAnswer;
 ghost use mathlib.Core.Path.{_≡_};
 ghost use lib.ListN.{length};
-ghost use Rattle.network.specs.Networks.{maxReaches, tableFault};
-ghost use Rattle.network.specs.Marks.{markBytes};
+ghost use Rattle.network.specs.Networks.{maxReaches};
 ghost use Rattle.tables.specs.Rows.{netOf};
-ghost use Rattle.sheetfile.specs.Readings.{read, ifPlan, unlessFault, withRoom};
-ghost use Rattle.sheetfile.specs.Answers.{Got, ReadCall, WriteCall, ReplyCall};
+ghost use Rattle.sheetfile.specs.Answers.{SheetRead, SheetWritten, ReplyWritten};
 
 // The sheet of a plan goes to the first bytes of the buffer. Refuses 1, 2, 3, 8 and 7.
 pub fn write_sheet_rows(
@@ -28,39 +22,15 @@ pub fn write_sheet_rows(
     setting: &[u8],
     out: &mut [u8],
 ) -> WriteAnswer
-    ensures { λ r. ⌜ WriteCall (netOf basins (now (kinds .entry)) (now (a .entry)) (now (b .entry))) (now (setting .entry)) (now (out .entry)) r (now (out .exit)) ⌝ }
+    ensures { λ r. ⌜
+        SheetWritten (netOf basins (now (kinds .entry)) (now (a .entry)) (now (b .entry))) (now (setting .entry)) (now (out .entry))
+        r (now (out .exit))
+        ⌝ }
 {
     match planner::check_rows(basins, kinds, a, b, setting) {
         CheckAnswer::Refused(r) => WriteAnswer::Refused(r),
         CheckAnswer::No => WriteAnswer::Refused(Refusal::BadSetting),
-        CheckAnswer::Yes => sheetfile::write_fitting(kinds, a, b, setting, out),
-    }
-}
-
-// The network's reply as a sheet, with lent working memory for the plan and the marks.
-fn write_reply_in(
-    basins: u16,
-    kinds: &[u8],
-    a: &[u16],
-    b: &[u16],
-    plan: &mut [u8],
-    marks: &mut [u8],
-    out: &mut [u8],
-) -> WriteAnswer
-    requires { ⌜ length (now plan) ≡ maxReaches ⌝ }
-    requires { ⌜ length (now marks) ≡ markBytes ⌝ }
-    ensures { λ r. ⌜ ReplyCall (netOf basins (now (kinds .entry)) (now (a .entry)) (now (b .entry))) (now (out .entry)) r (now (out .exit)) ⌝ }
-{
-    match planner::first_plan_rows(basins, kinds, a, b, plan, marks) {
-        Answer::Refused(r) => WriteAnswer::Refused(r),
-        Answer::Given(reply) => {
-            let verdict = reply.verdict;
-            match verdict {
-                Verdict::Plan => sheetfile::write_first(kinds, a, b, plan, out),
-                Verdict::ShutIn(_) => sheetfile::write_shut_in(marks, out),
-                Verdict::Lone(finding) => sheetfile::write_lone(finding.reach, marks, out),
-            }
-        }
+        CheckAnswer::Yes => sheet_writing::write_fitting(kinds, a, b, setting, out),
     }
 }
 
@@ -72,35 +42,11 @@ pub fn write_reply_rows(
     b: &[u16],
     out: &mut [u8],
 ) -> WriteAnswer
-    ensures { λ r. ⌜ ReplyCall (netOf basins (now (kinds .entry)) (now (a .entry)) (now (b .entry))) (now (out .entry)) r (now (out .exit)) ⌝ }
+    ensures { λ r. ⌜ ReplyWritten (netOf basins (now (kinds .entry)) (now (a .entry)) (now (b .entry))) (now (out .entry)) r (now (out .exit)) ⌝ }
 {
     let mut plan = [0u8; MAX_REACHES];
     let mut marks = [0u8; MARK_BYTES];
-    write_reply_in(basins, kinds, a, b, &mut plan, &mut marks, out)
-}
-
-// The bytes that a sheet says, if they are a plan of the network, go to the first bytes of the setting's buffer. Refuses 8, then 7.
-fn keep_plan(
-    basins: u16,
-    kinds: &[u8],
-    a: &[u16],
-    b: &[u16],
-    bytes: &[u8],
-    setting: &mut [u8],
-) -> SheetAnswer
-    ensures { λ r. ⌜ Got (withRoom (length (now (setting .entry))) (unlessFault (tableFault (netOf basins (now (kinds .entry)) (now (a .entry)) (now (b .entry)))) (ifPlan (netOf basins (now (kinds .entry)) (now (a .entry)) (now (b .entry))) (read (now (bytes .entry)))))) (now (setting .entry)) r (now (setting .exit)) ⌝ }
-{
-    match planner::check_rows(basins, kinds, a, b, bytes) {
-        CheckAnswer::Refused(r) => SheetAnswer::Refused(r),
-        CheckAnswer::No => SheetAnswer::Refused(Refusal::BadSetting),
-        CheckAnswer::Yes => {
-            if setting.len() < bytes.len() {
-                return SheetAnswer::Refused(Refusal::ShortBuffer);
-            }
-            sheetfile::put_bytes(setting, 0, bytes);
-            SheetAnswer::Read(bytes.len())
-        }
-    }
+    sheet_plans::write_reply_in(basins, kinds, a, b, &mut plan, &mut marks, out)
 }
 
 // The reader, with lent working memory.
@@ -114,15 +60,18 @@ fn read_sheet_in(
     setting: &mut [u8],
 ) -> SheetAnswer
     requires { ⌜ length (now held) ≡ maxReaches ⌝ }
-    ensures { λ r. ⌜ ReadCall (netOf basins (now (kinds .entry)) (now (a .entry)) (now (b .entry))) (now (sheet .entry)) (now (setting .entry)) r (now (setting .exit)) ⌝ }
+    ensures { λ r. ⌜
+        SheetRead (netOf basins (now (kinds .entry)) (now (a .entry)) (now (b .entry))) (now (sheet .entry)) (now (setting .entry))
+        r (now (setting .exit))
+        ⌝ }
 {
     if let TableAnswer::Refused(r) = tables::table_fault(basins, kinds, a, b) {
         return SheetAnswer::Refused(r);
     }
     let m = tables::row_count(kinds, a, b);
-    match sheetfile::read_records(&kinds[..m], sheet, held) {
+    match sheet_reading::read_records(&kinds[..m], sheet, held) {
         SheetAnswer::Refused(r) => SheetAnswer::Refused(r),
-        SheetAnswer::Read(n) => keep_plan(basins, kinds, a, b, &held[..n], setting),
+        SheetAnswer::Read(n) => sheet_plans::keep_plan(basins, kinds, a, b, &held[..n], setting),
     }
 }
 
@@ -135,7 +84,10 @@ pub fn read_sheet_rows(
     sheet: &[u8],
     setting: &mut [u8],
 ) -> SheetAnswer
-    ensures { λ r. ⌜ ReadCall (netOf basins (now (kinds .entry)) (now (a .entry)) (now (b .entry))) (now (sheet .entry)) (now (setting .entry)) r (now (setting .exit)) ⌝ }
+    ensures { λ r. ⌜
+        SheetRead (netOf basins (now (kinds .entry)) (now (a .entry)) (now (b .entry))) (now (sheet .entry)) (now (setting .entry))
+        r (now (setting .exit))
+        ⌝ }
 {
     let mut held = [0u8; MAX_REACHES];
     read_sheet_in(basins, kinds, a, b, sheet, &mut held, setting)

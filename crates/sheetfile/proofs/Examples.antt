@@ -12,13 +12,13 @@ use Rattle.network.specs.Plans.{strongUnder, isPlan, passable, firstPlan}
 use Rattle.network.specs.Lone.{crossesAlone, isLone, lowestLone}
 use Rattle.network.specs.Marks.{marksOf}
 use Rattle.network.specs.Replies.{shutInBasin, shutInSide, loneSide, shutInFinding, loneFinding, answer, firstAnswer}
-use Rattle.netfile.specs.Records.{bodyOf}
+use Rattle.file_records.specs.Records.{bodyOf}
 use Rattle.sheetfile.specs.Sheets.{replySheet}
 use Rattle.sheetfile.specs.Readings.{readGates, readRecords, readSheet}
-use Rattle.sheetfile.specs.Answers.{readingNumber}
+use Rattle.sheetfile.specs.Answers.{sheetReadingNumber}
 use Rattle.sheetfile.specs.Examples.{sheets, replies}
 
-pub sheets-hold : every (λ e. eqb (readingNumber (readSheet (e .0) (e .1))) (e .2)) sheets ≡ true
+pub sheets-hold : every (λ e. eqb (sheetReadingNumber (readSheet (e .0) (e .1))) (e .2)) sheets ≡ true
 unfolding bodyOf tableFault isSetting strongUnder isPlan readGates readRecords readSheet
 sheets-hold = refl
 

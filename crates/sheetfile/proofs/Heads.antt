@@ -7,18 +7,16 @@ use lib.ListN.{length, take, drop}
 use borrow.Author.Tests.{eq-eqb, ne-eqb}
 use Rattle.network.specs.declared.Refusal.the-variants.{BadSetting}
 use Rattle.lists.specs.Words.{wordOf}
-use Rattle.netfile.specs.declared.Taken.the-variants.{Whole}
-use Rattle.netfile.specs.Records.{takeRecord}
-use Rattle.netfile.specs.Answers.{takenAnswer}
-use Rattle.sheetfile.specs.declared.Place.the-variants.{Head}
+use Rattle.file_records.specs.declared.Taken.the-variants.{Whole}
+use Rattle.file_records.specs.Records.{takeRecord, takenAnswer}
 use Rattle.sheetfile.specs.declared.SheetAnswer.{SheetAnswer}
 use Rattle.sheetfile.specs.declared.SheetAnswer.the-variants.{Refused}
-use Rattle.sheetfile.specs.Readings.{mayStand, readGates, readRecords}
+use Rattle.sheetfile.specs.Readings.{planHeadDue, readGates, readRecords}
 use Rattle.sheetfile.specs.Answers.{Held}
 use Rattle.sheetfile.proofs.Steps.{head-at}
 use Rattle.sheetfile.proofs.Scan.{held-refused}
 
-module _ (gs f : List ℕ) (k : ℕ) (e : takenAnswer (takeRecord (mayStand Head) f) ≡ Whole k) (n : ℕ) (w : n ≡ wordOf (take 2 (drop 1 f))) where
+module _ (gs f : List ℕ) (k : ℕ) (e : takenAnswer (takeRecord planHeadDue f) ≡ Whole k) (n : ℕ) (w : n ≡ wordOf (take 2 (drop 1 f))) where
   pub head-wrong : (held : List ℕ) → (n ≡ length gs → ⊥) → Held (readRecords gs f) (Refused BadSetting) held
   head-wrong held d = held-refused BadSetting held (head-at gs f k e .next ∙ rw (← w, ne-eqb n (length gs) d))
 

@@ -1,54 +1,27 @@
 -- Sheets put into a buffer: findings, the sheet of a setting, and the rows cut to the length of the table.
 -- Assumes nothing.
 use Prim.Native.Nat.{ℕ, _+_, _*_, _-_, _≤_, _<_}
-use native.Mathlib.Nat.{zero-add}
 use native.Mathlib.Omega.{arith}
-use mathlib.Core.Path.{_≡_, refl, sym, ap, subst, _∙_}
+use mathlib.Core.Path.{_≡_, sym, ap, subst, _∙_}
 use mathlib.Core.List.{List, [], _∷_, _++_, append-assoc}
-use mathlib.Core.Option.{Option, none, some}
 use lib.ListN.{length, take, drop, set, length-append}
-use lib.Seq.{sets, sets-eq, length-sets, length-take-le}
-use borrow.Author.Tests.{le-leb, lt-leb}
-use Rattle.network.specs.declared.Refusal.{Refusal}
+use lib.Seq.{sets, length-sets, length-take-le}
 use Rattle.network.specs.declared.Refusal.the-variants.{ShortBuffer}
 use Rattle.network.specs.Tables.{tableOf}
 use Rattle.network.specs.Settings.{gatesFrom}
 use Rattle.tables.specs.Rows.{gatesIn}
 use Rattle.tables.proofs.Laws.{table-short}
-use Rattle.netfile.specs.declared.WriteAnswer.{WriteAnswer}
-use Rattle.netfile.specs.declared.WriteAnswer.the-variants.{Refused as Unwritten, Written}
-use Rattle.netfile.specs.Records.{twoBytes}
-use Rattle.netfile.specs.Answers.{writeNumber, faultNumber}
-use Rattle.netfile.proofs.Writing.{sets-after, set-sets-long}
+use Rattle.file_records.specs.declared.WriteAnswer.{WriteAnswer}
+use Rattle.file_records.specs.declared.WriteAnswer.the-variants.{Refused as Unwritten, Written}
+use Rattle.file_records.specs.Records.{twoBytes}
+use Rattle.file_records.specs.Puts.{WroteWhole}
+use Rattle.file_records.proofs.Writing.{part-back}
+use Rattle.lists.proofs.Lists.{sets-after, set-sets-long}
 use Rattle.sheetfile.specs.Sheets.{gateRecords, planSheet}
 use Rattle.sheetfile.specs.Rows.{gatesRow, Records, Fitting, Roomy, firstBytesSheet}
-use Rattle.sheetfile.specs.Answers.{putAnswer, bytesPut, Put, roomFor, PutWhole}
+use Rattle.file_records.proofs.Puts.{put-short, put-whole}
 use Rattle.sheetfile.proofs.Gates.{gates-row, gates-few, count-row}
-use Rattle.sheetfile.proofs.Writing.{part-back}
 use Rattle.sheetfile.proofs.Sheets.{length-sheet}
-
--- ---- bytes that are put into a buffer
-
-number-put : (o : Option Refusal) (f : List ℕ) → writeNumber (putAnswer o f) ≡ faultNumber o
-number-put none f = refl
-number-put (some r) f = refl
-
-put-of : (o : Option Refusal) (f out out′ : List ℕ) → out′ ≡ bytesPut o f ++ drop (length (bytesPut o f)) out → Put o f out (putAnswer o f) out′
-put-of o f out out′ e = record { answer = refl; number = number-put o f; bytes = e }
-
-pub put-refused : {o : Option Refusal} (f out : List ℕ) (r : Refusal) → o ≡ some r → Put o f out (Unwritten r) out
-put-refused f out r e = subst (λ o. Put o f out (Unwritten r) out) (sym e) (put-of (some r) f out out refl)
-
-module _ (f out : List ℕ) where
-  pub put-short : length out < length f → PutWhole f out (Unwritten ShortBuffer) out
-  put-short l = put-refused f out ShortBuffer (rw (lt-leb (length f) (length out) l))
-
-  pub put-whole : (n : ℕ) (out′ : List ℕ) → n ≡ length f → n ≤ length out → out′ ≡ sets out 0 f → PutWhole f out (Written n) out′
-  put-whole n out′ e l q =
-      let room : roomFor f (length out) ≡ none = rw (le-leb (length f) (length out) (omega arith)) in
-      rw e
-      (subst (λ o. Put o f out (Written (length f)) out′) (sym room)
-      (put-of none f out out′ (q ∙ sets-eq f out 0 (omega arith) ∙ ap (λ k. f ++ drop k out) (zero-add (length f)))))
 
 -- ---- a finding: its kind and its values, the marks, the end
 
@@ -60,7 +33,7 @@ module _ (front marks out : List ℕ) where
   finding-size = omega (arith, length-append front (marks ++ (9 ∷ [])), length-append marks (9 ∷ []))
 
   module _ (n j : ℕ) (e : n ≡ length front + length marks + 1) (at : j ≡ length front) (l₁ l₂ : List ℕ) (p : l₁ ≡ sets out 0 front) (q : l₂ ≡ sets l₁ j marks) where
-    pub finding-done : n ≤ length out → PutWhole finding out (Written n) (set l₂ (n - 1) 9)
+    pub finding-done : n ≤ length out → WroteWhole finding out (Written n) (set l₂ (n - 1) 9)
     finding-done l = put-whole finding out n (set l₂ (n - 1) 9) (omega (arith, finding-size)) l whole
       where
         values : l₂ ≡ sets out 0 (front ++ marks)
@@ -88,7 +61,7 @@ module _ (ks s : List ℕ) (fit : Records ks s) where
   size = length-sheet (gatesRow 0 ks) s (fit .full)
 
   module _ (out : List ℕ) where
-    pub sheet-short : length out < 3 * length s + 4 → PutWhole sheet out (Unwritten ShortBuffer) out
+    pub sheet-short : length out < 3 * length s + 4 → WroteWhole sheet out (Unwritten ShortBuffer) out
     sheet-short l = put-short sheet out (omega (arith, size))
 
     module _ (l : 3 * length s + 4 ≤ length out) (l₁ : List ℕ) (p : l₁ ≡ sets (set out 0 16) 1 (twoBytes (length s))) where
@@ -108,7 +81,7 @@ module _ (ks s : List ℕ) (fit : Records ks s) where
         pub sheet-long : length (take 3 l₁ ++ (part ++ drop (length l₁ - 3) (drop 3 l₁))) ≡ length out
         sheet-long = ap length whole ∙ length-sets out 0 sheet
 
-        pub sheet-done : PutWhole sheet out (Written (3 * length s + 4)) (take 3 l₁ ++ (part ++ drop (length l₁ - 3) (drop 3 l₁)))
+        pub sheet-done : WroteWhole sheet out (Written (3 * length s + 4)) (take 3 l₁ ++ (part ++ drop (length l₁ - 3) (drop 3 l₁)))
         sheet-done = put-whole sheet out (3 * length s + 4) _ (sym size) l whole
 
 -- the rows cut to the length of the table
@@ -125,9 +98,9 @@ module _ (ks xs ys : List ℕ) (m : ℕ) (e : m ≡ length (tableOf ks xs ys)) w
 
   pub cut-sheet :
       (s out : List ℕ) (r : WriteAnswer) (out′ : List ℕ)
-      → PutWhole (planSheet (gatesRow 0 (take m ks)) s) out r out′
-      → PutWhole (planSheet (gatesFrom 0 (tableOf ks xs ys)) s) out r out′
-  cut-sheet s out r out′ = subst (λ gs. PutWhole (planSheet gs s) out r out′) cut-gates
+      → WroteWhole (planSheet (gatesRow 0 (take m ks)) s) out r out′
+      → WroteWhole (planSheet (gatesFrom 0 (tableOf ks xs ys)) s) out r out′
+  cut-sheet s out r out′ = subst (λ gs. WroteWhole (planSheet gs s) out r out′) cut-gates
 
   -- the first bytes of a plan buffer, one for each gated reach
   module _ (plan : List ℕ) (roomy : Roomy (tableOf ks xs ys) plan) (g : ℕ) (count : g ≡ gatesIn (take m ks)) where
@@ -142,7 +115,7 @@ module _ (ks xs ys : List ℕ) (m : ℕ) (e : m ≡ length (tableOf ks xs ys)) w
 
     pub cut-first :
         (out : List ℕ) (r : WriteAnswer) (out′ : List ℕ)
-        → PutWhole (planSheet (gatesFrom 0 (tableOf ks xs ys)) (take g plan)) out r out′
-        → PutWhole (firstBytesSheet (tableOf ks xs ys) plan) out r out′
+        → WroteWhole (planSheet (gatesFrom 0 (tableOf ks xs ys)) (take g plan)) out r out′
+        → WroteWhole (firstBytesSheet (tableOf ks xs ys) plan) out r out′
     cut-first out r out′ =
-        subst (λ n. PutWhole (planSheet (gatesFrom 0 (tableOf ks xs ys)) (take n plan)) out r out′) gate-count
+        subst (λ n. WroteWhole (planSheet (gatesFrom 0 (tableOf ks xs ys)) (take n plan)) out r out′) gate-count

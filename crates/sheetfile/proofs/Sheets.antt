@@ -1,14 +1,15 @@
 -- A plan's sheet is read as it is written, and written as it is read; what is read is a plan.
 -- Assumes nothing.
-use Prim.Native.Nat.{ℕ, zero, suc, _+_, _*_, _≤_, _<_}
+use Prim.Native.Nat.{ℕ, zero, suc, _+_, _*_}
 use native.Mathlib.Omega.{arith}
 use mathlib.Core.Path.{_≡_, refl, sym, ap, _∙_}
 use mathlib.Core.Bool.{Bool, true, false, cond, true≢false}
 use mathlib.Core.List.{List, [], _∷_, _++_}
 use mathlib.Core.Option.{Option, none, some}
+use mathlib.Core.Logic.{inl, inr}
 use lib.ListN.{length, take, drop, length-append}
 use lib.Dec.{leb, eqb}
-use borrow.Author.Tests.{leb-true, le-leb, eqb-true, eqb-false, eq-eqb}
+use borrow.Author.Tests.{leb-true, eqb-true, eqb-false, eq-eqb}
 use mathlib.Mathlib.Data.Bool.Basic.{and-elim-left, and-elim-right}
 use Rattle.network.specs.declared.Refusal.{Refusal}
 use Rattle.network.specs.declared.Refusal.the-variants.{TrailingBytes, BadSetting}
@@ -18,25 +19,23 @@ use Rattle.network.specs.Settings.{gates, gateCount, isSetting}
 use Rattle.network.specs.Plans.{isPlan}
 use Rattle.lists.specs.Words.{wordOf}
 use Rattle.network.proofs.Order.{setting-length, plan-setting}
-use Rattle.netfile.specs.declared.Taken.{Taken}
-use Rattle.netfile.specs.declared.Taken.the-variants.{Broken, Whole}
-use Rattle.netfile.specs.Records.{bodyOf, areBytes, twoBytes, whole, takeRecord}
-use Rattle.netfile.specs.Answers.{takenAnswer}
-use Rattle.netfile.proofs.Records.{word-bytes, low-byte, high-byte, byte-at, bytes-drop}
-use Rattle.netfile.proofs.Steps.{stands}
-use Rattle.sheetfile.specs.declared.Place.the-variants.{Head, Inside}
+use Rattle.file_records.specs.declared.Taken.{Taken}
+use Rattle.file_records.specs.declared.Taken.the-variants.{Broken, Whole}
+use Rattle.file_records.specs.Records.{bodyOf, twoBytes, whole, takeRecord, takenAnswer}
+use lib.Pow.{areBytes}
+use Rattle.file_records.proofs.Records.{word-bytes, bytes-drop, three-again}
+use Rattle.file_records.proofs.Taking.{stands, value-taken}
 use Rattle.sheetfile.specs.Sheets.{hungKind, gateRecord, gateRecords, planSheet, sheetOf}
-use Rattle.sheetfile.specs.Readings.{mayStand, Reading, refused, read, atEnd, byteIn, withByte, readGates, readCount, readRecords, ifPlan, unlessFault, readSheet}
-use Rattle.sheetfile.proofs.Marking.{hanging, comes-first, kind-again}
-use Rattle.sheetfile.proofs.Steps.{Stood, step-broken, step-end, step-early, GateStep, gate-step, gate-front, head-step, head-at, head-broken}
+use Rattle.sheetfile.specs.Readings.{planHeadDue, gateDue, SheetReading, sheetRefused, sheetSays, atSheetEnd, byteIn, withByte, readGates, readCount, readRecords, ifPlan, unlessFault, readSheet}
+use Rattle.sheetfile.proofs.Marking.{hanging, comes-first, body-hung, body-plan, kind-again}
+use Rattle.sheetfile.proofs.Steps.{GateStood, step-broken, step-end, step-early, GateStep, gate-step, gate-front, head-step, head-at, head-broken}
 
 -- ---- what is written is read again
 
 -- a gated reach's record stands at the front of its bytes
-gate-taken : (i x : ℕ) (rest : List ℕ) → takeRecord (mayStand Inside) (gateRecord i x ++ rest) ≡ whole (hungKind x) (twoBytes i) rest
-unfolding bodyOf
-gate-taken i zero rest = rw (le-leb 2 (suc (suc (length rest))) (omega arith))
-gate-taken i (suc x) rest = rw (le-leb 2 (suc (suc (length rest))) (omega arith))
+gate-taken : (i x : ℕ) (rest : List ℕ) → takeRecord gateDue (gateRecord i x ++ rest) ≡ whole (hungKind x) (twoBytes i) rest
+gate-taken i zero rest = value-taken gateDue 17 i rest refl (body-hung 17 (inl refl))
+gate-taken i (suc x) rest = value-taken gateDue 18 i rest refl (body-hung 18 (inr refl))
 
 hung-no-end : (x : ℕ) → hungKind x ≡ 9 → ⊥
 hung-no-end zero e = omega arith
@@ -46,7 +45,7 @@ byte-again : (x : ℕ) → leb x 1 ≡ true → byteIn (hungKind x) ≡ x
 byte-again zero h = refl
 byte-again (suc x) h = let l = leb-true (suc x) 1 h in omega arith
 
-pub read-gates : (gs s : List ℕ) → length s ≡ length gs → every (λ x. leb x 1) s ≡ true → readGates gs (gateRecords gs s ++ (9 ∷ [])) ≡ read s
+pub read-gates : (gs s : List ℕ) → length s ≡ length gs → every (λ x. leb x 1) s ≡ true → readGates gs (gateRecords gs s ++ (9 ∷ [])) ≡ sheetSays s
 unfolding readGates bodyOf
 read-gates [] [] e h = refl
 read-gates [] (x ∷ s) e h = absurd (omega arith)
@@ -56,13 +55,9 @@ read-gates (i ∷ gs) (x ∷ s) e h =
     gate-step (gateRecord i x ++ rest) (hungKind x) (omega arith) (gate-taken i x rest) (hung-no-end x) .next i gs
     ∙ rw (word-bytes i, eq-eqb i i refl, byte-again x (and-elim-left (leb x 1) _ h), read-gates gs s (omega arith) (and-elim-right (leb x 1) _ h))
 
-head-taken : (n : ℕ) (rest : List ℕ) → takeRecord (mayStand Head) (16 ∷ (twoBytes n ++ rest)) ≡ whole 16 (twoBytes n) rest
-unfolding bodyOf
-head-taken n rest = rw (le-leb 2 (suc (suc (length rest))) (omega arith))
-
-pub read-records : (gs s : List ℕ) → length s ≡ length gs → every (λ x. leb x 1) s ≡ true → readRecords gs (planSheet gs s) ≡ read s
+pub read-records : (gs s : List ℕ) → length s ≡ length gs → every (λ x. leb x 1) s ≡ true → readRecords gs (planSheet gs s) ≡ sheetSays s
 read-records gs s e h =
-    head-step gs (planSheet gs s) 16 (omega arith) (head-taken (length gs) (gateRecords gs s ++ (9 ∷ []))) .next
+    head-step gs (planSheet gs s) 16 (omega arith) (value-taken planHeadDue 16 (length gs) (gateRecords gs s ++ (9 ∷ [])) refl body-plan) .next
     ∙ rw (word-bytes (length gs), eq-eqb (length gs) (length gs) refl) (read-gates gs s e h)
 
 -- what a plan has: a byte for each gated reach, each 0 or 1
@@ -74,47 +69,36 @@ unfolding isSetting
 plan-bits N s p = and-elim-right (eqb (length s) (gateCount N)) _ (plan-setting N s p)
 
 -- The sheet of a plan of an accepted network is read as that plan.
-pub read-write : (N : Network) (s : List ℕ) → Accepted N → isPlan N s ≡ true → readSheet N (sheetOf N s) ≡ read s
+pub read-write : (N : Network) (s : List ℕ) → Accepted N → isPlan N s ≡ true → readSheet N (sheetOf N s) ≡ sheetSays s
 unfolding readSheet
 read-write N s ok p = rw (ok, read-records (gates N) s (plan-long N s p) (plan-bits N s p), p)
 
 -- ---- what is read was written so
 
-no-setting {ℓ} : {A : Type ℓ} (r : Refusal) (s : List ℕ) → refused r ≡ read s → A
+no-setting {ℓ} : {A : Type ℓ} (r : Refusal) (s : List ℕ) → sheetRefused r ≡ sheetSays s → A
 no-setting r s e = absurd (true≢false (cc))
 
-read-inj : (s t : List ℕ) → read s ≡ read t → t ≡ s
+read-inj : (s t : List ℕ) → sheetSays s ≡ sheetSays t → t ≡ s
 read-inj s t e = cc
 
-end-is : (f s : List ℕ) → atEnd f ≡ read s → (f ≡ []) × (s ≡ [])
+end-is : (f s : List ℕ) → atSheetEnd f ≡ sheetSays s → (f ≡ []) × (s ≡ [])
 end-is [] s e = (refl, read-inj [] s e)
 end-is (x ∷ f) s e = no-setting TrailingBytes s e
 
-with-byte-is : (x : ℕ) (y : Reading) (s : List ℕ) → withByte x y ≡ read s → (t : List ℕ) × (y ≡ read t) × (s ≡ x ∷ t)
-with-byte-is x (refused r) s h = no-setting r s h
-with-byte-is x (read t) s h = (t, refl, read-inj (x ∷ t) s h)
-
--- three bytes are those of the gated reach that they are read as
-gate-again :
-    (f : List ℕ) (k : ℕ) (rest : List ℕ) → areBytes f ≡ true → 3 ≤ length f → f ≡ k ∷ drop 1 f → hungKind (byteIn k) ≡ k → drop 3 f ≡ rest
-    → f ≡ gateRecord (wordOf (take 2 (drop 1 f))) (byteIn k) ++ rest
-gate-again [] k rest b l s h e = absurd (omega arith)
-gate-again (x ∷ []) k rest b l s h e = absurd (omega arith)
-gate-again (x ∷ x1 ∷ []) k rest b l s h e = absurd (omega arith)
-gate-again (x ∷ x1 ∷ x2 ∷ f) k rest b l s h e =
-    let p : x1 < 256 = byte-at (x ∷ x1 ∷ x2 ∷ f) 1 b (omega arith) in
-    cc (h, low-byte x1 x2 p, high-byte x1 x2 p)
+with-byte-is : (x : ℕ) (y : SheetReading) (s : List ℕ) → withByte x y ≡ sheetSays s → (t : List ℕ) × (y ≡ sheetSays t) × (s ≡ x ∷ t)
+with-byte-is x (sheetRefused r) s h = no-setting r s h
+with-byte-is x (sheetSays t) s h = (t, refl, read-inj (x ∷ t) s h)
 
 -- the end, which ends the sheet; a gated reach is left to h
 unread-end :
-    (gs f s : List ℕ) → readGates gs f ≡ read s → ((k : ℕ) → Stood f k → (k ≡ 9 → ⊥) → f ≡ gateRecords gs s ++ (9 ∷ [])) → f ≡ gateRecords gs s ++ (9 ∷ [])
-unread-end gs f s e h = go (takenAnswer (takeRecord (mayStand Inside) f)) refl
+    (gs f s : List ℕ) → readGates gs f ≡ sheetSays s → ((k : ℕ) → GateStood f k → (k ≡ 9 → ⊥) → f ≡ gateRecords gs s ++ (9 ∷ [])) → f ≡ gateRecords gs s ++ (9 ∷ [])
+unread-end gs f s e h = go (takenAnswer (takeRecord gateDue f)) refl
   where
-    ended : (gs : List ℕ) → readGates gs f ≡ read s → Stood f 9 → f ≡ gateRecords gs s ++ (9 ∷ [])
-    ended [] e w = stands (mayStand Inside) f 9 w .starts ∙ ap (λ l. 9 ∷ l) (end-is (drop 1 f) s (sym (step-end f w) ∙ e) .0)
+    ended : (gs : List ℕ) → readGates gs f ≡ sheetSays s → GateStood f 9 → f ≡ gateRecords gs s ++ (9 ∷ [])
+    ended [] e w = stands gateDue f 9 w .starts ∙ ap (λ l. 9 ∷ l) (end-is (drop 1 f) s (sym (step-end f w) ∙ e) .0)
     ended (i ∷ gs) e w = no-setting BadSetting s (sym (step-early f w i gs) ∙ e)
 
-    go : (a : Taken) → takenAnswer (takeRecord (mayStand Inside) f) ≡ a → f ≡ gateRecords gs s ++ (9 ∷ [])
+    go : (a : Taken) → takenAnswer (takeRecord gateDue f) ≡ a → f ≡ gateRecords gs s ++ (9 ∷ [])
     go (Broken r) w = no-setting r s (sym (step-broken f gs r w) ∙ e)
     go (Whole k) w = test (eqb k 9) refl
       where
@@ -124,8 +108,8 @@ unread-end gs f s e h = go (takenAnswer (takeRecord (mayStand Inside) f)) refl
 
 -- a gated reach, and what is known of the bytes after it
 unread-gate :
-    (i : ℕ) (gs f s : List ℕ) (k : ℕ) → areBytes f ≡ true → Stood f k → (k ≡ 9 → ⊥) → readGates (i ∷ gs) f ≡ read s
-    → ((t : List ℕ) → readGates gs (drop 3 f) ≡ read t → drop 3 f ≡ gateRecords gs t ++ (9 ∷ []))
+    (i : ℕ) (gs f s : List ℕ) (k : ℕ) → areBytes f ≡ true → GateStood f k → (k ≡ 9 → ⊥) → readGates (i ∷ gs) f ≡ sheetSays s
+    → ((t : List ℕ) → readGates gs (drop 3 f) ≡ sheetSays t → drop 3 f ≡ gateRecords gs t ++ (9 ∷ []))
     → f ≡ gateRecords (i ∷ gs) s ++ (9 ∷ [])
 unread-gate i gs f s k b w q e rec = go (eqb n i) refl
   where
@@ -135,52 +119,42 @@ unread-gate i gs f s k b w q e rec = go (eqb n i) refl
     st : GateStep f k
     st = gate-front f k w q
 
-    goes : cond (eqb n i) (withByte (byteIn k) (readGates gs (drop 3 f))) (refused BadSetting) ≡ read s
+    goes : cond (eqb n i) (withByte (byteIn k) (readGates gs (drop 3 f))) (sheetRefused BadSetting) ≡ sheetSays s
     goes = sym (st .next i gs) ∙ e
 
     go : (t : Bool) → eqb n i ≡ t → f ≡ gateRecords (i ∷ gs) s ++ (9 ∷ [])
     go true g =
         let x = with-byte-is (byteIn k) (readGates gs (drop 3 f)) s (rw g at goes) in
-        let v = stands (mayStand Inside) f k w in
-        gate-again f k (gateRecords gs (x .0) ++ (9 ∷ [])) b (st .fits) (v .starts) (kind-again k (hanging k q (v .comes))) (rec (x .0) (x .1))
+        let v = stands gateDue f k w in
+        three-again k f (gateRecords gs (x .0) ++ (9 ∷ [])) b (st .fits) (v .starts) (rec (x .0) (x .1))
+        ∙ ap (λ h. h ∷ (twoBytes n ++ (gateRecords gs (x .0) ++ (9 ∷ [])))) (sym (kind-again k (hanging k q (v .comes))))
         ∙ ap (λ j. gateRecord j (byteIn k) ++ (gateRecords gs (x .0) ++ (9 ∷ []))) (eqb-true n i g)
         ∙ ap (λ u. gateRecords (i ∷ gs) u ++ (9 ∷ [])) (sym (x .2))
     go false g = no-setting BadSetting s (rw g at goes)
 
 -- the records and the end are those of the setting that they are read as
-unread : (gs f s : List ℕ) → areBytes f ≡ true → readGates gs f ≡ read s → f ≡ gateRecords gs s ++ (9 ∷ [])
+unread : (gs f s : List ℕ) → areBytes f ≡ true → readGates gs f ≡ sheetSays s → f ≡ gateRecords gs s ++ (9 ∷ [])
 unread [] f s b e = unread-end [] f s e (λ k w q. no-setting BadSetting s (sym (gate-front f k w q .over) ∙ e))
 unread (i ∷ gs) f s b e =
     unread-end (i ∷ gs) f s e (λ k w q. unread-gate i gs f s k b w q e (λ t h. unread gs (drop 3 f) t (bytes-drop 3 f b) h))
 
--- three bytes are those of the head that they are read as
-head-again :
-    (f rest : List ℕ) → areBytes f ≡ true → 3 ≤ length f → f ≡ 16 ∷ drop 1 f → drop 3 f ≡ rest
-    → f ≡ 16 ∷ (twoBytes (wordOf (take 2 (drop 1 f))) ++ rest)
-head-again [] rest b l s e = absurd (omega arith)
-head-again (x ∷ []) rest b l s e = absurd (omega arith)
-head-again (x ∷ x1 ∷ []) rest b l s e = absurd (omega arith)
-head-again (x ∷ x1 ∷ x2 ∷ f) rest b l s e =
-    let p : x1 < 256 = byte-at (x ∷ x1 ∷ x2 ∷ f) 1 b (omega arith) in
-    cc (low-byte x1 x2 p, high-byte x1 x2 p)
-
-pub write-records : (gs f s : List ℕ) → areBytes f ≡ true → readRecords gs f ≡ read s → f ≡ planSheet gs s
-write-records gs f s b e = go (takenAnswer (takeRecord (mayStand Head) f)) refl
+pub write-records : (gs f s : List ℕ) → areBytes f ≡ true → readRecords gs f ≡ sheetSays s → f ≡ planSheet gs s
+write-records gs f s b e = go (takenAnswer (takeRecord planHeadDue f)) refl
   where
     n : ℕ
     n = wordOf (take 2 (drop 1 f))
 
     value :
-        (k : ℕ) → takenAnswer (takeRecord (mayStand Head) f) ≡ Whole k → (x : Bool) → eqb n (length gs) ≡ x → readCount gs n (drop 3 f) ≡ read s
+        (k : ℕ) → takenAnswer (takeRecord planHeadDue f) ≡ Whole k → (x : Bool) → eqb n (length gs) ≡ x → readCount gs n (drop 3 f) ≡ sheetSays s
         → f ≡ planSheet gs s
     value k w true g h =
-        let v = stands (mayStand Head) f k w in
+        let v = stands planHeadDue f k w in
         let first : f ≡ 16 ∷ drop 1 f = v .starts ∙ ap (λ x. x ∷ drop 1 f) (comes-first k (v .comes)) in
-        head-again f (gateRecords gs s ++ (9 ∷ [])) b (head-at gs f k w .fits) first (unread gs (drop 3 f) s (bytes-drop 3 f b) (rw g at h))
+        three-again 16 f (gateRecords gs s ++ (9 ∷ [])) b (head-at gs f k w .fits) first (unread gs (drop 3 f) s (bytes-drop 3 f b) (rw g at h))
         ∙ ap (λ m. 16 ∷ (twoBytes m ++ (gateRecords gs s ++ (9 ∷ [])))) (eqb-true n (length gs) g)
     value k w false g h = no-setting BadSetting s (rw g at h)
 
-    go : (a : Taken) → takenAnswer (takeRecord (mayStand Head) f) ≡ a → f ≡ planSheet gs s
+    go : (a : Taken) → takenAnswer (takeRecord planHeadDue f) ≡ a → f ≡ planSheet gs s
     go (Broken r) w = no-setting r s (sym (head-broken gs f r w) ∙ e)
     go (Whole k) w = value k w (eqb n (length gs)) refl (sym (head-at gs f k w .next) ∙ e)
 
@@ -188,34 +162,34 @@ write-records gs f s b e = go (takenAnswer (takeRecord (mayStand Head) f)) refl
 pub record WasRead (N : Network) (f s : List ℕ) : Type 0 where
   pub accepted : Accepted N
   pub is-plan : isPlan N s ≡ true
-  pub records : readRecords (gates N) f ≡ read s
+  pub records : readRecords (gates N) f ≡ sheetSays s
 
-if-plan-is : (N : Network) (x : Reading) (s : List ℕ) → ifPlan N x ≡ read s → (isPlan N s ≡ true) × (x ≡ read s)
-if-plan-is N (refused r) s h = no-setting r s h
-if-plan-is N (read t) s h = go (isPlan N t) refl h
+if-plan-is : (N : Network) (x : SheetReading) (s : List ℕ) → ifPlan N x ≡ sheetSays s → (isPlan N s ≡ true) × (x ≡ sheetSays s)
+if-plan-is N (sheetRefused r) s h = no-setting r s h
+if-plan-is N (sheetSays t) s h = go (isPlan N t) refl h
   where
-    go : (b : Bool) → isPlan N t ≡ b → cond b (read t) (refused BadSetting) ≡ read s → (isPlan N s ≡ true) × (read t ≡ read s)
+    go : (b : Bool) → isPlan N t ≡ b → cond b (sheetSays t) (sheetRefused BadSetting) ≡ sheetSays s → (isPlan N s ≡ true) × (sheetSays t ≡ sheetSays s)
     go true p e = (rw (read-inj t s e) p, e)
     go false p e = no-setting BadSetting s e
 
-pub was-read : (N : Network) (f s : List ℕ) → readSheet N f ≡ read s → WasRead N f s
+pub was-read : (N : Network) (f s : List ℕ) → readSheet N f ≡ sheetSays s → WasRead N f s
 unfolding readSheet
 was-read N f s e = go (tableFault N) refl e
   where
-    go : (o : Option Refusal) → tableFault N ≡ o → unlessFault o (ifPlan N (readRecords (gates N) f)) ≡ read s → WasRead N f s
+    go : (o : Option Refusal) → tableFault N ≡ o → unlessFault o (ifPlan N (readRecords (gates N) f)) ≡ sheetSays s → WasRead N f s
     go (some r) t h = no-setting r s h
     go none t h = let x = if-plan-is N (readRecords (gates N) f) s h in record { accepted = t; is-plan = x .0; records = x .1 }
 
 -- A sheet that is read as a setting is the one that is written for it.
-pub write-read : (N : Network) (f s : List ℕ) → areBytes f ≡ true → readSheet N f ≡ read s → f ≡ sheetOf N s
+pub write-read : (N : Network) (f s : List ℕ) → areBytes f ≡ true → readSheet N f ≡ sheetSays s → f ≡ sheetOf N s
 write-read N f s b e = write-records (gates N) f s b (was-read N f s e .records)
 
 -- Two sheets that are read as one setting are the same bytes.
-pub same-sheet : (N : Network) (f g s : List ℕ) → areBytes f ≡ true → areBytes g ≡ true → readSheet N f ≡ read s → readSheet N g ≡ read s → f ≡ g
+pub same-sheet : (N : Network) (f g s : List ℕ) → areBytes f ≡ true → areBytes g ≡ true → readSheet N f ≡ sheetSays s → readSheet N g ≡ sheetSays s → f ≡ g
 same-sheet N f g s p q d e = write-read N f s p d ∙ sym (write-read N g s q e)
 
 -- What the reader accepts is a plan, of an accepted network.
-pub read-is-plan : (N : Network) (f s : List ℕ) → readSheet N f ≡ read s → isPlan N s ≡ true
+pub read-is-plan : (N : Network) (f s : List ℕ) → readSheet N f ≡ sheetSays s → isPlan N s ≡ true
 read-is-plan N f s e = was-read N f s e .is-plan
 
 -- the length of a plan sheet

@@ -1,19 +1,17 @@
--- Bytes that are stored one after the other: a run of bytes, a gated reach's record, the records of a setting.
+-- Bytes that are stored one after the other: a gated reach's record, the records of a setting.
 -- Assumes nothing.
 use Prim.Native.Nat.{ℕ, zero, suc, _+_, _*_, _-_, _≤_, _<_}
-use native.Mathlib.Nat.{zero-add}
-use native.Mathlib.Numerals.{add-one}
 use native.Mathlib.Omega.{arith}
 use mathlib.Core.Path.{_≡_, refl, ap, _∙_}
-use mathlib.Core.List.{List, [], _∷_, _++_, append-nil, append-assoc}
+use mathlib.Core.List.{List, [], _∷_, _++_}
 use mathlib.Core.Logic.{⊎-elim}
-use lib.ListN.{length, getD, take, drop, set, length-set, length-drop, drop-of-length-le}
-use lib.Seq.{sets, sets-eq, take-all, drop-drop, drop-cons}
+use lib.ListN.{length, getD, drop, set, drop-of-length-le}
+use lib.Seq.{sets, drop-cons}
 use lib.Dec.{ltb}
 use borrow.Author.Tests.{ltb-true, ltb-false}
 use Rattle.lists.proofs.Bools.{decide}
-use Rattle.netfile.specs.Records.{twoBytes}
-use Rattle.netfile.proofs.Writing.{sets-after, sets-long}
+use Rattle.file_records.specs.Records.{twoBytes}
+use Rattle.lists.proofs.Lists.{sets-after, sets-long}
 use Rattle.sheetfile.specs.Sheets.{hungKind, gateRecord, gateRecords}
 use Rattle.sheetfile.specs.Rows.{gatesRow, due, NextGate, Records}
 
@@ -27,28 +25,6 @@ put-record l l₁ at k i x e p =
     p
     ∙ ap (λ y. sets (set l at y) (at + 1) (twoBytes i)) e
     ∙ sets-after l at (at + 1) (hungKind x ∷ []) (twoBytes i) (omega arith)
-
--- ---- a run of bytes, of which the first i are stored
-
-pub record Putting (bytes out₀ : List ℕ) (at : ℕ) (out : List ℕ) (i : ℕ) : Type 0 where
-  pub below : i ≤ length bytes
-  pub left : sets out (at + i) (drop i bytes) ≡ sets out₀ at bytes
-  pub long : length out ≡ length out₀
-
-module _ (bytes out₀ : List ℕ) (at : ℕ) where
-  pub putting-none : Putting bytes out₀ at out₀ 0
-  putting-none =
-      let start : at + 0 ≡ at = omega arith in
-      record { below = omega arith; left = rw start; long = refl }
-
-  module _ (out : List ℕ) (i : ℕ) (p : Putting bytes out₀ at out i) where
-    pub putting-more : i < length bytes → Putting bytes out₀ at (set out (at + i) (getD bytes i 0)) (i + 1)
-    putting-more l =
-        let next : at + (i + 1) ≡ suc (at + i) = omega arith in
-        record { below = omega arith; left = rw (next, add-one) (rw (drop-cons bytes i 0 l) at (p .left)); long = length-set out (at + i) (getD bytes i 0) ∙ p .long }
-
-    pub putting-all : length bytes ≤ i → out ≡ sets out₀ at bytes
-    putting-all l = rw (drop-of-length-le bytes l) at (p .left)
 
 -- ---- the records of a setting, of which the first k are stored; i is past the reach of the last
 
@@ -92,22 +68,3 @@ module _ (ks s out₀ out : List ℕ) (i k : ℕ) (p : Recording ks s out₀ out
 
   pub recording-all : length s ≤ k → set out (3 * k) 9 ≡ sets out₀ 0 (gateRecords (gatesRow 0 ks) s ++ (9 ∷ []))
   recording-all l = rw (drop-of-length-le s l, no-bytes (due ks i)) at (p .left)
-
--- ---- a part of a buffer, from place n on, that was lent and is back
-
-pub part-back :
-    (n : ℕ) (l part xs : List ℕ) → n + length xs ≤ length l → part ≡ sets (take (length l - n) (drop n l)) 0 xs
-    → take n l ++ (part ++ drop (length l - n) (drop n l)) ≡ sets l n xs
-part-back n l part xs h e =
-    let beyond : length (drop n l) ≤ length l - n = omega (arith, length-drop n l) in
-    rw (
-      e,
-      take-all (length l - n) (drop n l) (omega (arith, length-drop n l)),
-      drop-of-length-le (drop n l) beyond,
-      append-nil,
-      sets-eq xs (drop n l) 0 (omega (arith, length-drop n l)),
-      sets-eq xs l n h,
-      zero-add (length xs),
-      drop-drop (length xs) n l,
-      append-assoc (take n l) xs (drop (n + length xs) l),
-    )

@@ -36,10 +36,14 @@ pub record Fitting (t : List Reach) (s : List ℕ) : Type 0 where
   pub few : length t ≤ maxReaches
   pub full : length s ≡ length (gatesFrom 0 t)
 
+-- The plan sheet of a table's setting.
+abbrev pub tableSheet : List Reach → List ℕ → List ℕ
+tableSheet t s = planSheet (gatesFrom 0 t) s
+
 -- A plan buffer with room for a byte for each gated reach, and the sheet of its first bytes.
 pub record Roomy (t : List Reach) (plan : List ℕ) : Type 0 where
   pub few : length t ≤ maxReaches
   pub room : length (gatesFrom 0 t) ≤ length plan
 
 abbrev pub firstBytesSheet : List Reach → List ℕ → List ℕ
-firstBytesSheet t plan = planSheet (gatesFrom 0 t) (take (length (gatesFrom 0 t)) plan)
+firstBytesSheet t plan = tableSheet t (take (length (gatesFrom 0 t)) plan)

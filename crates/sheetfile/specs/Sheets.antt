@@ -6,8 +6,7 @@ use lib.ListN.{length}
 use Rattle.network.specs.Networks.{Network}
 use Rattle.network.specs.Settings.{gates}
 use Rattle.network.specs.Replies.{Outcome, plan, shutIn, lone, refused, firstAnswer}
-use Rattle.netfile.specs.Records.{twoBytes}
-use Rattle.netfile.specs.Files.{endKind}
+use Rattle.file_records.specs.Records.{twoBytes, endKind}
 
 -- The kind bytes: 16 "plan head"; 17, 18 "as drawn, turned"; 20 "shut in"; 21 "lone". The end is that of a network file, 9.
 abbrev pub planKind : ℕ
@@ -40,9 +39,13 @@ gateRecords [] s = []
 gateRecords (i ∷ gs) [] = []
 gateRecords (i ∷ gs) (x ∷ s) = gateRecord i x ++ gateRecords gs s
 
+-- The records of a plan sheet and the end, which come after the head.
+abbrev pub sheetRecords : List ℕ → List ℕ → List ℕ
+sheetRecords gs s = gateRecords gs s ++ (endKind ∷ [])
+
 -- "A plan sheet is kind 16, one record for each gated reach in order, an end"; "plan head: number of gated reaches".
 abbrev pub planSheet : List ℕ → List ℕ → List ℕ
-planSheet gs s = (planKind ∷ twoBytes (length gs)) ++ (gateRecords gs s ++ (endKind ∷ []))
+planSheet gs s = (planKind ∷ twoBytes (length gs)) ++ sheetRecords gs s
 
 abbrev pub sheetOf : Network → List ℕ → List ℕ
 sheetOf N s = planSheet (gates N) s

@@ -15,21 +15,19 @@ use denote.Builtin.{usize}
 use denote.Steps.{only, nothing, owned}
 use denote.Struct.Laws as LL
 use denote.Enum.Laws as EL
-use Rattle.lent.proofs.Relays.{refl, ℕ, List, [], _∷_, URA, Val, vint, SProp, ent, id⊢, Lft, Share, ftrue, flft, Memory, Routine, Heap, Tables, WpFn, Atoms, fmOf, Fun, factI, givenOf, tables, tablesOf}
-use Rattle.lent.proofs.Relays.{Given, ‵, _⊛_, _$_, _∵_, !, qed, by, move, join, sub, look-in, stop, fld, from, load, and-then, no-more, assigns, land, returns, enter, allots, takes-in, within, copies, fills, lends, frees-all, u8, owns, RefT, now, slice-vals, ShrSlice, MutSlice, Room, shr-slice-tells, mut-slice-tells, length, named}
-use Rattle.lent.proofs.Relays.{Bound, Contract, Triple, entered, cited, Reach, Promise, meets, ending, calls-known, Unpacks, unpacks-cited, val, TableRoom}
+use Rattle.lent.proofs.Relays.{refl, ℕ, List, [], _∷_, URA, Val, vint, SProp, ent, id⊢, Lft, Share, ftrue, flft, Memory, Routine, Heap, Tables, WpFn, Atoms, fmOf, Fun, factI, givenOf, tables, tablesOf, Given, ‵, _⊛_, _$_, _∵_, !, qed, by, move, join, sub, look-in, stop, fld, from, load, and-then, no-more, assigns, land, returns, enter, allots, takes-in, within, copies, fills, lends, frees-all, u8, owns, RefT, now, slice-vals, ShrSlice, MutSlice, Room, shr-slice-tells, mut-slice-tells, length, named, Bound, Contract, Triple, entered, cited, Reach, Promise, meets, ending, calls-known, Unpacks, unpacks-cited, val, TableRoom}
 use Rattle.lent.proofs.Locals.{room, full, locals, holding, copied}
 use Rattle.lent.proofs.Packed as P
 use Rattle.lent.proofs.Packed.Laws as P′
 use Rattle.lent.proofs.Records.{rows-made}
 use Rattle.lent.proofs.unpack as unpack
 use Rattle.network.proofs.Reach as R
-use Rattle.netfile.proofs.ReadAnswer as S
-use Rattle.netfile.proofs.ReadAnswer.Laws as S′
-use Rattle.filecalls.specs.declared.Found.{Found}
+use Rattle.netfile_format.proofs.ReadAnswer as S
+use Rattle.netfile_format.proofs.ReadAnswer.Laws as S′
+use Rattle.filecalls.specs.declared.FileRead.{FileRead}
 use Rattle.filecalls.specs.Reads.{ReadTable, ReadPacked}
-use Rattle.filecalls.proofs.Found as F
-use Rattle.filecalls.proofs.Found.Laws as F′
+use Rattle.filecalls.proofs.FileRead as F
+use Rattle.filecalls.proofs.FileRead.Laws as F′
 use Rattle.filecalls.proofs.read_packed as core
 use Rattle.filecalls.proofs.read_packed.Symbol as core-def
 use Rattle.filecalls.proofs.read_packed.Met as core-thm
@@ -57,14 +55,14 @@ module _ {M : Type 1} (𝓤 : URA M) (H : Heap 𝓤) (A : Atoms 𝓤) (mem : Mem
     abbrev y : Bound 𝓤 H A core.signature
     y = ((κ, tt), (q, tt), tt, (file, (length (now t), tt)), (val file ∷ [], (len ∷ [], tt)))
 
-    abbrev rowsIn : Found → Val
+    abbrev rowsIn : FileRead → Val
     rowsIn r = LL.val P.the-type P′.the-laws (r .rows)
 
-    abbrev z : Found → Bound 𝓤 H A unpack.signature
+    abbrev z : FileRead → Bound 𝓤 H A unpack.signature
     z r = ((κt, tt), (qt, tt), tt, (t, (r .rows, tt)), (val t ∷ [], (rowsIn r ∷ [], tt)))
 
     -- the answer and the rows, each at its machine value
-    parts : (r : Found) (u : Val) → Is F.the-row r (u ∷ []) → AreAll (fields F.the-type) (F.the-type .to r) (valss (fields F.the-type) (spells (F.the-type .parts) F′.the-laws) (F.the-type .to r))
+    parts : (r : FileRead) (u : Val) → Is F.the-row r (u ∷ []) → AreAll (fields F.the-type) (F.the-type .to r) (valss (fields F.the-type) (spells (F.the-type .parts) F′.the-laws) (F.the-type .to r))
     parts r u is = LL.owed F.the-type F′.the-laws r (u ∷ []) is
 
     walk : ent 𝓤 (Own .pre (x, tt)) (WpFn 𝓤 H (𝓣 .C) (𝓣 .Λ) code.function (val file ∷ val t ∷ []) (Own .post (x, tt)))

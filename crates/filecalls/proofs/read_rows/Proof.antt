@@ -8,7 +8,7 @@ use native.Mathlib.Omega.{arith}
 use lib.Seq.{length-take-le}
 use borrow.Author.Needs.{needs}
 use Rattle.network.specs.Networks.{maxReaches}
-use Rattle.netfile.proofs.Records.{bytes-make}
+use Rattle.file_records.proofs.Records.{bytes-make}
 use Rattle.lent.specs.Rows.{maxRows}
 use Rattle.lent.proofs.Records.{Sized, sized}
 use Rattle.filecalls.proofs.Reading.{packed-read}

@@ -1,28 +1,18 @@
 -- `filecalls::write_packed` meets its contract: what is promised of the rows, cut to the reaches that they hold, is promised of the table.
 -- Assumes nothing.
-use mathlib.Core.Path.{_≡_, sym, ap, _∙_}
-use mathlib.Core.List.{List, _++_}
-use mathlib.Core.Option.{Option, some}
+use mathlib.Core.List.{List}
 use Prim.Native.Nat.{ℕ}
-use lib.ListN.{length, drop}
-use Rattle.network.specs.declared.Refusal.{Refusal}
-use Rattle.netfile.specs.declared.WriteAnswer.{WriteAnswer}
-use Rattle.netfile.specs.Answers.{writeFault, writeAnswer, faultNumber, bytesWritten, WriteCall}
+use Rattle.file_records.specs.declared.WriteAnswer.{WriteAnswer}
+use Rattle.file_records.proofs.Wrote.{wrote-alike}
+use Rattle.netfile_format.specs.Answers.{NetworkWritten}
 use borrow.Author.Needs.{needs}
 use Rattle.lent.proofs.Packings.{Cut, cut, ByTable, of-rows}
 use Rattle.filecalls.proofs.write_packed.Statement.{statement}
 use Rattle.filecalls.proofs.write_packed.Tie as tie
 
 -- of a refused table the call depends on the refusal only
-write-alike : (out : List ℕ) {r : WriteAnswer} {out′ : List ℕ} → ByTable (λ N. WriteCall N out r out′)
-write-alike out N N′ x e e′ h =
-    let f : writeFault N (length out) ≡ some x = rw e in
-    let f′ : writeFault N′ (length out) ≡ some x = rw e′ in
-    record {
-      answer = h .answer ∙ ap (writeAnswer N) f ∙ sym (ap (writeAnswer N′) f′);
-      number = h .number ∙ ap faultNumber (f ∙ sym f′);
-      bytes = h .bytes ∙ ap (λ (o : Option Refusal). bytesWritten N o ++ drop (length (bytesWritten N o)) out) f ∙ sym (ap (λ (o : Option Refusal). bytesWritten N′ o ++ drop (length (bytesWritten N′ o)) out) f′);
-    }
+write-alike : (out : List ℕ) {r : WriteAnswer} {out′ : List ℕ} → ByTable (λ N. NetworkWritten N out r out′)
+write-alike out N N′ x e e′ = wrote-alike x (rw e) (rw e′)
 
 -- the rows are long enough
 long : (c : tie.After-held) → Cut (c .before .before .args .p) (c .held .result)

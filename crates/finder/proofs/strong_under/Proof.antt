@@ -1,18 +1,19 @@
 -- `finder::strong_under` meets its contract: two searches.
 -- Assumes nothing.
 use mathlib.Core.Path.{refl}
-use Rattle.finder.proofs.Rooms.{room-index, room-ready}
-use Rattle.finder.proofs.Firsts.{under-weakest}
 use borrow.Author.Needs.{needs}
+use Rattle.seeking.proofs.Firsts.{under-basin}
+use Rattle.finder.proofs.Rooms.{room-level, room-index, room-ready}
 use Rattle.finder.proofs.strong_under.Statement.{statement}
 use Rattle.finder.proofs.strong_under.Tie as tie
 
 prepare-requires : tie.Need-prepare-requires
-prepare-requires c κs = let s = (c .before .before .before .before .before .before .before .before .before .before .before .before) in record { ways-room = s .pre .ways-room; indexable = room-index (s .pre) refl refl }
+prepare-requires c κs = let s = c .before .before .before .before .before .before .before .before .before .before .before .before in record { ways-room = s .pre .ways-room; indexable = room-index (s .pre) refl refl }
 
-weakest-requires : tie.Need-weakest-requires
-weakest-requires c κs = let s = (c .before .before .before .before .before .before .before .before .before .before .before .before .before .before .before .before .before .before .before .before .before .before .before .before) in
-    let p = (c .before .before .before .before .before .before .before .before .before .before .before) .prepare in
+shut-in-basin-requires : tie.Need-shut-in-basin-requires
+shut-in-basin-requires c κs =
+    let s = c .before .before .before .before .before .before .before .before .before .before .before .before .before .before .before .before .before .before .before .before .before .before .before .before in
+    let p = c .before .before .before .before .before .before .before .before .before .before .before .prepare in
     room-ready (s .pre) (p .kept .1 .1 .1 .1 .1 .0) (p .ensures .index) refl refl
 
 same-length : tie.Need-same-length
@@ -31,19 +32,7 @@ same-length-5 : tie.Need-same-length-5
 same-length-5 c = search needs
 
 returns : tie.Need-returns
-returns c = let s = (c .before .before .before .before .before .before .before .before .before .before .before .before .before .before .before .before .before .before .before .before .before .before .before .before .before .before .before .before .before) in
-    let p = (c .before .before .before .before .before .before .before .before .before .before .before .before .before .before .before .before) .prepare in
-    under-weakest (s .pre) (s .args .setting .now) (p .ensures .hung) ((c .before .before .before .before) .weakest .ensures)
+returns c = let s = c .before .before .before .before .before .before .before .before .before .before .before .before .before .before .before .before .before .before .before .before .before .before .before .before .before .before .before .before .before in under-basin (room-level (s .pre)) (s .args .setting .now) (c .before .before .before .before .before .before .before .before .before .before .before .before .before .before .before .before .prepare .ensures .oriented) (c .before .before .before .before .shut-in-basin .ensures)
 
 pub strong-under-spec : {M : Type 1} → statement M
-strong-under-spec =
-    tie.close
-    (tie.spec
-    prepare-requires
-    weakest-requires
-    same-length
-    same-length-2
-    same-length-3
-    same-length-4
-    same-length-5
-    returns)
+strong-under-spec = tie.close (tie.spec prepare-requires shut-in-basin-requires same-length same-length-2 same-length-3 same-length-4 same-length-5 returns)

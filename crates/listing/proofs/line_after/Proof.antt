@@ -2,7 +2,7 @@
 -- Assumes nothing.
 use mathlib.Core.Path.{sym, _∙_}
 use borrow.Author.Needs.{needs}
-use Rattle.gates.proofs.Readies.{ready-ways, ready-notes}
+use Rattle.orienting.proofs.Readies.{ready-ways, ready-notes}
 use Rattle.listing.specs.Keeping.{unknown, kept}
 use Rattle.listing.proofs.Steps.{known}
 use Rattle.listing.proofs.line_after.Statement.{statement}

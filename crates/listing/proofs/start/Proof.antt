@@ -5,11 +5,11 @@ use native.Mathlib.Omega.{arith}
 use mathlib.Core.Path.{sym, subst}
 use lib.ListN.{length, take}
 use lib.Seq.{length-take-le}
-use Rattle.netfile.specs.declared.ReadAnswer.{ReadAnswer}
-use Rattle.netfile.specs.declared.ReadAnswer.the-variants.{Read}
-use Rattle.netfile.specs.Answers.{ReadCall}
-use Rattle.netfile.proofs.Records.{bytes-make}
-use Rattle.netfile.proofs.RoundTrips.{rows-long}
+use Rattle.netfile_format.specs.declared.ReadAnswer.{ReadAnswer}
+use Rattle.netfile_format.specs.declared.ReadAnswer.the-variants.{Read}
+use Rattle.netfile_format.specs.Answers.{NetworkRead}
+use Rattle.file_records.proofs.Records.{bytes-make}
+use Rattle.netfile_format.proofs.Calls.{rows-long}
 use Rattle.lines.specs.Listings.{maxBytes}
 use Rattle.listing.proofs.Starts.{first-read, bytes-first, start-refused, start-read}
 use borrow.Author.Needs.{needs}
@@ -21,7 +21,7 @@ abbrev Got : tie.After-read-network-rows → ReadAnswer → Type 0
 Got c r =
     let s = c .before .before .before .before .before .before .before .before .before .before .args in
     let rows = c .read-network-rows .last .1 in
-    ReadCall (take (c .before .before .before .before .before .least .result) (s .file .now)) (s .kinds .now) (s .a .now) (s .b .now) r (rows .0) (rows .1 .0) (rows .1 .1 .0)
+    NetworkRead (take (c .before .before .before .before .before .least .result) (s .file .now)) (s .kinds .now) (s .a .now) (s .b .now) r (rows .0) (rows .1 .0) (rows .1 .1 .0)
 
 -- the counts that it has read
 was-read : (c : tie.After-basins) → Got (c .before .before .before .before .before .before .before .before) (Read (c .basins .given .0 .0) (c .basins .given .0 .1 .0))

@@ -6,12 +6,12 @@ use mathlib.Core.Path.{_≡_, sym, _∙_}
 use mathlib.Core.Bool.{true}
 use borrow.Author.Needs.{needs}
 use Rattle.tables.proofs.Laws.{table-short}
-use Rattle.netfile.specs.declared.ReadAnswer.the-variants.{Read}
-use Rattle.netfile.specs.Records.{areBytes}
-use Rattle.netfile.specs.Files.{readFile}
-use Rattle.netfile.specs.Answers.{readAnswer, roomOf}
-use Rattle.netfile.proofs.Records.{bytes-make}
-use Rattle.netfile.proofs.Calls.{call-refused, call-short, call-fills, call-read}
+use Rattle.netfile_format.specs.declared.ReadAnswer.the-variants.{Read}
+use lib.Pow.{areBytes}
+use Rattle.netfile_format.specs.Files.{readFile}
+use Rattle.netfile_format.specs.Answers.{readAnswer, roomOf}
+use Rattle.file_records.proofs.Records.{bytes-make}
+use Rattle.netfile_format.proofs.Calls.{call-refused, call-short, call-fills, call-read}
 use Rattle.netfile.proofs.read_network_rows.Statement.{statement}
 use Rattle.netfile.proofs.read_network_rows.Tie as tie
 

@@ -8,11 +8,11 @@ use borrow.Author.Needs.{needs}
 use Rattle.network.specs.Networks.{Network, Accepted, tableFault, maxReaches}
 use Rattle.network.proofs.Networks.{accepted}
 use Rattle.tables.specs.Rows.{netOf}
-use Rattle.netfile.specs.Records.{twoBytes}
-use Rattle.netfile.specs.Files.{reachRecords}
+use Rattle.file_records.specs.Records.{twoBytes}
+use Rattle.netfile_format.specs.Files.{reachRecords}
 use Rattle.tables.proofs.Faults.{answer-refused, answer-accepted}
-use Rattle.netfile.proofs.Writing.{sets-long, set-sets-long}
-use Rattle.netfile.proofs.Calls.{write-refused, write-short, write-done}
+use Rattle.lists.proofs.Lists.{sets-long, set-sets-long}
+use Rattle.netfile_format.proofs.Calls.{write-refused, write-short, write-done}
 use Rattle.netfile.proofs.write_network_rows.Statement.{statement}
 use Rattle.netfile.proofs.write_network_rows.Tie as tie
 

@@ -2,7 +2,7 @@
 -- Assumes nothing.
 use Prim.Native.Nat.{ℕ, zero, suc}
 use mathlib.Core.Path.{_≡_, refl}
-use Rattle.finder.specs.Found.{otherThan}
+use Rattle.seeking.specs.Found.{otherThan}
 use borrow.Author.Needs.{needs}
 use Rattle.planner.proofs.other_than.Statement.{statement}
 use Rattle.planner.proofs.other_than.Tie as tie

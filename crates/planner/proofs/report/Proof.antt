@@ -2,16 +2,16 @@
 -- Assumes nothing.
 use Prim.Native.Nat.{ℕ, _<_}
 use mathlib.Core.Path.{_≡_, subst}
-use Rattle.finder.specs.declared.Found.{Found}
-use Rattle.finder.specs.declared.Found.the-variants.{Stuck}
-use Rattle.finder.specs.Found.{reachFound}
+use Rattle.seeking.specs.declared.Found.{Found}
+use Rattle.seeking.specs.declared.Found.the-variants.{Bridge}
+use Rattle.seeking.specs.Found.{reachFound}
 use Rattle.planner.proofs.Reports.{reported-shut, reported-lone, reported-plan}
 use borrow.Author.Needs.{needs}
 use Rattle.planner.proofs.report.Statement.{statement}
 use Rattle.planner.proofs.report.Tie as tie
 
 -- the reach found fits
-reach-below : {f : Found} {r : ℕ} → f ≡ Stuck r → reachFound f < 65536 → r < 65536
+reach-below : {f : Found} {r : ℕ} → f ≡ Bridge r → reachFound f < 65536 → r < 65536
 reach-below e l = subst (λ (g : Found). reachFound g < 65536) e l
 
 enum-told : tie.Need-enum-told

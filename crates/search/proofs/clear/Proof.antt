@@ -2,7 +2,7 @@
 -- Assumes nothing.
 use Prim.Native.Nat.{_-_}
 use native.Mathlib.Omega.{arith}
-use Rattle.search.proofs.Fills.{Filled, filled-none, filled-more, filled-all}
+use Rattle.half_edges.proofs.Fills.{Filled, filled-none, filled-more, filled-all}
 use Rattle.search.proofs.clear.Statement.{statement}
 use Rattle.search.proofs.clear.Tie as tie
 

@@ -6,10 +6,10 @@ use native.Mathlib.Omega.{arith}
 use mathlib.Core.Path.{sym, _∙_}
 use mathlib.Core.Logic.{⊎-elim}
 use lib.ListN.{length, getD}
-use Rattle.search.specs.Ends.{halves, sided, otherOf}
+use Rattle.half_edges.specs.Ends.{halves, sided, otherOf}
 use Rattle.search.specs.Searches.{stay}
-use Rattle.search.proofs.Halves.{end-below}
-use Rattle.search.proofs.Laws.{table-turned}
+use Rattle.half_edges.proofs.Halves.{end-below}
+use Rattle.half_edges.proofs.Laws.{table-turned}
 use Rattle.search.proofs.Sides.{length-sided}
 use Rattle.search.proofs.Visits.{grew-none}
 use Rattle.search.proofs.Scans.{Scanning, Current, current, falls, turn-past, turn-through, renamed, scanned}

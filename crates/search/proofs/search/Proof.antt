@@ -5,9 +5,8 @@ use Prim.Native.Nat.{ℕ, _-_, _<_}
 use mathlib.Core.Path.{_≡_, refl, _∙_}
 use native.Mathlib.Omega.{arith}
 use lib.ListN.{length}
-use Rattle.search.specs.Ends.{arcsOf, sided}
-use Rattle.search.specs.Searches.{Next}
-use Rattle.search.proofs.Halves.{arc-below}
+use Rattle.half_edges.specs.Ends.{arcsOf, sided, Next}
+use Rattle.half_edges.proofs.Halves.{arc-below}
 use Rattle.search.proofs.Fronts.{Searching, begins, scans, ends}
 use Rattle.search.proofs.search.Statement.{statement}
 use Rattle.search.proofs.search.Tie as tie

@@ -4,7 +4,7 @@ use mathlib.Core.Path.{refl, sym, _∙_}
 use Rattle.network.specs.Networks.{Network}
 use Rattle.tables.specs.Rows.{netOf}
 use borrow.Author.Needs.{needs}
-use Rattle.sheet.proofs.Calls.{yes-fits, wrote-refused, wrote-plan}
+use Rattle.sheet_plans.proofs.Calls.{yes-fits, wrote-refused, wrote-plan}
 use Rattle.sheet.proofs.write_sheet_rows.Statement.{statement}
 use Rattle.sheet.proofs.write_sheet_rows.Tie as tie
 

@@ -1,11 +1,9 @@
 -- `sheetcalls::write_sheet` meets its contract: a walk of its MIR, by hand. The table is packed, and `write_sheet_packed` is called on the rows.
 -- Assumes nothing.
 use denote.Enum.Laws as EL
-use Rattle.lent.proofs.Relays.{refl, ℕ, _<_, _^_, List, [], _∷_, URA, w16, Val, vint, SProp, ent, id⊢, Lft, Share, ftrue, flft, Memory, Routine, Heap, Tables, WpFn, Atoms, fmOf, Fun, factI, givenOf, tables, tablesOf}
-use Rattle.lent.proofs.Relays.{Given, ‵, _⊛_, _$_, _∵_, !, qed, by, move, join, look-in, stop, from, land, returns, enter, allots, takes-in, within, copies, fills, lends, frees-all, uint-vals, uint-tells, u8, u16, owns, RefT, now, slice-vals, MutSlice, ShrSlice, Room, shr-slice-tells, mut-slice-tells, length, named, Fml}
-use Rattle.lent.proofs.Relays.{Bound, Contract, Triple, entered, cited, Reach, packedOf, Promise, meets, ending, calls-known, Packs, packs-cited, asked, val, table, table-tells, TableRoom, packs}
-use Rattle.netfile.proofs.WriteAnswer as S
-use Rattle.netfile.proofs.WriteAnswer.Laws as S′
+use Rattle.lent.proofs.Relays.{refl, ℕ, _<_, _^_, List, [], _∷_, URA, w16, Val, vint, SProp, ent, id⊢, Lft, Share, ftrue, flft, Memory, Routine, Heap, Tables, WpFn, Atoms, fmOf, Fun, factI, givenOf, tables, tablesOf, Given, ‵, _⊛_, _$_, _∵_, !, qed, by, move, join, look-in, stop, from, land, returns, enter, allots, takes-in, within, copies, fills, lends, frees-all, uint-vals, uint-tells, u8, u16, owns, RefT, now, slice-vals, MutSlice, ShrSlice, Room, shr-slice-tells, mut-slice-tells, length, named, Fml, Bound, Contract, Triple, entered, cited, Reach, packedOf, Promise, meets, ending, calls-known, Packs, packs-cited, asked, val, table, table-tells, TableRoom, packs}
+use Rattle.file_records.proofs.WriteAnswer as S
+use Rattle.file_records.proofs.WriteAnswer.Laws as S′
 use Rattle.sheetcalls.proofs.write_sheet_packed as core
 use Rattle.sheetcalls.proofs.write_sheet_packed.Symbol as core-def
 use Rattle.sheetcalls.proofs.write_sheet_packed.Met as core-thm

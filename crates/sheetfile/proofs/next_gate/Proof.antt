@@ -3,12 +3,12 @@
 use Prim.Native.Nat.{_-_}
 use native.Mathlib.Omega.{arith}
 use lib.ListN.{length}
-use Rattle.sheetfile.proofs.Gates.{Passed, passed-none, passed-more, passed-to, passed-all}
+use Rattle.sheetfile.proofs.Gates.{GatesPassed, passed-none, passed-more, passed-to, passed-all}
 use Rattle.sheetfile.proofs.next_gate.Statement.{statement}
 use Rattle.sheetfile.proofs.next_gate.Tie as tie
 
 abbrev Inv-loop : tie.InvT-loop
-Inv-loop kinds from i₀ i = Passed kinds from i
+Inv-loop kinds from i₀ i = GatesPassed kinds from i
 
 abbrev μ-loop : tie.MeasureT-loop
 μ-loop kinds from i₀ i = length kinds - i

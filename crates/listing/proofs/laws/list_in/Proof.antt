@@ -4,7 +4,7 @@ use Prim.Native.Nat.{_≤_}
 use mathlib.Core.Path.{sym}
 use lib.ListN.{length}
 use lib.Seq.{length-take-le}
-use Rattle.netfile.proofs.Records.{bytes-make}
+use Rattle.file_records.proofs.Records.{bytes-make}
 use Rattle.lines.proofs.Puts.{put-same}
 use Rattle.listing.proofs.Starts.{started-long, started-listing}
 use borrow.Author.Needs.{needs}

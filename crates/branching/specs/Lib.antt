@@ -1,0 +1,2 @@
+-- What the contracts of the functions that follow a setting and part from it say.
+pub mod Follows

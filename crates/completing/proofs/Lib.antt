@@ -1,0 +1,2 @@
+-- The laws of completing a partial orientation.
+pub mod Goings

@@ -1,0 +1,35 @@
+-- Deciding the gates one after the other, each as drawn where that loses nothing, else turned.
+-- Assumes nothing.
+use Prim.Native.Nat.{ℕ, _≤_, _<_}
+use mathlib.Core.Path.{_≡_}
+use mathlib.Core.Bool.{true, false}
+use mathlib.Core.List.{List}
+use lib.ListN.{length, getD}
+use lib.Dec.{eqb}
+use Rattle.lists.specs.Lists.{keep}
+use Rattle.network.specs.Networks.{Network, basinsOf, Accepted}
+use Rattle.network.specs.Hangings.{ways}
+use Rattle.network.specs.Lone.{crossesAlone, isLone}
+use Rattle.tables.specs.Partial.{bytesOf}
+use Rattle.tables.specs.Rows.{netOf}
+use Rattle.orientations.specs.Least.{LeastPlan}
+use Rattle.orientations.specs.Partials.{Begun}
+
+-- An accepted table, with a kind for each reach, of which the gates below i are decided and the others not.
+pub record Completable (n : ℕ) (ks xs ys ws : List ℕ) (i : ℕ) : Type 0 where
+  pub kinds-full : length ks ≡ length xs
+  pub accepted : Accepted (netOf n ks xs ys)
+  pub bound : i ≤ length xs
+  pub begun : Begun (netOf n ks xs ys) ws i
+
+-- What deciding the gates from i on leaves: the least plan that fits, or the first gate that can get neither way. That one is a bridge,
+-- those before it are none, and it alone crosses the cut of the basins whose byte is 1, not 0.
+pub data Greedy (N : Network) (ws : List ℕ) (i : ℕ) : List ℕ → List ℕ → ℕ → Type 0 where
+  all-oriented : {ws′ seen : List ℕ} {r : ℕ} → r ≡ length (N .reaches) → LeastPlan N ws (bytesOf (N .reaches) ws′) → Greedy N ws i ws′ seen r
+  bridge-at : {ws′ seen : List ℕ} {r : ℕ} → r < length (N .reaches) → isLone N r ≡ true → ((j : ℕ) → i ≤ j → j < r → isLone N j ≡ false)
+      → crossesAlone N (keep (λ b. eqb (getD seen b 0) 1) (basinsOf N)) r ≡ true → ((v : ℕ) → v < N .basins → getD seen v 0 ≤ 1) → Greedy N ws i ws′ seen r
+
+-- What it leaves where no reach is a bridge: the ways of the least plan that fits.
+pub record Completed (N : Network) (ws ws′ : List ℕ) : Type 0 where
+  pub least : LeastPlan N ws (bytesOf (N .reaches) ws′)
+  pub oriented : ws′ ≡ ways (N .reaches) (bytesOf (N .reaches) ws′)

@@ -1,0 +1,2 @@
+-- The laws of deciding one gate.
+pub mod Gates

@@ -1,0 +1,2 @@
+-- What the contracts of the functions that decide one gate say.
+pub mod Gates

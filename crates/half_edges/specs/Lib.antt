@@ -1,0 +1,3 @@
+-- Half-edges and their arcs, and the index of a table's half-edges.
+pub mod Ends
+pub mod Chains

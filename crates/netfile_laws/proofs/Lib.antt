@@ -1,0 +1,2 @@
+-- Writing and reading one after the other.
+pub mod RoundTrips

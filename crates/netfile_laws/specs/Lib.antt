@@ -1,0 +1,2 @@
+-- What the network file's two calls promise of one another.
+pub mod Laws

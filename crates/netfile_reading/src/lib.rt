@@ -1,0 +1,112 @@
+// Network files read: a file is judged to its end, and its reaches go to rows. The functions with a `requires` are for the crate `netfile`, which has
+// checked it.
+use file_records::END;
+use file_records::Taken;
+use file_records::take_record;
+use file_records::word_at;
+use netfile_format::FLAP;
+use netfile_format::GATED;
+use netfile_format::HEAD_DUE;
+use netfile_format::REACH_DUE;
+use netfile_format::ReadAnswer;
+use network::MAX_BASINS;
+use network::MAX_REACHES;
+use network::Refusal;
+ghost use mathlib.Core.Path.{_≡_};
+ghost use Prim.Native.Nat.{_≤_};
+ghost use lib.ListN.{length, drop};
+ghost use Rattle.network.specs.Networks.{maxReaches};
+ghost use Rattle.network.specs.Tables.{kindNumber};
+ghost use Rattle.file_records.specs.Records.{takeRecord, takenAnswer};
+ghost use Rattle.netfile_format.specs.Files.{reachDue, recordKind, readReaches, readFile};
+ghost use Rattle.netfile_format.specs.Answers.{readAnswer, reachesAt, Fills, RowsFilled};
+
+// The record at a position after the head, a reach or the end.
+fn reach_or_end(file: &[u8], at: usize) -> Taken
+    ensures { λ r. ⌜ r ≡ takenAnswer (takeRecord reachDue (drop at (now (file .entry)))) ⌝ }
+{
+    take_record(file, at, &REACH_DUE)
+}
+
+// The reaches and the end, which start after the head.
+fn check_reaches(file: &[u8], basins: u16) -> ReadAnswer
+    requires { ⌜ 3 ≤ length (now file) ⌝ }
+    ensures { λ r. ⌜ r ≡ readAnswer (readReaches basins maxReaches (drop 3 (now (file .entry)))) ⌝ }
+{
+    let mut at: usize = 3;
+    let mut reaches: usize = 0;
+    loop {
+        let kind = match reach_or_end(file, at) {
+            Taken::Broken(r) => return ReadAnswer::Refused(r),
+            Taken::Whole(kind) => kind,
+        };
+        if kind == END {
+            if at + 1 < file.len() {
+                return ReadAnswer::Refused(Refusal::TrailingBytes);
+            }
+            return ReadAnswer::Read { basins, reaches };
+        }
+        if reaches == MAX_REACHES {
+            return ReadAnswer::Refused(Refusal::TooManyReaches);
+        }
+        if basins <= word_at(file, at + 1) {
+            return ReadAnswer::Refused(Refusal::EndOutOfRange);
+        }
+        if basins <= word_at(file, at + 3) {
+            return ReadAnswer::Refused(Refusal::EndOutOfRange);
+        }
+        at += 5;
+        reaches += 1;
+    }
+}
+
+// The counts of a file, which is judged to its end. Refuses 1 to 6, and writes nothing.
+pub fn check_network(file: &[u8]) -> ReadAnswer
+    ensures { λ r. ⌜ r ≡ readAnswer (readFile (now (file .entry))) ⌝ }
+{
+    match take_record(file, 0, &HEAD_DUE) {
+        Taken::Broken(r) => ReadAnswer::Refused(r),
+        Taken::Whole(_) => {
+            let basins = word_at(file, 1);
+            if basins == 0 {
+                return ReadAnswer::Refused(Refusal::BasinCount);
+            }
+            if MAX_BASINS < basins as usize {
+                return ReadAnswer::Refused(Refusal::BasinCount);
+            }
+            check_reaches(file, basins)
+        }
+    }
+}
+
+// The number of a reach's kind, by its kind byte.
+fn kind_number(kind: u8) -> u8
+    ensures { λ r. ⌜ r ≡ kindNumber (recordKind kind) ⌝ }
+{
+    if kind == GATED {
+        return 0;
+    }
+    if kind == FLAP {
+        return 1;
+    }
+    2
+}
+
+// The first n reaches of a file go to the rows.
+pub fn fill(file: &[u8], n: usize, kinds: &mut [u8], a: &mut [u16], b: &mut [u16])
+    requires { ⌜ Fills (now file) n (now kinds) (now a) (now b) ⌝ }
+    ensures { λ _. ⌜
+        RowsFilled (reachesAt n (drop 3 (now (file .entry)))) (now (kinds .entry)) (now (a .entry)) (now (b .entry))
+        (now (kinds .exit)) (now (a .exit)) (now (b .exit))
+        ⌝ }
+{
+    let mut i: usize = 0;
+    let mut at: usize = 3;
+    while i < n {
+        kinds[i] = kind_number(file[at]);
+        a[i] = word_at(file, at + 1);
+        b[i] = word_at(file, at + 3);
+        at += 5;
+        i += 1;
+    }
+}

@@ -1,0 +1,103 @@
+-- `netfile_writing::put_reaches` meets its contract. The loop's invariant: the records of the first i reaches stand behind the head.
+-- The measure is how many reaches are left. Assumes nothing.
+use Prim.Native.Nat.{_+_, _-_, _<_}
+use native.Mathlib.Omega.{arith}
+use lib.ListN.{length}
+use borrow.Author.Needs.{needs}
+use Rattle.network.specs.Tables.{tableOf}
+use Rattle.tables.proofs.Laws.{table-short}
+use Rattle.netfile_format.proofs.Writing.{PuttingReaches, putting-none, putting-more, putting-all}
+use Rattle.netfile_writing.proofs.put_reaches.Statement.{statement}
+use Rattle.netfile_writing.proofs.put_reaches.Tie as tie
+
+abbrev Inv-loop : tie.InvT-loop
+Inv-loop kinds a b out₀ n i₀ at₀ out i at = PuttingReaches (tableOf kinds a b) out₀ out i at
+
+abbrev μ-loop : tie.MeasureT-loop
+μ-loop kinds a b out₀ n i₀ at₀ out i at = n - i
+
+-- in a turn the reach stands in the three rows, and there is room for its record
+in-rows :
+    (c : tie.In-loop Inv-loop μ-loop)
+    → let s = c .before .before .before .before .before .before .before .args in
+    let i = c .before .loop .i in
+    (i < length (s .kinds .now)) × (i < length (s .a .now)) × (i < length (s .b .now))
+in-rows c =
+    let s = c .before .before .before .before .before .before .before .args in
+    let t = table-short (s .kinds .now) (s .a .now) (s .b .now) in
+    (omega arith, omega arith, omega arith)
+
+fits : (c : tie.In-loop Inv-loop μ-loop) → c .before .loop .at + 4 < length (c .before .loop .out)
+fits c = omega (arith, c .before .loop .inv .place, c .before .loop .inv .long)
+
+row-count-requires : tie.Need-row-count-requires Inv-loop μ-loop
+row-count-requires c κs = search needs
+
+loop-holds : tie.Need-loop-holds Inv-loop μ-loop
+loop-holds c =
+    let s = c .before .before .before .before .before .args in
+    putting-none (tableOf (s .kinds .now) (s .a .now) (s .b .now)) (s .out .now)
+
+shared-slice-read-put-reach : tie.Need-shared-slice-read-put-reach Inv-loop μ-loop
+shared-slice-read-put-reach c = omega (arith, in-rows (c .before .before))
+
+mul-put-reach : tie.Need-mul-put-reach Inv-loop μ-loop
+mul-put-reach c = omega (arith, in-rows (c .before .before))
+
+shared-slice-read-put-reach-2 : tie.Need-shared-slice-read-put-reach-2 Inv-loop μ-loop
+shared-slice-read-put-reach-2 c = omega (arith, in-rows (c .before .before .before))
+
+mul-put-reach-2 : tie.Need-mul-put-reach-2 Inv-loop μ-loop
+mul-put-reach-2 c = omega (arith, in-rows (c .before .before .before))
+
+shared-slice-read-put-reach-3 : tie.Need-shared-slice-read-put-reach-3 Inv-loop μ-loop
+shared-slice-read-put-reach-3 c = omega (arith, in-rows (c .before .before .before .before))
+
+put-reach-requires : tie.Need-put-reach-requires Inv-loop μ-loop
+put-reach-requires c κs = fits (c .before .before .before .before)
+
+add-at : tie.Need-add-at Inv-loop μ-loop
+add-at c = omega (arith, fits (c .before .before .before .before .before .before .before))
+
+add-i : tie.Need-add-i Inv-loop μ-loop
+add-i c = omega (arith, fits (c .before .before .before .before .before .before .before))
+
+loop-less : tie.Need-loop-less Inv-loop μ-loop
+loop-less c = omega (arith, c .before .before .before .before .before .before .before .loop-test .taken)
+
+loop-again : tie.Need-loop-again Inv-loop μ-loop
+loop-again c =
+    let s = c .before .before .before .before .before .before .before .before .before .before .before .before .before .before .args in
+    let l = c .before .before .before .before .before .before .before .before .loop in
+    let put = c .before .before .put-reach in
+    putting-more (s .kinds .now) (s .a .now) (s .b .now) (s .out .now) (l .out) (put .last .0) (l .i) (l .at) (l .inv) (omega arith) (put .ensures)
+
+same-length : tie.Need-same-length Inv-loop μ-loop
+same-length c = c .before .loop .inv .long
+
+returns : tie.Need-returns Inv-loop μ-loop
+returns c =
+    let s = c .before .before .before .before .before .before .before .args in
+    let l = c .before .loop in
+    putting-all (tableOf (s .kinds .now) (s .a .now) (s .b .now)) (s .out .now) (l .out) (l .i) (l .at) (l .inv) (omega arith)
+
+pub put-reaches-spec : {M : Type 1} → statement M
+put-reaches-spec =
+    tie.close
+    (tie.spec
+    Inv-loop
+    μ-loop
+    row-count-requires
+    loop-holds
+    shared-slice-read-put-reach
+    mul-put-reach
+    shared-slice-read-put-reach-2
+    mul-put-reach-2
+    shared-slice-read-put-reach-3
+    put-reach-requires
+    add-at
+    add-i
+    loop-less
+    loop-again
+    same-length
+    returns)

@@ -1,0 +1,167 @@
+-- Deciding one gate more: what stays true of the ways, and what is learnt where neither way is left.
+-- Assumes nothing.
+use Prim.Native.Nat.{ℕ, suc, _≤_, _<_}
+use native.Mathlib.Omega.{arith}
+use native.Mathlib.Decide.{ℕ-discrete, decLt}
+use mathlib.Core.Path.{_≡_, sym, ap, subst, subst⁻¹, _∙_}
+use mathlib.Core.Bool.{true, false, not}
+use mathlib.Core.Logic.{_⊎_, ⊎-elim}
+use mathlib.Core.List.{List, []}
+use lib.ListN.{length, getD, set, length-set}
+use lib.Seq.{getD-set-same, getD-set-other, set-getD}
+use lib.Dec.{eqb}
+use Rattle.network.proofs.Marks.{bit-is}
+use mathlib.Mathlib.Data.Bool.Basic.{bool-eq-false}
+use Rattle.lists.specs.Lists.{keep}
+use Rattle.network.specs.Networks.{Network, basinsOf, Accepted}
+use Rattle.network.specs.Settings.{isGated}
+use Rattle.network.specs.Hangings.{way, arcs, reached}
+use Rattle.network.specs.Plans.{strong}
+use Rattle.network.specs.Lone.{reachAt, crossesAlone, isLone}
+use Rattle.network.specs.Marks.{bit}
+use Rattle.lists.proofs.Bools.{decide, clash}
+use Rattle.lists.proofs.Searches.{keep-same}
+use Rattle.network.proofs.Ways.{plain-small}
+use Rattle.network.proofs.Networks.{basin-below}
+use Rattle.network.proofs.Lone.{Alone, alone-rest, alone-same, cut-of, lone-gated, lone-parts}
+use Rattle.network.proofs.Steps.{hang-drawn, hang-turned, stuck-alone, stuck-other, stuck-lone}
+use Rattle.tables.specs.Partial.{bytesOf}
+use Rattle.orientations.specs.Least.{LeastPlan, Decided, Open, Shaped}
+use Rattle.orientations.specs.Partials.{Begun}
+use Rattle.orientations.proofs.Least.{least-drawn, least-turned, least-end}
+
+-- the gates below i are decided, from the ways ws₀ on, of which those from `from` on were not
+pub record Going (N : Network) (ws₀ : List ℕ) (from : ℕ) (ws : List ℕ) (i : ℕ) : Type 0 where
+  pub begun : Begun N ws i
+  pub onward : (s : List ℕ) → LeastPlan N ws s → LeastPlan N ws₀ s
+  pub clear : (j : ℕ) → from ≤ j → j < i → isLone N j ≡ false
+
+pub starts : {N : Network} {ws : List ℕ} {i : ℕ} → Begun N ws i → Going N ws i ws i
+starts b = record { begun = b; onward = λ s m. m; clear = λ j l k. absurd (omega arith) }
+
+module _ (N : Network) (ok : Accepted N) (ws : List ℕ) (i : ℕ) (below : i < length (N .reaches)) (b : Begun N ws i) where
+  room : i < length ws
+  room = omega (arith, b .full)
+
+  -- ---- a reach that is no gate
+
+  plain-decided : isGated ((reachAt N i) .kind) ≡ false → Decided N ws (suc i)
+  plain-decided n j l g = go (ℕ-discrete j i)
+    where
+      go : Dec (j ≡ i) → getD ws j 3 ≤ 1
+      go (yes e) = clash (subst (λ (k : ℕ). isGated ((reachAt N k) .kind) ≡ true) e g) n
+      go (no m) = b .decided j (omega arith) g
+
+  begun-plain : isGated ((reachAt N i) .kind) ≡ false → Begun N ws (suc i)
+  begun-plain n = record { full = b .full; shaped = b .shaped; decided = plain-decided n; undecided = λ j l. b .undecided j (omega arith); connected = b .connected }
+
+  -- ---- a gate
+
+  module _ (g : isGated ((reachAt N i) .kind) ≡ true) where
+    free : getD ws i 3 ≡ 2
+    free = b .undecided i (omega arith) below g
+
+    -- it is usable either way so far
+    either : strong (basinsOf N) (arcs (N .reaches) (set ws i 2)) ≡ true
+    either = subst⁻¹ (λ (v : List ℕ). strong (basinsOf N) (arcs (N .reaches) v) ≡ true) (ap (λ (x : ℕ). set ws i x) (sym free) ∙ set-getD ws i 3) (b .connected)
+
+    pub begun-oriented : (x : ℕ) → x ≤ 1 → strong (basinsOf N) (arcs (N .reaches) (set ws i x)) ≡ true → Begun N (set ws i x) (suc i)
+    begun-oriented x small str = record { full = length-set ws i x ∙ b .full; shaped = shaped; decided = decided; undecided = undecided; connected = str }
+      where
+        shaped : Shaped (N .reaches) (set ws i x)
+        shaped j l n = go (ℕ-discrete j i)
+          where
+            go : Dec (j ≡ i) → getD (set ws i x) j 3 ≡ way ((reachAt N j) .kind) []
+            go (yes e) = clash g (subst (λ (k : ℕ). isGated ((reachAt N k) .kind) ≡ false) e n)
+            go (no m) = getD-set-other ws i j x 3 m ∙ b .shaped j l n
+
+        decided : Decided N (set ws i x) (suc i)
+        decided j l h = go (ℕ-discrete j i)
+          where
+            go : Dec (j ≡ i) → getD (set ws i x) j 3 ≤ 1
+            go (yes e) = rw (e, getD-set-same ws i x 3 room) small
+            go (no m) = rw (getD-set-other ws i j x 3 m) (b .decided j (omega arith) h)
+
+        undecided : Open N (set ws i x) (suc i)
+        undecided j l k h = getD-set-other ws i j x 3 (omega arith) ∙ b .undecided j (omega arith) k h
+
+    -- oriented without loss, it is no bridge
+    not-bridge : (x : ℕ) → x ≤ 1 → strong (basinsOf N) (arcs (N .reaches) (set ws i x)) ≡ true → isLone N i ≡ false
+    not-bridge x small str = bool-eq-false {b = isLone N i} (λ e. lone-parts N i e (set ws i x) (rw (getD-set-same ws i x 3 room) small) str)
+
+    -- the ways of all reaches are 0, 1 or 2
+    all-small : (j : ℕ) → j < length (N .reaches) → getD ws j 3 ≤ 2
+    all-small j l = ⊎-elim gated plain (decide (isGated ((reachAt N j) .kind)))
+      where
+        plain : isGated ((reachAt N j) .kind) ≡ false → getD ws j 3 ≤ 2
+        plain n = rw (b .shaped j l n) (plain-small ((reachAt N j) .kind) n)
+
+        gated : isGated ((reachAt N j) .kind) ≡ true → getD ws j 3 ≤ 2
+        gated y = go (decLt j i)
+          where
+            go : Dec (j < i) → getD ws j 3 ≤ 2
+            go (yes k) = omega (arith, b .decided j k y)
+            go (no k) = omega (arith, b .undecided j (omega arith) l y)
+
+    module _ (ba : reached (arcs (N .reaches) (set ws i 3)) ((reachAt N i) .b) ((reachAt N i) .a) ≡ false) (ab : reached (arcs (N .reaches) (set ws i 3)) ((reachAt N i) .a) ((reachAt N i) .b) ≡ false) where
+      -- the reach alone crosses the side that A leads to
+      alone-on : Alone N (reached (arcs (N .reaches) (set ws i 3)) ((reachAt N i) .a)) i
+      alone-on =
+          alone-same N ok (λ v. not (reached (arcs (N .reaches) (set ws i 3)) ((reachAt N i) .b) v)) (reached (arcs (N .reaches) (set ws i 3)) ((reachAt N i) .a)) i below
+          (stuck-other N ok ws i below (b .full) all-small either ba ab)
+          (alone-rest N (reached (arcs (N .reaches) (set ws i 3)) ((reachAt N i) .b)) i (stuck-alone N ok ws i below (b .full) all-small either ba ab))
+
+      pub bridge-cut : (seen : List ℕ) → ((v : ℕ) → v < N .basins → getD seen v 0 ≡ bit (reached (arcs (N .reaches) (set ws i 3)) ((reachAt N i) .a) v)) → crossesAlone N (keep (λ v. eqb (getD seen v 0) 1) (basinsOf N)) i ≡ true
+      bridge-cut seen noted =
+          subst⁻¹ (λ (S : List ℕ). crossesAlone N S i ≡ true)
+          (keep-same (λ v. eqb (getD seen v 0) 1) (reached (arcs (N .reaches) (set ws i 3)) ((reachAt N i) .a)) (basinsOf N)
+          (λ v m. ap (λ (x : ℕ). eqb x 1) (noted v (basin-below N v m)) ∙ bit-is _))
+          ((cut-of N ok i below (reached (arcs (N .reaches) (set ws i 3)) ((reachAt N i) .a)) alone-on) .alone)
+
+      pub is-bridge : isLone N i ≡ true
+      is-bridge = stuck-lone N ok ws i below (b .full) all-small either ba ab g
+
+-- ---- one step of the loop
+
+module _ (N : Network) (ok : Accepted N) (ws₀ : List ℕ) (from : ℕ) (ws : List ℕ) (i : ℕ) (below : i < length (N .reaches)) (w : Going N ws₀ from ws i) where
+  clear-more : isLone N i ≡ false → (j : ℕ) → from ≤ j → j < suc i → isLone N j ≡ false
+  clear-more n j l k = go (ℕ-discrete j i)
+    where
+      go : Dec (j ≡ i) → isLone N j ≡ false
+      go (yes e) = rw e n
+      go (no m) = w .clear j l (omega arith)
+
+  plain-not-bridge : isGated ((reachAt N i) .kind) ≡ false → isLone N i ≡ false
+  plain-not-bridge n = bool-eq-false {b = isLone N i} (λ e. clash (lone-gated N i e) n)
+
+  pub going-plain : isGated ((reachAt N i) .kind) ≡ false → Going N ws₀ from ws (suc i)
+  going-plain n = record { begun = begun-plain N ok ws i below (w .begun) n; onward = w .onward; clear = clear-more (plain-not-bridge n) }
+
+  module _ (g : isGated ((reachAt N i) .kind) ≡ true) where
+    as-drawn : strong (basinsOf N) (arcs (N .reaches) (set ws i 0)) ≡ reached (arcs (N .reaches) (set ws i 3)) ((reachAt N i) .b) ((reachAt N i) .a)
+    as-drawn = hang-drawn N ok ws i below (w .begun .full) (either N ok ws i below (w .begun) g)
+
+    as-turned : strong (basinsOf N) (arcs (N .reaches) (set ws i 1)) ≡ reached (arcs (N .reaches) (set ws i 3)) ((reachAt N i) .a) ((reachAt N i) .b)
+    as-turned = hang-turned N ok ws i below (w .begun .full) (either N ok ws i below (w .begun) g)
+
+    pub going-drawn : reached (arcs (N .reaches) (set ws i 3)) ((reachAt N i) .b) ((reachAt N i) .a) ≡ true → Going N ws₀ from (set ws i 0) (suc i)
+    going-drawn e =
+        let str = as-drawn ∙ e in
+        record {
+          begun = begun-oriented N ok ws i below (w .begun) g 0 (omega arith) str;
+          onward = λ s m. w .onward s (least-drawn N ws i below (w .begun .full) g (free N ok ws i below (w .begun) g) (w .begun .decided) s m);
+          clear = clear-more (not-bridge N ok ws i below (w .begun) g 0 (omega arith) str);
+        }
+
+    pub going-turned : reached (arcs (N .reaches) (set ws i 3)) ((reachAt N i) .b) ((reachAt N i) .a) ≡ false → reached (arcs (N .reaches) (set ws i 3)) ((reachAt N i) .a) ((reachAt N i) .b) ≡ true → Going N ws₀ from (set ws i 1) (suc i)
+    going-turned n e =
+        let str = as-turned ∙ e in
+        record {
+          begun = begun-oriented N ok ws i below (w .begun) g 1 (omega arith) str;
+          onward = λ s m. w .onward s (least-turned N ws i below (w .begun .full) g (free N ok ws i below (w .begun) g) (as-drawn ∙ n) s m);
+          clear = clear-more (not-bridge N ok ws i below (w .begun) g 1 (omega arith) str);
+        }
+
+-- all gates are decided
+pub going-end : (N : Network) (ws₀ : List ℕ) (from : ℕ) (ws : List ℕ) → Going N ws₀ from ws (length (N .reaches)) → LeastPlan N ws₀ (bytesOf (N .reaches) ws)
+going-end N ws₀ from ws w = w .onward (bytesOf (N .reaches) ws) (least-end N ws (w .begun .full) (w .begun .shaped) (w .begun .decided) (w .begun .connected))

@@ -1,0 +1,221 @@
+-- The next plan of a setting: the last gate at which a plan can part from the setting upwards, and the least plan that does.
+-- Assumes nothing.
+use Prim.Native.Nat.{ℕ, suc, _-_, _≤_, _<_}
+use native.Mathlib.Nat.{not-suc-le-zero}
+use native.Mathlib.Omega.{arith}
+use native.Mathlib.Decide.{ℕ-discrete, decLt}
+use mathlib.Core.Path.{_≡_, refl, sym, ap, _∙_}
+use mathlib.Core.Bool.{true, false}
+use mathlib.Core.Logic.{_⊎_, inl, inr, ⊎-elim}
+use mathlib.Core.Option.{Option, none, some}
+use mathlib.Core.List.{List, []}
+use lib.ListN.{length, getD, set, take, drop, length-set, length-append, length-take, length-drop}
+use lib.Seq.{getD-set-same, getD-set-other, set-getD, ext-getD}
+use lib.Dec.{eqb}
+use borrow.Author.Tests.{eqb-true}
+use Rattle.lists.proofs.Lists.{getD-back, getD-front}
+use mathlib.Mathlib.Data.Bool.Basic.{and-elim-left, and-elim-right, bool-eq-false}
+use Rattle.network.specs.declared.Reach.{Reach}
+use Rattle.network.specs.Networks.{Network, basinsOf}
+use Rattle.network.specs.Settings.{isGated, gateCount, isSetting, before}
+use Rattle.network.specs.Hangings.{way, ways, arcs}
+use Rattle.network.specs.Plans.{strong, isPlan, nextPlan}
+use Rattle.network.specs.Lone.{reachAt}
+use Rattle.lists.proofs.Bools.{decide, clash}
+use Rattle.network.proofs.Ways.{length-ways, plain-way, gate-way, gate-small}
+use Rattle.network.proofs.Order.{before-irrefl, setting-length, plan-setting, next-is-plan, next-is-later, next-unique}
+use Rattle.network.proofs.Lone.{plan-gate-small}
+use Rattle.orientations.specs.Least.{Fits, LeastPlan, Shaped, Alike, NoneFrom}
+use Rattle.tables.specs.Partial.{hungTo}
+use Rattle.orientations.proofs.Least.{ways-order, before-at, before-up, between, fits-strong, fits-set, fits-at, same-plain}
+
+-- ---- ways oriented as a setting has them up to a reach
+
+-- under a setting a gate has the way 0 or 1
+pub gate-byte : (N : Network) (s : List ℕ) → isSetting N s ≡ true → (j : ℕ) → j < length (N .reaches) → isGated ((reachAt N j) .kind) ≡ true → getD (ways (N .reaches) s) j 3 ≤ 1
+unfolding isSetting
+gate-byte N s e j l g =
+    gate-small (N .reaches) s j (eqb-true (length s) (gateCount N) (and-elim-left (eqb (length s) (gateCount N)) _ e)) (and-elim-right (eqb (length s) (gateCount N)) _ e) l g
+
+next-never : (N : Network) (s : List ℕ) → ((q : List ℕ) → isPlan N q ≡ true → before s q ≡ true → ⊥) → nextPlan N s ≡ none
+next-never N s f = go (nextPlan N s) refl
+  where
+    go : (o : Option (List ℕ)) → nextPlan N s ≡ o → nextPlan N s ≡ none
+    go none e = e
+    go (some q) e = absurd (f q (next-is-plan N s e) (next-is-later N s e))
+
+module _ (N : Network) (s : List ℕ) where
+  abbrev t : List Reach
+  t = N .reaches
+
+  pub oriented-length : (i : ℕ) → i ≤ length t → length (hungTo t s i) ≡ length t
+  oriented-length i l = simp (length-append, length-take, length-drop, length-ways) (omega arith)
+
+  pub oriented-below : (i j : ℕ) → i ≤ length t → j < i → getD (hungTo t s i) j 3 ≡ getD (ways t s) j 3
+  oriented-below i j l k = getD-front (ways t s) (ways t []) i j 3 (omega (arith, length-ways t s)) k
+
+  pub oriented-above : (i j : ℕ) → i ≤ length t → i ≤ j → getD (hungTo t s i) j 3 ≡ getD (ways t []) j 3
+  oriented-above i j l k = getD-back (ways t s) (ways t []) i j 3 (omega (arith, length-ways t s)) k
+
+  pub oriented-gate : (i j : ℕ) → i ≤ length t → i ≤ j → j < length t → isGated ((reachAt N j) .kind) ≡ true → getD (hungTo t s i) j 3 ≡ 2
+  oriented-gate i j l k jl g = oriented-above i j l k ∙ (gate-way t [] j jl g) .byte
+
+  pub oriented-all : hungTo t s (length t) ≡ ways t s
+  oriented-all = ext-getD 3 (hungTo t s (length t)) (ways t s) (oriented-length (length t) (omega arith) ∙ sym (length-ways t s)) (λ j l. oriented-below (length t) j (omega arith) (omega (arith, oriented-length (length t) (omega arith))))
+
+  pub oriented-none : hungTo t s 0 ≡ ways t []
+  oriented-none = ext-getD 3 (hungTo t s 0) (ways t []) (oriented-length 0 (omega arith) ∙ sym (length-ways t [])) (λ j l. oriented-above 0 j (omega arith) (omega arith))
+
+  -- the reaches that are no gates have the ways of their kinds
+  pub oriented-shaped : (i : ℕ) → i ≤ length t → Shaped t (hungTo t s i)
+  oriented-shaped i l j jl n = go (decLt j i)
+    where
+      go : Dec (j < i) → getD (hungTo t s i) j 3 ≡ way ((reachAt N j) .kind) []
+      go (yes k) = oriented-below i j l k ∙ plain-way t s j jl n
+      go (no k) = oriented-above i j l (omega arith) ∙ plain-way t [] j jl n
+
+  -- one reach more: it gets its way under s
+  pub oriented-more : (i : ℕ) → i < length t → set (hungTo t s i) i (getD (ways t s) i 3) ≡ hungTo t s (suc i)
+  oriented-more i l = ext-getD 3 (set (hungTo t s i) i x) (hungTo t s (suc i)) (length-set (hungTo t s i) i x ∙ oriented-length i (omega arith) ∙ sym (oriented-length (suc i) l)) at
+    where
+      x : ℕ
+      x = getD (ways t s) i 3
+
+      at : (j : ℕ) → j < length (set (hungTo t s i) i x) → getD (set (hungTo t s i) i x) j 3 ≡ getD (hungTo t s (suc i)) j 3
+      at j jl = go (ℕ-discrete j i) (decLt j i)
+        where
+          go : Dec (j ≡ i) → Dec (j < i) → getD (set (hungTo t s i) i x) j 3 ≡ getD (hungTo t s (suc i)) j 3
+          go (yes e) d = rw e (getD-set-same (hungTo t s i) i x 3 (omega (arith, oriented-length i (omega arith))) ∙ sym (oriented-below (suc i) i l (omega arith)))
+          go (no n) (yes k) = getD-set-other (hungTo t s i) i j x 3 n ∙ oriented-below i j (omega arith) k ∙ sym (oriented-below (suc i) j l (omega arith))
+          go (no n) (no k) = getD-set-other (hungTo t s i) i j x 3 n ∙ oriented-above i j (omega arith) (omega arith) ∙ sym (oriented-above (suc i) j l (omega arith))
+
+  -- one reach less: a gate is left either way again, another reach has its way anyhow
+  pub oriented-less : (i : ℕ) → i < length t → set (hungTo t s (suc i)) i (getD (ways t []) i 3) ≡ hungTo t s i
+  oriented-less i l = ext-getD 3 (set (hungTo t s (suc i)) i x) (hungTo t s i) (length-set (hungTo t s (suc i)) i x ∙ oriented-length (suc i) l ∙ sym (oriented-length i (omega arith))) at
+    where
+      x : ℕ
+      x = getD (ways t []) i 3
+
+      at : (j : ℕ) → j < length (set (hungTo t s (suc i)) i x) → getD (set (hungTo t s (suc i)) i x) j 3 ≡ getD (hungTo t s i) j 3
+      at j jl = go (ℕ-discrete j i) (decLt j i)
+        where
+          go : Dec (j ≡ i) → Dec (j < i) → getD (set (hungTo t s (suc i)) i x) j 3 ≡ getD (hungTo t s i) j 3
+          go (yes e) d = rw e (getD-set-same (hungTo t s (suc i)) i x 3 (omega (arith, oriented-length (suc i) l)) ∙ sym (oriented-above i i (omega arith) (omega arith)))
+          go (no n) (yes k) = getD-set-other (hungTo t s (suc i)) i j x 3 n ∙ oriented-below (suc i) j l (omega arith) ∙ sym (oriented-below i j (omega arith) k)
+          go (no n) (no k) = getD-set-other (hungTo t s (suc i)) i j x 3 n ∙ oriented-above (suc i) j l (omega arith) ∙ sym (oriented-above i j (omega arith) (omega arith))
+
+  -- a reach that is no gate: nothing changes
+  pub oriented-plain : (i : ℕ) → i < length t → isGated ((reachAt N i) .kind) ≡ false → hungTo t s (suc i) ≡ hungTo t s i
+  oriented-plain i l n =
+      sym (oriented-more i l)
+      ∙ ap (λ (x : ℕ). set (hungTo t s i) i x) (plain-way t s i l n ∙ sym (oriented-shaped i (omega arith) i l n))
+      ∙ set-getD (hungTo t s i) i 3
+
+  -- ---- no plan parts from the setting upwards at reach i or later
+
+  alike-more : (q : List ℕ) (i : ℕ) → Alike N s q i → getD (ways t q) i 3 ≡ getD (ways t s) i 3 → Alike N s q (suc i)
+  alike-more q i f e j l = go (ℕ-discrete j i)
+    where
+      go : Dec (j ≡ i) → getD (ways t q) j 3 ≡ getD (ways t s) j 3
+      go (yes same) = rw same e
+      go (no n) = f j (omega arith)
+
+  -- a setting that is alike below i fits the ways oriented so far
+  pub alike-fits : (q : List ℕ) (i : ℕ) → i ≤ length t → Alike N s q i → Fits N q (hungTo t s i)
+  alike-fits q i l f j jl = go (decLt j i)
+    where
+      go : Dec (j < i) → (getD (hungTo t s i) j 3 ≡ 2) ⊎ (getD (hungTo t s i) j 3 ≡ getD (ways t q) j 3)
+      go (yes k) = inr (oriented-below i j l k ∙ sym (f j k))
+      go (no k) =
+          ⊎-elim
+          (λ y. inl (oriented-gate i j l (omega arith) jl y))
+          (λ n. inr (oriented-above i j l (omega arith) ∙ same-plain N [] q j jl n))
+          (decide (isGated ((reachAt N j) .kind)))
+
+  module _ (fit : isSetting N s ≡ true) where
+    order : (q : List ℕ) → isPlan N q ≡ true → before (ways t s) (ways t q) ≡ before s q
+    order q e = ways-order 0 t s q (setting-length N s fit) (setting-length N q (plan-setting N q e))
+
+    pub none-from-end : NoneFrom N s (length t)
+    none-from-end q e later f =
+        let same : ways t q ≡ ways t s = ext-getD 3 (ways t q) (ways t s) (length-ways t q ∙ sym (length-ways t s)) (λ j l. f j (omega (arith, length-ways t q))) in
+        clash (order q e ∙ later) (ap (λ (v : List ℕ). before (ways t s) v) same ∙ before-irrefl (ways t s))
+
+    -- a later plan that is alike below i and not at i has the gate i turned, where s has it as drawn
+    parts : (q : List ℕ) (i : ℕ) → i < length t → isPlan N q ≡ true → before s q ≡ true → Alike N s q i → (getD (ways t q) i 3 ≡ getD (ways t s) i 3 → ⊥) → getD (ways t s) i 3 < getD (ways t q) i 3
+    parts q i l e later f n =
+        let up : getD (ways t s) i 3 ≤ getD (ways t q) i 3 = before-up (ways t s) (ways t q) i 3 (omega (arith, length-ways t s)) (omega (arith, length-ways t q)) (λ j k. sym (f j k)) (order q e ∙ later) in
+        go (ℕ-discrete (getD (ways t q) i 3) (getD (ways t s) i 3)) up
+      where
+        go : Dec (getD (ways t q) i 3 ≡ getD (ways t s) i 3) → getD (ways t s) i 3 ≤ getD (ways t q) i 3 → getD (ways t s) i 3 < getD (ways t q) i 3
+        go (yes same) up = absurd (n same)
+        go (no m) up = omega arith
+
+    -- one reach less, if no plan can part there
+    none-from : (i : ℕ) → i < length t → NoneFrom N s (suc i) → ((q : List ℕ) → isPlan N q ≡ true → Alike N s q i → getD (ways t s) i 3 < getD (ways t q) i 3 → ⊥) → NoneFrom N s i
+    none-from i l more no-part q e later f = go (ℕ-discrete (getD (ways t q) i 3) (getD (ways t s) i 3))
+      where
+        go : Dec (getD (ways t q) i 3 ≡ getD (ways t s) i 3) → ⊥
+        go (yes same) = more q e later (alike-more q i f same)
+        go (no n) = no-part q e f (parts q i l e later f n)
+
+    pub none-plain : (i : ℕ) → i < length t → NoneFrom N s (suc i) → isGated ((reachAt N i) .kind) ≡ false → NoneFrom N s i
+    none-plain i l more n = none-from i l more (λ q e f up. omega (arith, same-plain N q s i l n))
+
+    pub none-turned : (i : ℕ) → i < length t → NoneFrom N s (suc i) → isGated ((reachAt N i) .kind) ≡ true → getD (ways t s) i 3 ≡ 1 → NoneFrom N s i
+    none-turned i l more g one = none-from i l more (λ q e f up. omega (arith, plan-gate-small N q i e l g))
+
+    pub none-lost : (i : ℕ) → i < length t → NoneFrom N s (suc i) → isGated ((reachAt N i) .kind) ≡ true → strong (basinsOf N) (arcs t (set (hungTo t s i) i 1)) ≡ false → NoneFrom N s i
+    none-lost i l more g lost =
+        none-from i l more
+        (λ q e f up.
+        let one : getD (ways t q) i 3 ≡ 1 = omega (arith, plan-gate-small N q i e l g) in
+        clash (fits-strong N q (set (hungTo t s i) i 1) e (fits-set N q (hungTo t s i) i 1 (omega (arith, oriented-length i (omega arith))) (alike-fits q i (omega arith) f) one)) lost)
+
+    -- where the gate i cannot be oriented as s has it, no plan is alike below suc i
+    pub none-stopped : (i : ℕ) → i < length t → strong (basinsOf N) (arcs t (hungTo t s (suc i))) ≡ false → NoneFrom N s (suc i)
+    none-stopped i l lost q e later f = clash (fits-strong N q (hungTo t s (suc i)) e (alike-fits q (suc i) l f)) lost
+
+    -- The least plan that parts upwards at the last gate at which one can is the next plan.
+    pub least-next : (i : ℕ) → i < length t → NoneFrom N s (suc i) → isGated ((reachAt N i) .kind) ≡ true → getD (ways t s) i 3 ≡ 0 → (r : List ℕ) → LeastPlan N (set (hungTo t s i) i 1) r → nextPlan N s ≡ some r
+    least-next i l more g zero-at r m = next-unique N s r (m .is-plan) later earliest
+      where
+        room : i < length (hungTo t s i)
+        room = omega (arith, oriented-length i (omega arith))
+
+        r-at : getD (ways t r) i 3 ≡ 1
+        r-at = fits-at N r (hungTo t s i) i 1 room l (omega arith) (m .fits)
+
+        r-alike : (j : ℕ) → j < i → getD (ways t s) j 3 ≡ getD (ways t r) j 3
+        r-alike j k =
+            ⊎-elim
+            (λ y.
+            ⊎-elim
+            (λ two. absurd (omega (arith, two, getD-set-other (hungTo t s i) i j 1 3 (omega arith), oriented-below i j (omega arith) k, setting-gate j k y)))
+            (λ same. sym (oriented-below i j (omega arith) k) ∙ sym (getD-set-other (hungTo t s i) i j 1 3 (omega arith)) ∙ same)
+            (m .fits j (omega arith)))
+            (λ n. same-plain N s r j (omega arith) n)
+            (decide (isGated ((reachAt N j) .kind)))
+          where
+            setting-gate : (j : ℕ) → j < i → isGated ((reachAt N j) .kind) ≡ true → getD (ways t s) j 3 ≤ 1
+            setting-gate j k y = gate-byte N s fit j (omega arith) y
+
+        later : before s r ≡ true
+        later = sym (order r (m .is-plan)) ∙ before-at (ways t s) (ways t r) i 3 (omega (arith, length-ways t s)) (omega (arith, length-ways t r)) r-alike (omega (arith, r-at, zero-at))
+
+        earliest : (q : List ℕ) → isPlan N q ≡ true → before s q ≡ true → before q r ≡ false
+        earliest q e after-s = bool-eq-false {b = before q r} (λ below-r. go below-r (ℕ-discrete (getD (ways t q) i 3) (getD (ways t s) i 3)))
+          where
+            q-alike : before q r ≡ true → Alike N s q i
+            q-alike below-r =
+                between (ways t s) (ways t q) (ways t r) i 3 r-alike (order q e ∙ after-s)
+                (ways-order 0 t q r (setting-length N q (plan-setting N q e)) (setting-length N r (plan-setting N r (m .is-plan))) ∙ below-r)
+
+            go : before q r ≡ true → Dec (getD (ways t q) i 3 ≡ getD (ways t s) i 3) → ⊥
+            go below-r (yes same) = more q e after-s (alike-more q i (q-alike below-r) same)
+            go below-r (no n) =
+                let one : getD (ways t q) i 3 ≡ 1 = omega (arith, plan-gate-small N q i e l g, parts q i l e after-s (q-alike below-r) n) in
+                clash below-r (m .least q e (fits-set N q (hungTo t s i) i 1 room (alike-fits q i (omega arith) (q-alike below-r)) one))
+
+    pub none-next : NoneFrom N s 0 → nextPlan N s ≡ none
+    none-next f = next-never N s (λ q e later. f q e later (λ j l. absurd (not-suc-le-zero l)))

@@ -1,0 +1,3 @@
+-- What the contracts of the functions that orient gates say of partial orientations.
+pub mod Least
+pub mod Partials

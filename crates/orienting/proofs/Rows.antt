@@ -1,0 +1,34 @@
+-- A network lent as rows: what the searches over its ends say of the network.
+-- Assumes nothing.
+use Prim.Native.Nat.{ℕ, _<_}
+use native.Mathlib.Omega.{arith}
+use mathlib.Core.Path.{_≡_, ap, ap₂, _∙_}
+use mathlib.Core.Bool.{Bool}
+use mathlib.Core.List.{List}
+use lib.ListN.{length, getD, set}
+use Rattle.network.specs.Tables.{kindOf, tableOf}
+use Rattle.network.specs.Settings.{isGated}
+use Rattle.network.specs.Hangings.{arcs, reached}
+use Rattle.network.specs.Lone.{reachAt}
+use Rattle.half_edges.specs.Ends.{arcsOf}
+use Rattle.half_edges.proofs.Laws.{arcs-ends}
+use Rattle.tables.specs.Rows.{netOf}
+use Rattle.tables.proofs.Laws.{row-length, row-kind, row-a, row-b, row-ends-a, row-ends-b}
+use Rattle.orienting.specs.Tries.{leftOut, ledRound}
+
+module _ (n : ℕ) (ks xs ys : List ℕ) (ea : length xs ≡ length ks) (eb : length ys ≡ length ks) where
+  pub row-arcs : (ws : List ℕ) → arcs (tableOf ks xs ys) ws ≡ arcsOf xs ys ws
+  row-arcs ws = arcs-ends (tableOf ks xs ys) ws ∙ ap₂ (λ (u v : List ℕ). arcsOf u v ws) (row-ends-a ks xs ys ea eb) (row-ends-b ks xs ys ea eb)
+
+  pub row-below : (i : ℕ) → i < length ks → i < length (tableOf ks xs ys)
+  row-below i l = omega (arith, row-length ks xs ys ea eb)
+
+  -- whether a gate can get a way, said of the network
+  pub row-led : (ws : List ℕ) (i : ℕ) → i < length ks → reached (arcs (tableOf ks xs ys) (set ws i 3)) ((reachAt (netOf n ks xs ys) i) .b) ((reachAt (netOf n ks xs ys) i) .a) ≡ ledRound (leftOut xs ys ws i) xs ys i 0
+  row-led ws i l = rw (row-arcs (set ws i 3), row-a ks xs ys ea eb i l, row-b ks xs ys ea eb i l)
+
+  pub row-led-turned : (ws : List ℕ) (i : ℕ) → i < length ks → reached (arcs (tableOf ks xs ys) (set ws i 3)) ((reachAt (netOf n ks xs ys) i) .a) ((reachAt (netOf n ks xs ys) i) .b) ≡ ledRound (leftOut xs ys ws i) xs ys i 1
+  row-led-turned ws i l = rw (row-arcs (set ws i 3), row-a ks xs ys ea eb i l, row-b ks xs ys ea eb i l)
+
+  pub row-gated : (i : ℕ) (b : Bool) → i < length ks → isGated (kindOf (getD ks i 0)) ≡ b → isGated ((reachAt (netOf n ks xs ys) i) .kind) ≡ b
+  row-gated i b l e = ap isGated (row-kind ks xs ys ea eb i l) ∙ e

@@ -1,0 +1,1 @@
+-- The proofs of following a setting, and of parting from it, at one reach.

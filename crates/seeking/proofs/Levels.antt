@@ -1,0 +1,59 @@
+-- What follows from an accepted table whose rows are of one length.
+-- Assumes nothing.
+use Prim.Native.Nat.{ℕ, _≤_, _<_}
+use native.Mathlib.Omega.{arith}
+use mathlib.Core.Path.{_≡_, sym, ap, subst, _∙_}
+use mathlib.Core.Bool.{true}
+use mathlib.Core.List.{List, []}
+use lib.ListN.{length}
+use Rattle.network.specs.Networks.{Network, basinsOf}
+use Rattle.network.specs.Tables.{tableOf}
+use Rattle.network.specs.Settings.{gateCount, isSetting}
+use Rattle.network.specs.Hangings.{ways, arcs}
+use Rattle.network.specs.Plans.{strong, strongUnder, passable}
+use Rattle.network.proofs.Networks.{accepted}
+use Rattle.half_edges.specs.Ends.{arcsOf}
+use Rattle.half_edges.specs.Chains.{Table}
+use Rattle.tables.specs.Rows.{netOf, waysRow}
+use Rattle.tables.proofs.Laws.{row-length, row-a, row-b, row-ways, ways-unhung}
+use Rattle.orientations.specs.Partials.{Under}
+use Rattle.orienting.proofs.Rows.{row-arcs, row-below}
+use Rattle.seeking.specs.Levels.{Level}
+
+-- passable is said of the ways with no gate decided
+pub passable-open : (N : Network) → passable N ≡ strong (basinsOf N) (arcs (N .reaches) (ways (N .reaches) []))
+unfolding passable strongUnder
+passable-open N = ap (λ (v : List ℕ). strong (basinsOf N) (arcs (N .reaches) v)) (ways-unhung (N .reaches) (gateCount N))
+
+module _ {n : ℕ} {ks xs ys : List ℕ} (v : Level n ks xs ys) where
+  pub level-length : length ((netOf n ks xs ys) .reaches) ≡ length xs
+  level-length = row-length ks xs ys (v .ends-a) (v .ends-b) ∙ sym (v .ends-a)
+
+  -- its half-edges can be indexed
+  pub level-table : Table n xs ys
+  level-table =
+      let facts = accepted (netOf n ks xs ys) (v .accepted) in
+      record {
+        paired = v .ends-b ∙ sym (v .ends-a);
+        few = omega (arith, facts .few-reaches, level-length);
+        ends-a = λ i l.
+            let k : i < length ks = omega (arith, v .ends-a) in
+            subst (λ (x : ℕ). x < n) (row-a ks xs ys (v .ends-a) (v .ends-b) i k) (facts .end-a i (row-below n ks xs ys (v .ends-a) (v .ends-b) i k));
+        ends-b = λ i l.
+            let k : i < length ks = omega (arith, v .ends-a) in
+            subst (λ (x : ℕ). x < n) (row-b ks xs ys (v .ends-a) (v .ends-b) i k) (facts .end-b i (row-below n ks xs ys (v .ends-a) (v .ends-b) i k));
+      }
+
+  -- what the rows pass is what the network passes
+  pub level-under : (h : List ℕ) → strongUnder (netOf n ks xs ys) h ≡ strong (basinsOf (netOf n ks xs ys)) (arcsOf xs ys (waysRow ks h))
+  unfolding strongUnder
+  level-under h =
+      ap (strong (basinsOf (netOf n ks xs ys)))
+      (row-arcs n ks xs ys (v .ends-a) (v .ends-b) (ways (tableOf ks xs ys) h) ∙ ap (arcsOf xs ys) (row-ways ks xs ys (v .ends-a) (v .ends-b) h))
+
+  -- the ways of a row are those of the network
+  pub under-row : {us : List ℕ} (s : List ℕ) → us ≡ waysRow ks s → us ≡ ways (tableOf ks xs ys) s
+  under-row s e = e ∙ sym (row-ways ks xs ys (v .ends-a) (v .ends-b) s)
+
+  pub row-under : {us : List ℕ} (s : List ℕ) → isSetting (netOf n ks xs ys) s ≡ true → us ≡ waysRow ks s → Under (netOf n ks xs ys) us
+  row-under s fit e = record { setting = s; fits = fit; is = under-row s e }

@@ -1,0 +1,49 @@
+-- `seeking::step` meets its contract: the gates after the last one at which a plan can part are decided.
+-- Assumes nothing.
+use native.Mathlib.Omega.{arith}
+use borrow.Author.Needs.{needs}
+use Rattle.orienting.proofs.Readies.{ready-ways, ready-notes}
+use Rattle.seeking.proofs.Seeks.{bridgeless, part-following, step-completable, step-made, step-none}
+use Rattle.seeking.proofs.step.Statement.{statement}
+use Rattle.seeking.proofs.step.Tie as tie
+
+turn-back-requires : tie.Need-turn-back-requires
+turn-back-requires c κs = let s = c .before .before .before .before .before .before .before .before .before .before .before .before in (s .pre .0, (part-following (s .args .n) (s .args .kinds .now) (s .args .a .now) (s .args .b .now) (s .pre .1), s .pre .1 .connected-below))
+
+add-complete : tie.Need-add-complete
+add-complete c = search needs
+
+complete-requires : tie.Need-complete-requires
+complete-requires c κs =
+    let s = c .before .before .before .before .before .before .before .before .before .before .before .before .before .before .before .before .before .before .before .before .before .before .before in
+    let t = c .before .before .before .before .before .before .before .before .before .before .turn-back in (
+      ready-ways _ (ready-notes _ _ (s .pre .0) (t .kept .1 .1 .1 .1 .1 .1 .1 .1 .1 .0) (t .kept .1 .1 .1 .1 .1 .1 .1 .1 .1 .1 .0)) (t .kept .1 .1 .1 .1 .1 .0),
+      (step-completable (s .args .n) (s .args .kinds .now) (s .args .a .now) (s .args .b .now) (s .pre .1) (t .ensures) (c .before .before .before .if1 .taken), bridgeless _ (s .pre .1 .some-plan)),
+    )
+
+same-length : tie.Need-same-length
+same-length c = search needs
+
+same-length-2 : tie.Need-same-length-2
+same-length-2 c = search needs
+
+same-length-3 : tie.Need-same-length-3
+same-length-3 c = search needs
+
+returns : tie.Need-returns
+returns c = let s = c .before .before .before .before .before .before .before .before .before .before .before .before .before .before .before .before .before .before .before .before .before .before .before .before .before .before .before .before .before .before in step-made (s .args .n) (s .args .kinds .now) (s .args .a .now) (s .args .b .now) (s .pre .1) (c .before .before .before .before .before .before .before .before .before .before .before .before .before .before .before .before .before .turn-back .ensures) (c .before .before .before .before .before .before .before .before .before .before .if1 .taken) (c .before .before .before .before .before .before .complete .ensures)
+
+same-length-4 : tie.Need-same-length-4
+same-length-4 c = search needs
+
+same-length-5 : tie.Need-same-length-5
+same-length-5 c = search needs
+
+same-length-6 : tie.Need-same-length-6
+same-length-6 c = search needs
+
+returns-2 : tie.Need-returns-2
+returns-2 c = let s = c .before .before .before .before .before .before .before .before .before .before .before .before .before .before .before .before .before .before .before .before in step-none (s .args .n) (s .args .kinds .now) (s .args .a .now) (s .args .b .now) (s .pre .1) (c .before .before .before .before .before .before .before .turn-back .ensures) _ (λ l. omega (arith, c .if1 .left))
+
+pub step-spec : {M : Type 1} → statement M
+step-spec = tie.close (tie.spec turn-back-requires add-complete complete-requires same-length same-length-2 same-length-3 returns same-length-4 same-length-5 same-length-6 returns-2)

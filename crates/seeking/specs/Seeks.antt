@@ -1,0 +1,76 @@
+-- What the search for the next plan of a setting requires at its steps, and what they find.
+-- Assumes nothing.
+use Prim.Native.Nat.{ℕ, _≤_, _<_}
+use mathlib.Core.Path.{_≡_}
+use mathlib.Core.Bool.{true}
+use mathlib.Core.List.{List}
+use lib.ListN.{length, getD, set}
+use Rattle.network.specs.Networks.{Network}
+use Rattle.network.specs.Settings.{isGated, isSetting}
+use Rattle.network.specs.Hangings.{ways}
+use Rattle.network.specs.Plans.{isPlan}
+use Rattle.network.specs.Lone.{reachAt}
+use Rattle.tables.specs.Rows.{netOf, waysRow}
+use Rattle.orientations.specs.Least.{NoneFrom}
+use Rattle.orientations.specs.Partials.{NotStronglyConnected, Under, upTo, StronglyConnectedBelow, NoPart}
+use Rattle.completing.specs.Greedy.{Completed}
+use Rattle.seeking.specs.declared.Sought.{Sought}
+use Rattle.seeking.specs.Levels.{Level}
+use Rattle.seeking.specs.Found.{NextFound}
+
+-- The network has a plan.
+pub record SomePlan (N : Network) : Type 0 where
+  pub plan : List ℕ
+  pub is-plan : isPlan N plan ≡ true
+
+-- The ways us are those under a setting of an accepted table.
+pub record Seeking (n : ℕ) (ks xs ys us : List ℕ) : Type 0 where
+  pub level : Level n ks xs ys
+  pub under : Under (netOf n ks xs ys) us
+
+-- The ways ws are us up to reach `to`, and up to each reach below it everything reaches everything.
+pub record Partable (n : ℕ) (ks xs ys us ws : List ℕ) (to : ℕ) : Type 0 where
+  pub seeking : Seeking n ks xs ys us
+  pub some-plan : SomePlan (netOf n ks xs ys)
+  pub bound : to ≤ length xs
+  pub begun : ws ≡ upTo (netOf n ks xs ys) us to
+  pub connected-below : StronglyConnectedBelow (netOf n ks xs ys) us to
+
+-- One step: the last gate r below `to` at which a plan can part from us upwards is turned and the gates after it decided; or r is the number of
+-- reaches, and none can.
+pub data Stepped (N : Network) (us : List ℕ) (to : ℕ) : List ℕ → ℕ → Type 0 where
+  stepped-at : {ws : List ℕ} {r : ℕ} → r < to → isGated ((reachAt N r) .kind) ≡ true → getD us r 3 ≡ 0 → ((j : ℕ) → r < j → j < to → NoPart N us j)
+      → Completed N (set (upTo N us r) r 1) ws → Stepped N us to ws r
+  no-step : {ws : List ℕ} {r : ℕ} → r ≡ length (N .reaches) → ((j : ℕ) → j < to → NoPart N us j) → Stepped N us to ws r
+
+-- Room for ways, and not everything reaches everything with the ways us.
+pub record OtherThanPlan (n : ℕ) (ks xs ys us ws : List ℕ) : Type 0 where
+  pub seeking : Seeking n ks xs ys us
+  pub ways-room : length ws ≡ length ks
+  pub lost : NotStronglyConnected (netOf n ks xs ys) us
+
+-- And there is a plan.
+pub record Followable (n : ℕ) (ks xs ys us ws : List ℕ) : Type 0 where
+  pub other : OtherThanPlan n ks xs ys us ws
+  pub some-plan : SomePlan (netOf n ks xs ys)
+
+-- The ways us are those under the plan s.
+pub record AtPlan (n : ℕ) (ks xs ys s us : List ℕ) : Type 0 where
+  pub level : Level n ks xs ys
+  pub is-plan : isPlan (netOf n ks xs ys) s ≡ true
+  pub oriented : us ≡ waysRow ks s
+
+-- The ways us are those under the setting s, and there is room for others.
+pub record AtSetting (n : ℕ) (ks xs ys s us ws : List ℕ) : Type 0 where
+  pub level : Level n ks xs ys
+  pub fits : isSetting (netOf n ks xs ys) s ≡ true
+  pub oriented : us ≡ waysRow ks s
+  pub ways-room : length ws ≡ length ks
+
+-- What is found after the setting with the ways us.
+pub record NextAfter (N : Network) (us ws seen : List ℕ) (r : Sought) : Type 0 where
+  pub found : (s : List ℕ) → isSetting N s ≡ true → us ≡ ways (N .reaches) s → NextFound N s ws seen r
+
+-- And where no later plan is alike below `to`.
+pub record NextFrom (N : Network) (us : List ℕ) (to : ℕ) (ws seen : List ℕ) (r : Sought) : Type 0 where
+  pub found : (s : List ℕ) → isSetting N s ≡ true → us ≡ ways (N .reaches) s → NoneFrom N s to → NextFound N s ws seen r

@@ -1,5 +1,0 @@
--- The laws of the calls over sheets.
-pub mod Calls
-pub mod Getting
-pub mod Replies
-pub mod RoundTrips

@@ -1,0 +1,231 @@
+-- Writing and reading one after the other, by what the calls promise; and that every accepted network has exactly one reply sheet.
+-- Assumes nothing.
+use Prim.Native.Nat.{ℕ, _≤_}
+use native.Mathlib.Omega.{arith}
+use mathlib.Core.Path.{_≡_, refl, sym, ap, subst, _∙_}
+use mathlib.Core.Bool.{Bool, true, false, cond, true≢false}
+use mathlib.Core.List.{List}
+use mathlib.Core.Option.{none, some}
+use lib.ListN.{length, take, drop, length-append}
+use lib.Seq.{take-at}
+use lib.Dec.{leb}
+use Rattle.network.specs.declared.Refusal.{Refusal}
+use Rattle.network.specs.declared.Refusal.the-variants.{ShortBuffer}
+use Rattle.network.specs.Networks.{Network, tableFault, Accepted}
+use Rattle.network.specs.Settings.{settingFault}
+use Rattle.network.specs.Plans.{isPlan}
+use Rattle.network.specs.Marks.{marksOf}
+use Rattle.network.specs.Replies.{Outcome, lone, loneSide, firstAnswer}
+use Rattle.lists.proofs.Bools.{clash}
+use Rattle.network.proofs.Lone.{lone-blocks}
+use Rattle.network.proofs.Order.{plan-setting, first-is-plan}
+use Rattle.network.proofs.Replies.{lowest-is-lone}
+use Rattle.network.proofs.Theorem.{plan-passable}
+use Rattle.file_records.specs.declared.WriteAnswer.{WriteAnswer}
+use Rattle.file_records.specs.declared.WriteAnswer.the-variants.{Refused as Unwritten, Written}
+use lib.Pow.{areBytes}
+use Rattle.file_records.specs.Puts.{firstOf, Wrote, roomFor, WroteWhole}
+use Rattle.planner.specs.declared.CheckAnswer.{CheckAnswer}
+use Rattle.planner.specs.declared.CheckAnswer.the-variants as C
+use Rattle.planner.specs.Answers.{checkOf}
+use Rattle.sheetfile.specs.declared.SheetAnswer.{SheetAnswer}
+use Rattle.sheetfile.specs.declared.SheetAnswer.the-variants.{Refused, Read}
+use Rattle.sheetfile.specs.Sheets.{sheetOf, outcomeSheet, replySheet}
+use Rattle.sheetfile.specs.Readings.{SheetReading, sheetRefused, sheetSays, unlessFault, readRecords, readSheet, sheetWithRoom}
+use Rattle.sheetfile.specs.Answers.{sheetAnswer, settingRead, Got, planFault, sheetFault, replyFault, SheetWritten, ReplyWritten}
+use Rattle.sheet_laws.specs.Laws.{SheetWriteRead, sheetAgain, SheetReadWrite, checkedBack, SheetReadCheck, replyRead, ReplyWriteRead, Replies, says-plan, says-shut-in, says-lone}
+use Rattle.sheetfile.proofs.Sheets.{read-write, write-read, was-read}
+use Rattle.file_records.proofs.Puts.{first-assoc, first-of-none, put-refused, unwritten, written, written-front}
+use Rattle.sheet_plans.proofs.Calls.{Plan, no-fault}
+use Rattle.sheet_plans.proofs.Getting.{got-refused, refused-is}
+use Rattle.sheet_plans.proofs.Replies.{First, is-plan, is-shut, is-lone, first-cases}
+
+-- ---- written, then read
+
+module _ (N : Network) (s out setting out′ : List ℕ) where
+  pub trip-refused : (r : Refusal) → SheetWritten N s out (Unwritten r) out′ → SheetWriteRead N s out setting (Refused r) out′ setting
+  trip-refused r p =
+      record {
+        again = got-refused setting r (ap (λ o. unlessFault o (sheetWithRoom (length setting) (sheetSays s))) (unwritten (sheetFault N s (length out)) (sheetOf N s) out out′ r p));
+        sheet = p .bytes;
+      }
+
+  module _ (n : ℕ) (p : SheetWritten N s out (Written n) out′) where
+    sound : sheetFault N s (length out) ≡ none
+    sound = written (sheetFault N s (length out)) (sheetOf N s) out out′ n p
+
+    its-plan : Plan N s
+    its-plan =
+        no-fault N s (tableFault N) (isPlan N s) refl refl
+        (first-of-none (firstOf (tableFault N) (planFault N s)) (roomFor (sheetOf N s) (length out))
+        (sym (first-assoc (tableFault N) (planFault N s) (roomFor (sheetOf N s) (length out))) ∙ sound))
+
+    same : readSheet N (take n out′) ≡ sheetSays s
+    same =
+        ap (readSheet N) (written-front (sheetFault N s (length out)) (sheetOf N s) out out′ n p)
+        ∙ read-write N s (its-plan .accepted-net) (its-plan .is-plan)
+
+    pub trip-read :
+        (r : SheetAnswer) (setting′ : List ℕ) → Got (sheetWithRoom (length setting) (readSheet N (take n out′))) setting r setting′
+        → SheetWriteRead N s out setting r out′ setting′
+    trip-read r setting′ g =
+        record {
+          again =
+              subst (λ x. Got x setting r setting′)
+              (ap (sheetWithRoom (length setting)) same ∙ ap (λ o. unlessFault o (sheetWithRoom (length setting) (sheetSays s))) (sym sound)) g;
+          sheet = p .bytes;
+        }
+
+-- ---- read, then written or checked
+
+room-kept : (room : ℕ) (x : SheetReading) (s : List ℕ) → sheetWithRoom room x ≡ sheetSays s → x ≡ sheetSays s
+room-kept room (sheetRefused r) s h = h
+room-kept room (sheetSays t) s h = go (leb (length t) room) h
+  where
+    go : (b : Bool) → cond b (sheetSays t) (sheetRefused ShortBuffer) ≡ sheetSays s → sheetSays t ≡ sheetSays s
+    go true e = e
+    go false e = cc
+
+-- a reading whose answer is a count is a setting of that length
+counted : (x : SheetReading) (n : ℕ) → Read n ≡ sheetAnswer x → (x ≡ sheetSays (settingRead x)) × (n ≡ length (settingRead x))
+counted (sheetRefused r) n h = absurd (true≢false (cc))
+counted (sheetSays s) n h = (refl, cc)
+
+-- an accepted network and a plan get yes
+check-yes : (N : Network) (s : List ℕ) → Accepted N → isPlan N s ≡ true → checkOf N s ≡ C.Yes
+unfolding checkOf settingFault
+check-yes N s ok p = rw (ok, plan-setting N s p, p)
+
+module _ (N : Network) (f setting setting′ : List ℕ) where
+  abbrev got : SheetReading
+  got = sheetWithRoom (length setting) (readSheet N f)
+
+  pub trip-unread : (out : List ℕ) (r : Refusal) → Got got setting (Refused r) setting′ → SheetReadWrite N f setting out (Unwritten r) setting′ out
+  trip-unread out r g =
+      record {
+        again = put-refused f out r (ap (λ x. sheetAgain x f (length out)) (refused-is got r (g .answer)));
+        bytes = g .bytes;
+      }
+
+  pub trip-unchecked : (r : Refusal) → Got got setting (Refused r) setting′ → SheetReadCheck N f setting (C.Refused r) setting′
+  trip-unchecked r g = record { answer = sym (ap checkedBack (refused-is got r (g .answer))); bytes = g .bytes }
+
+  module _ (n : ℕ) (g : Got got setting (Read n) setting′) where
+    abbrev s : List ℕ
+    s = settingRead got
+
+    is : got ≡ sheetSays s
+    is = counted got n (g .answer) .0
+
+    size-read : n ≡ length s
+    size-read = counted got n (g .answer) .1
+
+    sheet-is : readSheet N f ≡ sheetSays s
+    sheet-is = room-kept (length setting) (readSheet N f) s is
+
+    pub read-fits : n ≤ length setting′
+    read-fits = omega (arith, size-read, ap length (g .bytes), length-append s (drop (length s) setting))
+
+    front : take n setting′ ≡ s
+    front = ap (take n) (g .bytes) ∙ take-at s (drop (length s) setting) n (sym size-read)
+
+    plan-fault : planFault N s ≡ none
+    plan-fault = rw (was-read N f s sheet-is .is-plan)
+
+    pub trip-written :
+        areBytes f ≡ true → (out : List ℕ) (r : WriteAnswer) (out′ : List ℕ)
+        → Wrote (sheetFault N (take n setting′) (length out)) (sheetOf N (take n setting′)) out r out′ → SheetReadWrite N f setting out r setting′ out′
+    trip-written b out r out′ p =
+        record {
+          again =
+              subst (λ x. Wrote (sheetAgain x f (length out)) f out r out′) (sym is)
+              (subst (λ h. WroteWhole h out r out′) (sym (write-read N f s b sheet-is))
+              (subst (λ o. Wrote o (sheetOf N s) out r out′) fault (subst (λ t. Wrote (sheetFault N t (length out)) (sheetOf N t) out r out′) front p)));
+          bytes = g .bytes;
+        }
+      where
+        fault : sheetFault N s (length out) ≡ roomFor (sheetOf N s) (length out)
+        fault =
+            ap (λ o. firstOf o (firstOf (planFault N s) (roomFor (sheetOf N s) (length out)))) (was-read N f s sheet-is .accepted)
+            ∙ ap (λ o. firstOf o (roomFor (sheetOf N s) (length out))) plan-fault
+
+    pub trip-checked : (v : CheckAnswer) → v ≡ checkOf N (take n setting′) → SheetReadCheck N f setting v setting′
+    trip-checked v e =
+        record {
+          answer =
+              e
+              ∙ ap (checkOf N) front
+              ∙ check-yes N s (was-read N f s sheet-is .accepted) (was-read N f s sheet-is .is-plan)
+              ∙ sym (ap checkedBack is);
+          bytes = g .bytes;
+        }
+
+-- ---- the reply's sheet
+
+says : (N : Network) → Accepted N → {o : Outcome} → First N o → Replies N (outcomeSheet N o)
+says N ok (is-plan s e) = says-plan s e (read-write N s ok (first-is-plan N e))
+says N ok (is-shut n) = says-shut-in n refl
+says N ok (is-lone i y e) = says-lone i y e refl
+
+-- The reply sheet of an accepted network says what the network gets,
+pub reply-says : (N : Network) → Accepted N → Replies N (replySheet N)
+unfolding replySheet
+reply-says N ok = says N ok (first-cases N ok)
+
+-- and it is the only one that does.
+pub reply-only : (N : Network) (f : List ℕ) → Accepted N → areBytes f ≡ true → Replies N f → f ≡ replySheet N
+unfolding replySheet
+reply-only N f ok b q = go (first-cases N ok) q
+  where
+    one : {i j : ℕ} → some i ≡ some j → i ≡ j
+    one e = cc
+
+    same-plan : {s t : List ℕ} → some s ≡ some t → s ≡ t
+    same-plan e = cc
+
+    go : {o : Outcome} → First N o → Replies N f → f ≡ outcomeSheet N o
+    go (is-plan s e) (says-plan t d r) = write-read N f t b r ∙ ap (sheetOf N) (same-plan (sym d ∙ e))
+    go (is-plan s e) (says-shut-in n r) = clash (plan-passable N s (first-is-plan N e)) n
+    go (is-plan s e) (says-lone i y l r) = absurd (lone-blocks N i (lowest-is-lone N l) s (first-is-plan N e))
+    go (is-shut n) (says-plan t d r) = clash (plan-passable N t (first-is-plan N d)) n
+    go (is-shut n) (says-shut-in m r) = r
+    go (is-shut n) (says-lone i y l r) = clash y n
+    go (is-lone i y l) (says-plan t d r) = absurd (lone-blocks N i (lowest-is-lone N l) t (first-is-plan N d))
+    go (is-lone i y l) (says-shut-in n r) = clash y n
+    go (is-lone i y l) (says-lone j z m r) = r ∙ ap (λ k. outcomeSheet N (lone k (marksOf (loneSide N k)) 0)) (one (sym m ∙ l))
+
+-- its reading as a plan sheet is the first plan, where there is one
+read-outcome : (N : Network) → Accepted N → {o : Outcome} → First N o → readSheet N (outcomeSheet N o) ≡ replyRead o
+unfolding readSheet readRecords
+read-outcome N ok (is-plan s e) = read-write N s ok (first-is-plan N e)
+read-outcome N ok (is-shut n) = rw ok
+read-outcome N ok (is-lone i y e) = rw ok
+
+pub read-reply : (N : Network) → Accepted N → readSheet N (replySheet N) ≡ replyRead (firstAnswer N)
+unfolding replySheet
+read-reply N ok = read-outcome N ok (first-cases N ok)
+
+module _ (N : Network) (out setting out′ : List ℕ) where
+  pub trip-unreplied : (r : Refusal) → ReplyWritten N out (Unwritten r) out′ → ReplyWriteRead N out setting (Refused r) out′ setting
+  trip-unreplied r p =
+      record {
+        again =
+            got-refused setting r
+            (ap (λ o. unlessFault o (sheetWithRoom (length setting) (replyRead (firstAnswer N)))) (unwritten (replyFault N (length out)) (replySheet N) out out′ r p));
+        sheet = p .bytes;
+      }
+
+  pub trip-replied :
+      (n : ℕ) → ReplyWritten N out (Written n) out′ → (r : SheetAnswer) (setting′ : List ℕ)
+      → Got (sheetWithRoom (length setting) (readSheet N (take n out′))) setting r setting′ → ReplyWriteRead N out setting r out′ setting′
+  trip-replied n p r setting′ g =
+      let sound : replyFault N (length out) ≡ none = written (replyFault N (length out)) (replySheet N) out out′ n p in
+      let same : readSheet N (take n out′) ≡ replyRead (firstAnswer N) =
+      ap (readSheet N) (written-front (replyFault N (length out)) (replySheet N) out out′ n p)
+      ∙ read-reply N (first-of-none (tableFault N) (roomFor (replySheet N) (length out)) sound) in
+      record {
+        again =
+            subst (λ x. Got x setting r setting′)
+            (ap (sheetWithRoom (length setting)) same ∙ ap (λ o. unlessFault o (sheetWithRoom (length setting) (replyRead (firstAnswer N)))) (sym sound)) g;
+        sheet = p .bytes;
+      }

@@ -1,0 +1,79 @@
+-- What the planner's check says of a setting, and what the writer then does.
+-- Assumes nothing.
+use Prim.Native.Nat.{ℕ, _-_}
+use mathlib.Core.Path.{_≡_, refl, sym, ap, subst, _∙_}
+use mathlib.Core.Bool.{Bool, true, false, cond, _&&_, true≢false}
+use mathlib.Core.List.{List}
+use mathlib.Core.Option.{Option, none, some}
+use lib.ListN.{length}
+use Rattle.network.specs.declared.Refusal.{Refusal}
+use Rattle.network.specs.declared.Refusal.the-variants.{BadSetting}
+use Rattle.network.specs.Networks.{Network, tableFault, Accepted}
+use Rattle.network.specs.Settings.{isSetting, settingFault}
+use Rattle.network.specs.Plans.{strongUnder, isPlan}
+use Rattle.network.proofs.Networks.{accepted}
+use Rattle.file_records.specs.declared.WriteAnswer.{WriteAnswer}
+use Rattle.file_records.specs.declared.WriteAnswer.the-variants.{Refused as Unwritten}
+use Rattle.file_records.specs.Puts.{firstOf, Wrote, roomFor, WroteWhole}
+use Rattle.planner.specs.declared.CheckAnswer.{CheckAnswer}
+use Rattle.planner.specs.declared.CheckAnswer.the-variants as C
+use Rattle.planner.specs.Answers.{yesOr, unlessRefused, checkOf}
+use Rattle.sheetfile.specs.Sheets.{sheetOf}
+use Rattle.sheetfile.specs.Rows.{Fitting}
+use Rattle.sheetfile.specs.Answers.{planFault, sheetFault, SheetWritten}
+use Rattle.sheetfile.proofs.Sheets.{plan-long}
+use Rattle.file_records.proofs.Puts.{first-assoc, put-refused}
+
+-- the refusal that the answer of the check stands for
+abbrev pub checkFault : CheckAnswer → Option Refusal
+checkFault (C.Refused r) = some r
+checkFault C.Yes = none
+checkFault C.No = some BadSetting
+
+check-cases :
+    (o : Option Refusal) (b c : Bool)
+    → checkFault (unlessRefused o (unlessRefused (cond b none (some BadSetting)) (yesOr (b && c)))) ≡ firstOf o (cond (b && c) none (some BadSetting))
+check-cases (some r) b c = refl
+check-cases none true true = refl
+check-cases none true false = refl
+check-cases none false c = refl
+
+-- 1, 2 and 3, and then 8 where the setting is no plan
+pub check-fault : (N : Network) (s : List ℕ) → checkFault (checkOf N s) ≡ firstOf (tableFault N) (planFault N s)
+unfolding checkOf settingFault isPlan
+check-fault N s = check-cases (tableFault N) (isSetting N s) (strongUnder N s)
+
+module _ (N : Network) (s : List ℕ) (v : CheckAnswer) (e : checkOf N s ≡ v) where
+  pub judged : firstOf (tableFault N) (planFault N s) ≡ checkFault v
+  judged = sym (check-fault N s) ∙ ap checkFault e
+
+  pub judged-sheet : (room : ℕ) → sheetFault N s room ≡ firstOf (checkFault v) (roomFor (sheetOf N s) room)
+  judged-sheet room = first-assoc (tableFault N) (planFault N s) (roomFor (sheetOf N s) room) ∙ ap (λ o. firstOf o (roomFor (sheetOf N s) room)) judged
+
+-- yes: the network is accepted and the setting is a plan
+pub record Plan (N : Network) (s : List ℕ) : Type 0 where
+  pub accepted-net : Accepted N
+  pub is-plan : isPlan N s ≡ true
+
+pub no-fault : (N : Network) (s : List ℕ) (o : Option Refusal) (b : Bool) → tableFault N ≡ o → isPlan N s ≡ b → firstOf o (cond b none (some BadSetting)) ≡ none → Plan N s
+no-fault N s none true t p e = record { accepted-net = t; is-plan = p }
+no-fault N s none false t p e = absurd (true≢false (cc))
+no-fault N s (some r) b t p e = absurd (true≢false (cc))
+
+module _ (N : Network) (s : List ℕ) (e : checkOf N s ≡ C.Yes) where
+  pub yes-plan : Plan N s
+  yes-plan = no-fault N s (tableFault N) (isPlan N s) refl refl (judged N s C.Yes e)
+
+  pub yes-fits : Fitting (N .reaches) s
+  yes-fits = record { few = accepted N (yes-plan .accepted-net) .few-reaches; full = plan-long N s (yes-plan .is-plan) }
+
+-- the writer, by what the check said
+module _ (N : Network) (s out : List ℕ) where
+  pub wrote-refused : (v : CheckAnswer) (r : Refusal) → checkOf N s ≡ v → checkFault v ≡ some r → SheetWritten N s out (Unwritten r) out
+  wrote-refused v r e f =
+      put-refused (sheetOf N s) out r (judged-sheet N s v e (length out) ∙ ap (λ o. firstOf o (roomFor (sheetOf N s) (length out))) f)
+
+  pub wrote-plan :
+      (r : WriteAnswer) (out′ : List ℕ) → checkOf N s ≡ C.Yes → WroteWhole (sheetOf N s) out r out′
+      → SheetWritten N s out r out′
+  wrote-plan r out′ e = subst (λ o. Wrote o (sheetOf N s) out r out′) (sym (judged-sheet N s C.Yes e (length out)))

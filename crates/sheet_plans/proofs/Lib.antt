@@ -1,0 +1,4 @@
+-- What the planner's promises come to for the sheets.
+pub mod Calls
+pub mod Getting
+pub mod Replies

@@ -1,0 +1,68 @@
+// What of the sheets asks the planner, whose promises alone say what is a plan and what a network gets: the plan that a sheet says is kept, and a
+// network's reply is put down as a sheet. For the crate `sheet`.
+use file_records::WriteAnswer;
+use network::Refusal;
+use planner::Answer;
+use planner::CheckAnswer;
+use planner::Verdict;
+use sheetfile::SheetAnswer;
+ghost use mathlib.Core.Path.{_≡_};
+ghost use lib.ListN.{length};
+ghost use Rattle.network.specs.Networks.{maxReaches};
+ghost use Rattle.network.specs.Marks.{markBytes};
+ghost use Rattle.tables.specs.Rows.{netOf};
+ghost use Rattle.sheetfile.specs.Answers.{PlanKept, ReplyWritten};
+
+// The bytes that a sheet says, if they are a plan of the network, go to the first bytes of the setting's buffer. Refuses 8, then 7.
+pub fn keep_plan(
+    basins: u16,
+    kinds: &[u8],
+    a: &[u16],
+    b: &[u16],
+    bytes: &[u8],
+    setting: &mut [u8],
+) -> SheetAnswer
+    ensures { λ r. ⌜
+        PlanKept (netOf basins (now (kinds .entry)) (now (a .entry)) (now (b .entry))) (now (bytes .entry)) (now (setting .entry))
+        r (now (setting .exit))
+        ⌝ }
+{
+    match planner::check_rows(basins, kinds, a, b, bytes) {
+        CheckAnswer::Refused(r) => SheetAnswer::Refused(r),
+        CheckAnswer::No => SheetAnswer::Refused(Refusal::BadSetting),
+        CheckAnswer::Yes => {
+            if setting.len() < bytes.len() {
+                return SheetAnswer::Refused(Refusal::ShortBuffer);
+            }
+            file_records::put_bytes(setting, 0, bytes);
+            SheetAnswer::Read(bytes.len())
+        }
+    }
+}
+
+// The network's reply as a sheet, with lent working memory for the plan and the marks.
+pub fn write_reply_in(
+    basins: u16,
+    kinds: &[u8],
+    a: &[u16],
+    b: &[u16],
+    plan: &mut [u8],
+    marks: &mut [u8],
+    out: &mut [u8],
+) -> WriteAnswer
+    requires { ⌜ length (now plan) ≡ maxReaches ⌝ }
+    requires { ⌜ length (now marks) ≡ markBytes ⌝ }
+    ensures { λ r. ⌜ ReplyWritten (netOf basins (now (kinds .entry)) (now (a .entry)) (now (b .entry))) (now (out .entry)) r (now (out .exit)) ⌝ }
+{
+    match planner::first_plan_rows(basins, kinds, a, b, plan, marks) {
+        Answer::Refused(r) => WriteAnswer::Refused(r),
+        Answer::Given(reply) => {
+            let verdict = reply.verdict;
+            match verdict {
+                Verdict::Plan => sheet_writing::write_first(kinds, a, b, plan, out),
+                Verdict::ShutIn(_) => sheet_writing::write_shut_in(marks, out),
+                Verdict::Lone(finding) => sheet_writing::write_lone(finding.reach, marks, out),
+            }
+        }
+    }
+}

@@ -1,0 +1,773 @@
+#!/usr/bin/env python3
+"""Writes the case file `stdin` and the expected output `stdout` of the program test_calls, into the folder that this file stands in.
+
+What is expected is worked out here from document 01 alone. Small networks are planned by trying every setting and every division of the basins;
+larger ones by the theorem, gate by gate. Where both can be had they are compared. The pseudo-random sequence is fixed: the files never change
+by themselves.
+"""
+import os
+from functools import lru_cache
+from itertools import product
+
+OLD, OLD_WORD = 170, 43690          # what every byte and every two-byte entry of a lent buffer holds before a call
+GATED, FLAP, TWO_WAY = 0, 1, 2      # kinds in a row of a table; every greater number is two-way too
+
+
+# ---- networks
+
+class Network:
+    """An accepted network: basins and reaches (kind, a, b)."""
+
+    def __init__(self, basins, reaches):
+        self.basins, self.reaches = basins, reaches
+        self.gates = [i for i, r in enumerate(reaches) if r[0] == GATED]
+        self.small = len(self.gates) <= 10 and basins <= 6
+        self.kept = {}
+        self.finding = self.find()
+        self.plans = [s for s in product((0, 1), repeat=len(self.gates)) if self.is_plan(s)] if self.small else None
+        if self.small:                  # the theorem, and the two ways to look for a lone reach
+            assert bool(self.plans) == (self.finding is None)
+            assert self.finding == self.find(by_divisions=True)
+
+    def arcs(self, setting):
+        """The arcs, with gates as hung; a gate past the setting's end passes either way."""
+        out, g = [], 0
+        for kind, a, b in self.reaches:
+            if kind == GATED:
+                way, g = (setting[g] if g < len(setting) else 2), g + 1
+                if way != 1:
+                    out.append((a, b))
+                if way != 0:
+                    out.append((b, a))
+            else:
+                out.append((a, b))
+                if kind != FLAP:
+                    out.append((b, a))
+        return out
+
+    @staticmethod
+    def reached(basins, arcs, start):
+        to = [[] for _ in range(basins)]
+        for a, b in arcs:
+            to[a].append(b)
+        seen, left = {start}, [start]
+        while left:
+            for b in to[left.pop()]:
+                if b not in seen:
+                    seen.add(b)
+                    left.append(b)
+        return seen
+
+    def strong(self, setting):
+        arcs = self.arcs(setting)
+        return all(len(self.reached(self.basins, way, 0)) == self.basins for way in (arcs, [(b, a) for a, b in arcs]))
+
+    def is_plan(self, setting):
+        setting = tuple(setting)
+        if setting not in self.kept:
+            self.kept[setting] = self.strong(setting)
+        return self.kept[setting]
+
+    def find(self, by_divisions=False):
+        """None where there is a plan, else (9, 0, marked) or (10, reach, marked)."""
+        arcs = self.arcs(())
+        if not self.strong(()):
+            for v in range(self.basins):
+                seen = self.reached(self.basins, arcs, v)
+                if len(seen) < self.basins:
+                    return 9, 0, frozenset(seen)
+        lone = self.lone_by_divisions() if by_divisions else self.lone_by_removal()
+        return (10,) + lone if lone else None
+
+    def lone_by_divisions(self):
+        found = {}
+        for side in range(2, 2 ** self.basins, 2):          # the sides without basin 0
+            crossing = [i for i, (k, a, b) in enumerate(self.reaches) if (side >> a & 1) != (side >> b & 1)]
+            if len(crossing) == 1 and self.reaches[crossing[0]][0] == GATED:
+                found[crossing[0]] = frozenset(v for v in range(self.basins) if side >> v & 1)
+        return min(found.items()) if found else None
+
+    def lone_by_removal(self):
+        for i in self.gates:
+            rest = [(a, b) for j, (k, a, b) in enumerate(self.reaches) if j != i]
+            seen = self.reached(self.basins, rest + [(b, a) for a, b in rest], 0)
+            if len(seen) < self.basins:
+                return i, frozenset(range(self.basins)) - seen
+        return None
+
+    def complete(self, start):
+        """The earliest plan that starts so, where some plan does."""
+        s = list(start)
+        while len(s) < len(self.gates):
+            s.append(0)
+            if not self.strong(s):
+                s[-1] = 1
+        return tuple(s)
+
+    def next_plan(self, setting=None):
+        """The earliest plan, or the earliest later than the setting; None if there is none. The network has a plan."""
+        if self.small:
+            return next((p for p in self.plans if setting is None or p > tuple(setting)), None)
+        if setting is None:
+            return self.complete(())
+        for i in reversed(range(len(self.gates))):
+            if setting[i] == 0 and self.strong(tuple(setting[:i]) + (1,)):      # no lone reach: so it can be completed
+                return self.complete(tuple(setting[:i]) + (1,))
+        return None
+
+
+@lru_cache(maxsize=None)
+def network(basins, reaches):
+    return Network(basins, reaches)
+
+
+def table_fault(basins, reaches):
+    if not 1 <= basins <= 256:
+        return 1
+    if len(reaches) > 1024:
+        return 2
+    return 3 if any(a >= basins or b >= basins for _, a, b in reaches) else 0
+
+
+def gates_of(reaches):
+    return sum(1 for r in reaches if r[0] == GATED)
+
+
+def misfits(reaches, setting):
+    return len(setting) != gates_of(reaches) or any(x > 1 for x in setting)
+
+
+def mark_bytes(marked):
+    return [sum(1 << bit for bit in range(8) if 8 * byte + bit in marked) for byte in range(32)]
+
+
+# ---- the calls: each gives its number and what else it replies, and changes the buffers it is lent
+
+def check(basins, reaches, setting):
+    return table_fault(basins, reaches) or (8 if misfits(reaches, setting) else 0) or \
+        ('y' if network(basins, reaches).is_plan(setting) else 'n')
+
+
+def plan_call(basins, reaches, setting, p, m):
+    """First plan (no setting) or next plan, with a plan buffer of p bytes and a marks buffer of m: number, values, plan bytes, marks bytes."""
+    number = table_fault(basins, reaches) or (8 if setting is not None and misfits(reaches, setting) else 0) or \
+        (7 if p < gates_of(reaches) or m < 32 else 0)
+    if number:
+        return number, (), (), ()
+    net = network(basins, reaches)
+    if net.finding:
+        number, reach, marked = net.finding
+        return number, (reach, len(marked)), (), mark_bytes(marked)
+    plan = net.next_plan(setting)
+    return (11, (), (), ()) if plan is None else (0, (), plan, ())
+
+
+def step_call(held, basins, reaches, p, m):
+    """A walker's step: as next plan, and the walker after it."""
+    answer = table_fault(basins, reaches) and (table_fault(basins, reaches), (), (), ())
+    answer = answer or plan_call(basins, reaches, held[:gates_of(reaches)], p, m)
+    plan = answer[2]
+    return answer, list(plan) + held[len(plan):]
+
+
+def word(s, i):
+    return s[i] + 256 * s[i + 1]
+
+
+def two(x):
+    return [x % 256, x // 256]
+
+
+def read_network(file):
+    """The number of a refusal, or (basins, reaches)."""
+    if not file:
+        return 4
+    if file[0] != 1:
+        return 5
+    if len(file) < 3:
+        return 4
+    basins, at, reaches = word(file, 1), 3, []
+    if not 1 <= basins <= 256:
+        return 1
+    while True:
+        if at == len(file):
+            return 4
+        kind = file[at]
+        if kind == 9:
+            return 6 if at + 1 < len(file) else (basins, tuple(reaches))
+        if kind not in (2, 3, 4):
+            return 5
+        if len(file) < at + 5:
+            return 4
+        if len(reaches) == 1024:
+            return 2
+        a, b = word(file, at + 1), word(file, at + 3)
+        if a >= basins or b >= basins:
+            return 3
+        reaches.append((kind - 2, a, b))
+        at += 5
+
+
+def network_file(basins, reaches):
+    return [1] + two(basins) + [x for k, a, b in reaches for x in [2 + min(k, 2)] + two(a) + two(b)] + [9]
+
+
+def read_sheet(basins, reaches, sheet, p):
+    """The number of a refusal, or the setting."""
+    fault = table_fault(basins, reaches)
+    if fault:
+        return fault
+    gates = [i for i, r in enumerate(reaches) if r[0] == GATED]
+    if not sheet:
+        return 4
+    if sheet[0] != 16:
+        return 5
+    if len(sheet) < 3:
+        return 4
+    if word(sheet, 1) != len(gates):
+        return 8
+    at, setting = 3, []
+    while True:
+        if at == len(sheet):
+            return 4
+        kind = sheet[at]
+        if kind not in (9, 17, 18):
+            return 5
+        if kind == 9:
+            break
+        if len(sheet) < at + 3:
+            return 4
+        if len(setting) == len(gates) or word(sheet, at + 1) != gates[len(setting)]:
+            return 8
+        setting.append(kind - 17)
+        at += 3
+    if len(setting) < len(gates):
+        return 8
+    if at + 1 < len(sheet):
+        return 6
+    if not network(basins, reaches).is_plan(setting):
+        return 8
+    return 7 if p < len(gates) else setting
+
+
+def plan_sheet(reaches, setting):
+    gates = [i for i, r in enumerate(reaches) if r[0] == GATED]
+    return [16] + two(len(gates)) + [x for i, s in zip(gates, setting) for x in [17 + s] + two(i)] + [9]
+
+
+def reply_sheet(basins, reaches):
+    net = network(basins, reaches)
+    if not net.finding:
+        return plan_sheet(reaches, net.next_plan())
+    number, reach, marked = net.finding
+    return ([20] if number == 9 else [21] + two(reach)) + mark_bytes(marked) + [9]
+
+
+def write(call, basins, reaches, setting, room):
+    """The number of a refusal, or the bytes."""
+    fault = table_fault(basins, reaches)
+    if fault:
+        return fault
+    if call == 'write sheet' and check(basins, reaches, setting) != 'y':
+        return 8
+    out = network_file(basins, reaches) if call == 'write network' else \
+        plan_sheet(reaches, setting) if call == 'write sheet' else reply_sheet(basins, reaches)
+    return 7 if room < len(out) else out
+
+
+def listing(file):
+    got = read_network(file[:8000])
+    if isinstance(got, int):
+        return 'refused %d\n' % got
+    net = network(*got)
+    if net.finding:
+        return 'refused %d\n' % net.finding[0]
+    lines, plan = [], net.next_plan()
+    while plan is not None and len(lines) < 1000:
+        lines.append(''.join(map(str, plan)) or '-')
+        plan = net.next_plan(plan)
+    return '\n'.join(lines + ['end' if plan is None else 'more']) + '\n'
+
+
+# ---- what is printed
+
+FULL, BRIEF, QUIET = 0, 1, 2
+
+
+class Out:
+    """How much is printed: of a single call all, but for long buffers; of many the numbers, and the short buffers of those not refused; or their count."""
+
+    def __init__(self, mode):
+        self.mode, self.number, self.run, self.sum, self.text = mode, None, 0, 0, []
+
+    def add(self, x):
+        self.sum = (self.sum * 257 + x % 65536 + 1) % 16777213
+
+    def end_run(self):
+        if self.run > 1:
+            self.text.append('x%d' % self.run)
+
+    def reply(self, number):
+        self.add({'y': 16, 'n': 17}.get(number, number))
+        if self.mode == QUIET or number == self.number and number not in (0, 9, 10):
+            self.number, self.run = number, self.run + 1
+            return
+        self.end_run()
+        self.text.append(' ' + (number if number in ('y', 'n') else '%x' % number))
+        self.number, self.run = number, 1
+
+    def value(self, x):
+        if self.mode != QUIET and self.number in (0, 9, 10):
+            self.text.append(',%d' % x)
+        self.add(x)
+
+    def row(self, entries, old=OLD):
+        for x in entries:
+            self.add(x)
+        if self.mode == FULL and len(entries) <= 512 or self.mode == BRIEF and self.number == 0 and len(entries) <= 16:
+            self.text.append('(' + ''.join(str(x) if x < 10 else '.' if x == old else '<%02x>' % x for x in entries) + ')')
+
+    def listing(self, text):
+        self.text.append('\n' + text[:2000])
+
+    def end(self):
+        self.end_run()
+        return ''.join(self.text) + ' #%06x\n' % self.sum
+
+
+# first plan is a walk that does not go on, a step a walker that does not
+CALLS = ['table', 'check', 'walk', 'next', 'make', 'walker', 'read network', 'write network', 'read sheet', 'write sheet', 'write reply', 'list']
+CODES = dict([(call, i) for i, call in enumerate(CALLS)] + [('first', 2), ('step', 5)])
+
+
+def padded(front, n, old=OLD):
+    """A buffer of n entries, after a call that wrote the front, and two entries beyond it."""
+    return list(front) + [old] * (n + 2 - len(front))
+
+
+def show_plan_call(o, answer, p, m):
+    number, values, plan, marks = answer
+    o.reply(number)
+    for x in values:
+        o.value(x)
+    o.row(padded(plan, p))
+    o.row(padded(marks, m))
+
+
+def show_step(o, answer, held, p, m):
+    show_plan_call(o, answer, p, m)
+    o.row(held[:p + 2])
+    o.row(held)
+
+
+def play(o, c, table):
+    """One call, from its bytes, on a table or on that which stands in its data."""
+    call, basins, k, x, y, p, m, n, limit = (CALLS[c[0]],) + tuple(word(c, i) for i in range(1, 17, 2))
+    s = c[19:19 + n]
+    reaches = rows_of(c[19:] if table is None else table, k, x, y)
+    held = s + [OLD] * (1024 - len(s))
+    if call == 'table':
+        o.reply(table_fault(basins, reaches))
+    elif call == 'check':
+        o.reply(check(basins, reaches, s))
+    elif call == 'next':
+        show_plan_call(o, plan_call(basins, reaches, s, p, m), p, m)
+    elif call == 'make':
+        number = check(basins, reaches, s)
+        number = 0 if number in ('y', 'n') else number
+        o.reply(number)
+        made = s + [0] * (1024 - len(s)) if number == 0 else [0] * 1024
+        o.row(made[:p])
+        o.row(made)
+    elif call == 'walk':
+        setting = None
+        for _ in range(1 + limit):
+            answer = plan_call(basins, reaches, setting, p, m)
+            show_plan_call(o, answer, p, m)
+            setting = answer[2]
+            if answer[0]:
+                break
+    elif call == 'walker':
+        for _ in range(1 + limit):
+            answer, held = step_call(held, basins, reaches, p, m)
+            show_step(o, answer, held, p, m)
+            if answer[0]:
+                break
+    elif call == 'read network':
+        got = read_network(s)
+        if not isinstance(got, int) and min(k, x, y) < len(got[1]):
+            got = 7
+        o.reply(got if isinstance(got, int) else 0)
+        if isinstance(got, int):
+            got = (0, ())
+        else:
+            o.value(got[0])
+            o.value(len(got[1]))
+        o.row(padded([r[0] for r in got[1]], k))
+        o.row(padded([r[1] for r in got[1]], x, OLD_WORD), OLD_WORD)
+        o.row(padded([r[2] for r in got[1]], y, OLD_WORD), OLD_WORD)
+    elif call == 'list':
+        text = listing(s)[:p]
+        o.reply(0)
+        o.value(len(text))
+        o.listing(text)
+        o.row(padded(text.encode(), p))
+    else:
+        got = read_sheet(basins, reaches, s, p) if call == 'read sheet' else write(call, basins, reaches, s, p)
+        o.reply(got if isinstance(got, int) else 0)
+        got = () if isinstance(got, int) else got
+        o.value(len(got))
+        o.row(padded(got, p))
+
+
+# ---- the case file
+
+def table_bytes(reaches):
+    """The number of reaches, a kind for each, then both ends of each."""
+    out = two(len(reaches)) + [k for k, _, _ in reaches] + [x for _, a, b in reaches for x in two(a) + two(b)]
+    return out + [0] * (len(out) % 2)
+
+
+@lru_cache(maxsize=None)
+def kept_rows(s, k, x, y):
+    n = word(s, 0)
+    kinds = list(s[2:2 + n])
+    ends = [(word(s, 2 + n + 4 * i), word(s, 4 + n + 4 * i)) for i in range(n)] + [(0, 0)] * (1030 - n)
+    return tuple((kind, a, b) for kind, (a, _), (_, b) in zip(kinds[:k], ends[:x], ends[:y]))
+
+
+def rows_of(s, k, x, y):
+    """A table whose rows are lent to such lengths; it is as long as the shortest."""
+    return kept_rows(tuple(s), k, x, y)
+
+
+class Group:
+    """The cases on one table."""
+
+    def __init__(self, title, reaches):
+        self.title, self.cases, self.expected = title, [], []
+        self.reaches, self.table, self.total = tuple(reaches), table_bytes(reaches), len(reaches)
+
+    def case(self, call, basins, data=(), p=0, m=32, n=None, k=None, x=None, y=None, limit=0, vary=(), mode=None, name=None, listed=False):
+        """A call, once or with variations: (field or place in the data, number of values, lowest), of which the last varies first.
+        Where it is listed, the data is the table."""
+        k, x, y = (self.total if z is None else z for z in (k, x, y))
+        n = len(data) if n is None else n
+        c = [CODES[call]] + [z for v in (basins, k, x, y, p, m, n, limit, 0) for z in two(v)] + list(data)
+        fields = {'basins': 1, 'basins high': 2, 'k': 3, 'k high': 4, 'x': 5, 'y': 7, 'p': 9, 'm': 11, 'n': 13}
+        vary = [(fields[v[0]] if v[0] in fields else 19 + v[0],) + tuple(v[1:]) for v in vary]
+        mode = mode if mode is not None else BRIEF if vary or call == 'list' else FULL
+        name = name or call
+        if not self.cases:
+            name = '== %s\n%s' % (self.title, name)
+        count = 1
+        for _, values, _ in vary:
+            count *= values
+        v = [z for place, values, lowest in vary for z in two(place) + two(values) + [lowest]]
+        head = [len(name)] + list(name.encode()) + [mode, len(vary)] + two(count % 65536) + [count // 65536] + two(len(c)) + v
+        self.cases.append((head, c, listed))
+        o = Out(mode)
+        for i in range(count):
+            d = list(c)
+            for place, values, lowest in reversed(vary):
+                d[place], i = (i % values + lowest) % 256, i // values
+            play(o, d, None if listed else self.table)
+        self.expected.append(name + ':' + o.end())
+
+    def bytes(self, place):
+        """The cases, where the table stands at this place, in steps of two bytes."""
+        out = []
+        for head, c, listed in self.cases:
+            out += head + c[:17] + two(0 if listed else place) + c[19:]
+        return out
+
+
+GROUPS = []
+
+
+def group(title, reaches):
+    GROUPS.append(Group(title, reaches))
+    return GROUPS[-1]
+
+
+def ring(basins, size, kind, odd=None):
+    """Reaches of a kind from each basin to the next, round and round, of which one may be odd."""
+    out = [(kind, i % basins, (i + 1) % basins) for i in range(size)]
+    if odd:
+        out[odd[0]] = odd[1]
+    return out
+
+
+class Sequence:
+    """A fixed sequence of numbers (xorshift, 64 bits)."""
+
+    def __init__(self, seed):
+        self.state = seed
+
+    def below(self, n):
+        x = self.state
+        x ^= x << 13 & 0xffffffffffffffff
+        x ^= x >> 7
+        x ^= x << 17 & 0xffffffffffffffff
+        self.state = x
+        return (x >> 11) % n
+
+
+G, F, T = GATED, FLAP, TWO_WAY
+
+
+def settings(g):
+    """A setting's bytes, in all ways."""
+    return [(i, 2, 0) for i in range(g)]
+
+
+# ---- cases 1 to 11, 13: all calls on small networks
+
+def whole(title, basins, reaches):
+    """Every call on a small network, from every setting."""
+    reaches = tuple(reaches)
+    gr, g = group(title, reaches), gates_of(reaches)
+    zeros, file = [0] * g, network_file(basins, reaches)
+    gr.case('table', basins)
+    gr.case('check', basins, zeros, vary=settings(g))
+    gr.case('first', basins, p=g)
+    gr.case('next', basins, zeros, p=g, vary=settings(g))
+    gr.case('walk', basins, p=g + 1, m=33, limit=1100, mode=BRIEF)
+    gr.case('make', basins, zeros, p=g + 2, vary=settings(g))
+    gr.case('step', basins, zeros, p=g, vary=settings(g))
+    gr.case('walker', basins, zeros, p=g + 1, m=33, limit=1100, mode=BRIEF)
+    gr.case('write network', basins, p=len(file))
+    gr.case('read network', 0, file, k=len(reaches), x=len(reaches) + 1, y=len(reaches) + 2)
+    gr.case('write reply', basins, p=38)
+    gr.case('write reply', basins, vary=[('p', 3, len(reply_sheet(basins, reaches)) - 1)])
+    gr.case('write sheet', basins, zeros, p=4 + 3 * g, vary=settings(g))
+    sheet = plan_sheet(reaches, zeros)
+    gr.case('read sheet', basins, sheet, p=g, vary=[(3 + 3 * i, 2, 17) for i in range(g)])
+    gr.case('read sheet', basins, reply_sheet(basins, reaches), p=g + 1)
+    gr.case('list', 0, file, p=len(listing(file)) + 16)
+
+
+whole('case 1: one basin, no reach', 1, [])
+whole('case 2: two basins, G 0-1', 2, [(G, 0, 1)])
+whole('case 3: two basins, G 0-1 twice', 2, [(G, 0, 1), (G, 0, 1)])
+whole('case 4: two basins, T 0-1', 2, [(T, 0, 1)])
+whole('case 5: two basins, F 0-1', 2, [(F, 0, 1)])
+whole('case 6: two basins, no reach', 2, [])
+whole('case 7: G 0-1, G 1-2, G 2-0', 3, [(G, 0, 1), (G, 1, 2), (G, 2, 0)])
+whole('case 8: F 1-0, G 0-1', 2, [(F, 1, 0), (G, 0, 1)])
+whole('case 9: one basin, G 0-0', 1, [(G, 0, 0)])
+whole('case 10: G 0-1, T 1-2', 3, [(G, 0, 1), (T, 1, 2)])
+whole('case 11: F 0-1, G 1-2', 3, [(F, 0, 1), (G, 1, 2)])
+whole('case 13: four basins, all six pairs gated', 4, [(G, a, b) for a in range(4) for b in range(a + 1, 4)])
+
+
+# ---- case 12: the limits
+
+EDGES = [('basins high', 2, 0), ('basins', 2, 0), ('k', 2, 0)]      # 0, 1, 256 and 257 basins; 1,024 and 1,025 reaches
+
+for title, kind in (('flaps', F), ('two-way reaches', T)):
+    gr = group('case 12: %s round a ring of 256 basins' % title, ring(256, 1026, kind))
+    for call in ('table', 'check', 'first', 'next', 'make', 'step', 'write reply', 'write sheet'):
+        gr.case(call, 0, p=4, k=1024, vary=EDGES)
+    gr.case('read sheet', 0, [16, 0, 0, 9], p=0, k=1024, vary=EDGES)
+    gr.case('write network', 0, p=5124, k=1024, vary=EDGES)
+    gr.case('write network', 256, p=5123, k=1024, vary=[('p', 3, 3)])
+    gr.case('first', 256, k=256)
+
+gr = group('case 12: gates round a ring of 256 basins, four times', ring(256, 1026, G))
+zeros = [0] * 1025
+gr.case('first', 0, p=1024, k=1024, vary=EDGES)
+gr.case('first', 256, p=1023, k=1024, vary=[('m', 3, 31)])
+gr.case('first', 256, p=1024, k=1024, vary=[('p', 3, 0), ('m', 3, 31)])
+gr.case('check', 256, zeros, n=1024, k=1024, vary=[('k', 2, 0), ('n', 2, 0), (1023, 3, 0)])
+gr.case('next', 256, zeros, n=1024, p=1024, k=1024, vary=[('k', 2, 0), ('n', 2, 0), (1023, 3, 0)])
+gr.case('make', 256, zeros, n=1024, p=16, k=1024, vary=[('k', 2, 0), ('n', 2, 0), (1023, 3, 0)])
+gr.case('step', 256, zeros[:1024], p=1024, k=1024, vary=[('k', 2, 0), (1023, 3, 0)])
+gr.case('write sheet', 256, zeros, n=1024, p=3076, k=1024, vary=[('k', 2, 0), ('n', 2, 0), ('p', 3, 3)])
+gr.case('read sheet', 256, plan_sheet(gr.reaches[:1024], zeros[:1024]), p=1024, k=1024, vary=[('k', 2, 0), (3 + 3 * 1023, 2, 17)])
+gr.case('walk', 256, p=1024, k=1024, limit=2)
+gr.case('walker', 256, zeros[:1024], p=1024, k=1024, limit=2)
+gr.case('table', 256, k=1025, x=1024, y=1026)
+gr.case('table', 256, k=1026, x=1026, y=1025)
+
+for odd, title in (((G, 256, 0), 'G 256-0'), ((G, 0, 255), 'G 0-255'), ((F, 0, 255), 'F 0-255'), ((T, 0, 255), 'T 0-255')):
+    gr = group('gates round a ring of 255 basins, and reach 700 is ' + title, ring(255, 1025, G, (700, odd)))
+    gr.case('table', 0, k=1024, vary=EDGES)
+    gr.case('first', 256, p=1024, k=1024)
+    gr.case('write reply', 0, p=3076, k=1024, vary=EDGES)
+    gr.case('write reply', 256, p=3072, k=1024, vary=[('p', 5, 0)])
+    gr.case('write reply', 256, k=1024, vary=[('p', 6, 32)])
+    gr.case('write network', 256, p=5124, k=1024)
+
+for x, y in ((3, 3), (3, 4), (4, 3), (4, 4), (65535, 0)):
+    gr = group('case 12: flaps round a ring of four basins, and F %d-%d' % (x, y), [(F, 0, 1), (F, 1, 2), (F, 2, 3), (F, 3, 0), (F, x, y)])
+    for call in ('table', 'check', 'first', 'next', 'make', 'step', 'write network', 'write sheet', 'write reply'):
+        gr.case(call, 4, p=30)
+    gr.case('read sheet', 4, [16, 0, 0, 9], p=0)
+
+for place, odd, title in ((245, (G, 245, 246), 'G 245-246'), (9, (F, 10, 9), 'F 10-9'), (0, (F, 0, 1), 'F 0-1')):
+    gr = group('256 basins in a line of two-way reaches, and reach %d is %s' % (place, title), ring(256, 255, T, (place, odd)))
+    gr.case('first', 256, p=1)
+    gr.case('next', 256, [0] * gates_of(gr.reaches), p=1, m=34)
+    gr.case('write reply', 256, p=36)
+
+
+# ---- case 14: a 16 by 16 grid, row by row the reaches to the right, then those down
+
+grid = [r for row in range(0, 256, 16) for r in [(G, v, v + 1) for v in range(row, row + 15)] + [(G, v, v + 16) for v in range(row, row + 16) if row < 240]]
+gr = group('case 14: a 16 by 16 grid', grid)
+gr.case('walk', 256, p=480, limit=10)
+gr.case('walker', 256, [0] * 480, p=480, limit=10)
+gr.case('check', 256, network(256, gr.reaches).next_plan(), vary=[(479, 2, 0)])
+gr.case('write reply', 256, p=1444)
+
+
+# ---- refusals and their order: the table, the setting, the buffers, then what the network gets
+
+TABLES = [('three basins, with plans', [(G, 0, 1), (F, 0, 1), (7, 1, 2), (G, 1, 2), (G, 2, 0)]),
+          ('a stray end A', [(G, 300, 1), (F, 0, 1), (255, 1, 2), (G, 1, 2), (G, 2, 0)]),
+          ('a stray end B', [(G, 0, 1), (F, 0, 1), (3, 1, 2), (G, 1, 2), (G, 2, 65535)]),
+          ('three basins, a lone reach', [(G, 0, 1), (F, 0, 1), (F, 1, 0), (G, 1, 2), (G, 0, 1)]),
+          ('three basins, shut in', [(G, 0, 1), (F, 1, 2), (F, 1, 2), (G, 1, 0), (G, 0, 1)])]
+
+for title, reaches in TABLES:
+    gr = group('order: ' + title, reaches + [(G, 0, 9), (G, 9, 0)])
+    at_five = dict(k=5, x=5, y=5)
+    table, setting, rooms = [('basins high', 2, 0), ('basins', 5, 0)], [('n', 3, 2), (2, 3, 0)], [('p', 3, 2), ('m', 3, 31)]
+    gr.case('table', 3, vary=table, **at_five)
+    gr.case('check', 3, [0, 0, 0, 0], vary=table + setting, **at_five)
+    gr.case('first', 3, vary=table + rooms, **at_five)
+    gr.case('next', 3, [0, 0, 0, 0], vary=table + setting + rooms, **at_five)
+    gr.case('next', 3, [1, 1, 0, 0], vary=[('basins', 3, 2)] + setting + rooms, **at_five)
+    gr.case('make', 3, [0, 1, 0, 0], p=5, vary=table + setting, **at_five)
+    gr.case('step', 3, [0, 0, 0, 0], n=4, vary=table + [(2, 3, 0), (3, 3, 0)] + rooms, **at_five)
+    gr.case('step', 3, [1, 1, 0, 0], n=3, vary=[('basins', 3, 2), (2, 3, 0)] + rooms, **at_five)
+    gr.case('write network', 3, vary=table + [('p', 3, 28)], **at_five)
+    gr.case('write reply', 3, vary=table + [('p', 27, 12)], **at_five)
+    gr.case('write sheet', 3, [0, 0, 0, 0], vary=table + setting + [('p', 3, 12)], **at_five)
+    sheet = plan_sheet(reaches, [0, 0, 0])
+    gr.case('read sheet', 3, sheet + [0], vary=table + [('n', 4, 11), (9, 4, 16), ('p', 3, 2)], **at_five)
+    lengths = [('k', 4, 4), ('x', 4, 4), ('y', 4, 4)]
+    gr.case('table', 3, vary=lengths)
+    gr.case('first', 3, p=8, vary=lengths)
+    gr.case('write network', 3, p=40, vary=lengths)
+    gr.case('check', 3, [0, 0, 0, 0, 0], vary=lengths + [('n', 3, 2)])
+    gr.case('read sheet', 3, sheet, p=8, vary=lengths)
+
+
+# ---- small networks of a fixed sequence, all different
+
+def some_networks():
+    numbers, seen = Sequence(20261116), set()
+    due = {0: 52, 9: 20, 10: 28}
+    while sum(due.values()):
+        basins, size, most = 1 + numbers.below(6), numbers.below(11), 1 + numbers.below(4)
+        reaches = tuple(((G, G, G, F, T, 2 + numbers.below(254))[numbers.below(6)] if most > 1 else G, numbers.below(basins), numbers.below(basins))
+                        for _ in range(size))
+        finding = network(basins, reaches).finding
+        number = finding[0] if finding else 0
+        if due[number] and (basins, reaches) not in seen and (size > 4 or numbers.below(4) == 0):
+            due[number] -= 1
+            seen.add((basins, reaches))
+            yield basins, reaches
+
+
+for i, (basins, reaches) in enumerate(some_networks()):
+    gr, g = group('network %d: %d basins, %s' % (i + 1, basins, ' '.join('%s%d-%d' % ('GFT'[min(k, 2)], a, b) for k, a, b in reaches)), reaches), \
+        gates_of(reaches)
+    zeros = [0] * g
+    gr.case('first', basins, p=g)
+    gr.case('check', basins, zeros, vary=settings(g))
+    if network(basins, reaches).finding is None:
+        gr.case('walk', basins, p=g, limit=1100, mode=BRIEF)
+        if g <= 6:
+            gr.case('next', basins, zeros, p=g, vary=settings(g))
+        if g <= 4:
+            gr.case('step', basins, zeros, p=g, vary=settings(g))
+    gr.case('write reply', basins, vary=[('p', 3, len(reply_sheet(basins, reaches)) - 1)])
+
+
+# ---- all networks of a few reaches: their plans in order
+
+def networks(basins, size, mode):
+    ends = 2 + size
+    vary = [v for i in range(size) for v in ((2 + i, 3, 0), (ends + 4 * i, basins, 0), (ends + 2 + 4 * i, basins, 0))]
+    gr.case('walk', basins, table_bytes([(G, 0, 0)] * size), p=size, k=size, x=size, y=size, limit=1100, vary=vary, mode=mode, listed=True,
+            name='%d basins, %d reaches' % (basins, size))
+
+
+gr = group('all networks of a few reaches', [])
+for basins, size, mode in ((2, 1, BRIEF), (2, 2, BRIEF), (3, 1, BRIEF), (3, 2, BRIEF), (2, 3, QUIET), (3, 3, QUIET)):
+    networks(basins, size, mode)
+
+
+# ---- network files
+
+SMALL = network_file(3, [(G, 0, 1), (F, 1, 2), (T, 2, 0)])
+ROWS = dict(k=15, x=15, y=15)
+gr = group('network files: three basins, a reach of each kind', [])
+gr.case('read network', 0, SMALL, k=3, x=4, y=5)
+gr.case('read network', 0, SMALL, vary=[('n', 20, 0)], **ROWS)
+gr.case('read network', 0, SMALL, vary=[('k', 5, 0), ('x', 5, 0), ('y', 5, 0)])
+gr.case('read network', 0, SMALL + [0], vary=[(19, 256, 0)], **ROWS)
+for place in range(len(SMALL)):
+    gr.case('read network', 0, SMALL + [0], vary=[('n', 21, 0), (place, 256, 0)], name='read network, each value at %d' % place, **ROWS)
+    gr.case('read network', 0, SMALL, vary=[('k', 2, 2), ('x', 2, 2), ('y', 2, 2), (place, 256, 0)], name='rows too short, each value at %d' % place,
+            k=15, x=15, y=15)
+gr.case('read network', 0, [1, 0, 0, 9], vary=[(2, 256, 0), (1, 256, 0)], name='read network, each basin count', **ROWS)
+gr.case('read network', 0, [1, 4, 0, 2, 0, 0, 3, 0, 9], vary=[(5, 256, 0), (4, 256, 0)], name='read network, each end A', **ROWS)
+gr.case('read network', 0, [1, 4, 0, 3, 3, 0, 0, 0, 9], vary=[(7, 256, 0), (6, 256, 0)], name='read network, each end B', **ROWS)
+gr.case('list', 0, SMALL, p=40, vary=[('n', 20, 0)])
+gr.case('list', 0, SMALL, p=40, vary=[(1, 3, 1), (3, 4, 1), (18, 2, 8)])
+for p in (0, 1, 5, 6, 7):
+    gr.case('list', 0, network_file(2, [(G, 0, 1), (G, 0, 1)]), p=p)
+gr.case('list', 0, network_file(1, [(G, 0, 0)] * 10), p=11050)
+gr.case('list', 0, network_file(1, [(G, 0, 0)] * 9 + [(T, 0, 0)]), p=5200)
+
+many = [(i % 3, i % 4, i // 4 % 4) for i in range(1024)]
+file = network_file(4, many)[:-1] + [2, 3, 0, 0, 0, 9]
+gr = group('network files: 1,024 reaches, then each kind byte', [])
+gr.case('read network', 0, file, n=5123, k=1024, x=1024, y=1024, vary=[('k high', 2, 3), (5124, 2, 3), ('n', 7, 3), (5123, 256, 0)])
+gr.case('list', 0, file, p=20)
+
+
+# ---- sheets
+
+reaches = TABLES[0][1]
+sheet = plan_sheet(reaches, [0, 0, 0])
+kinds = [(3, 2, 17), (6, 2, 17), (9, 2, 17)]
+gr = group('sheets: three basins, G 0-1, F 0-1, T 1-2, G 1-2, G 2-0', reaches)
+gr.case('read sheet', 3, sheet, p=3)
+gr.case('read sheet', 3, sheet, p=3, vary=kinds)
+gr.case('read sheet', 3, sheet + [0], p=3, vary=[('n', 15, 0)] + kinds)
+for place in range(len(sheet) + 1):
+    gr.case('read sheet', 3, sheet + [0], p=15, vary=[('n', 15, 0)] + [v for v in kinds if v[0] != place] + [(place, 256, 0)],
+            name='read sheet, each value at %d' % place)
+for place in range(len(sheet)):
+    gr.case('read sheet', 3, sheet, vary=[('p', 5, 0), (place, 256, 0)], name='rooms of 0 to 4, each value at %d' % place)
+for n in range(5):
+    records = [x for _ in range(n) for x in (17, 0, 0)]
+    gr.case('read sheet', 3, [16, 3, 0] + records + [9], p=4, vary=[(4 + 3 * i, 6, 0) for i in range(n)] + [(3 + 3 * i, 2, 17) for i in range(n)],
+            name='read sheet, %d records of reaches 0 to 5' % n)
+for place in (1, 4, 7, 10):
+    gr.case('read sheet', 3, sheet, p=4, vary=[(place + 1, 256, 0), (place, 256, 0)], name='read sheet, each number at %d' % place)
+for found in ([20] + mark_bytes({0, 9}) + [9], [21, 1, 0] + mark_bytes({1}) + [9]):
+    gr.case('read sheet', 3, found, p=3, name='read a finding sheet')
+gr.case('write sheet', 3, [0, 0, 0, 0], vary=[('n', 5, 0), (0, 4, 0), (1, 4, 0), (2, 4, 0), (3, 4, 0), ('p', 4, 11)])
+gr.case('write sheet', 3, [0, 0, 0], vary=settings(3) + [('p', 16, 0)])
+
+
+def main():
+    here = os.path.dirname(os.path.abspath(__file__))
+    tables, places = [], []
+    for g in GROUPS:
+        places.append((4 + len(tables)) // 2)
+        tables += g.table
+    cases = [x for g, place in zip(GROUPS, places) for x in g.bytes(place)]
+    with open(os.path.join(here, 'stdin'), 'wb') as f:
+        f.write(bytes(two(sum(len(g.cases) for g in GROUPS)) + two((4 + len(tables)) // 2) + tables + cases))
+    with open(os.path.join(here, 'stdout'), 'w') as f:
+        f.write(''.join(x for g in GROUPS for x in g.expected))
+
+
+main()

@@ -1,0 +1,170 @@
+// The calls that read and write network files and sheets, and the listing.
+use crate::bounds::OLD;
+use crate::bounds::OLD_WORD;
+use crate::bounds::front;
+use crate::bounds::front_words;
+use crate::bounds::sum;
+use crate::bounds::within;
+use crate::bounds::within_words;
+use crate::plans::number;
+use crate::show;
+use crate::show::Out;
+use crate::table_rows::ROOM;
+use netfile_format::ReadAnswer;
+use file_records::WriteAnswer;
+use sheetfile::SheetAnswer;
+
+// The lengths of the rows that are lent.
+pub struct Lengths {
+    pub kinds: usize,
+    pub a: usize,
+    pub b: usize,
+}
+
+// A reader's answer, and the rows afterwards.
+pub struct Reading {
+    answer: ReadAnswer,
+    kinds: [u8; ROOM],
+    a: [u16; ROOM],
+    b: [u16; ROOM],
+}
+
+pub fn read(file: &[u8], n: Lengths) -> Reading {
+    let mut kinds = [OLD; ROOM];
+    let mut a = [OLD_WORD; ROOM];
+    let mut b = [OLD_WORD; ROOM];
+    let k = within(&kinds, n.kinds);
+    let x = within_words(&a, n.a);
+    let y = within_words(&b, n.b);
+    let answer = netfile::read_network_rows(file, &mut kinds[..k], &mut a[..x], &mut b[..y]);
+    Reading {
+        answer,
+        kinds,
+        a,
+        b,
+    }
+}
+
+fn show_read(o: Out, answer: ReadAnswer) -> Out {
+    match answer {
+        ReadAnswer::Refused(r) => show::reply(o, number(r)),
+        ReadAnswer::Read { basins, reaches } => {
+            let o = show::reply(o, 0);
+            let o = show::value(o, basins as u64);
+            show::value(o, reaches as u64)
+        }
+    }
+}
+
+// A row of ends, with two entries beyond the first n.
+fn show_ends(o: Out, row: &[u16; ROOM], n: usize) -> Out {
+    show::words(o, front_words(row, sum(n, 2)))
+}
+
+// Prints a reader's answer and the rows, with two entries beyond each.
+pub fn show_rows(o: Out, r: Reading, n: Lengths) -> Out {
+    let answer = r.answer;
+    let kinds = r.kinds;
+    let a = r.a;
+    let b = r.b;
+    let o = show_read(o, answer);
+    let o = show::bytes(o, front(&kinds, sum(n.kinds, 2)));
+    let o = show_ends(o, &a, n.a);
+    show_ends(o, &b, n.b)
+}
+
+// What a writer or the sheet reader answers: 0 and the length, or the number of the refusal.
+struct Size {
+    number: u8,
+    length: usize,
+}
+
+fn written(answer: WriteAnswer) -> Size {
+    match answer {
+        WriteAnswer::Refused(r) => Size {
+            number: number(r),
+            length: 0,
+        },
+        WriteAnswer::Written(length) => Size { number: 0, length },
+    }
+}
+
+fn sheet_read(answer: SheetAnswer) -> Size {
+    match answer {
+        SheetAnswer::Refused(r) => Size {
+            number: number(r),
+            length: 0,
+        },
+        SheetAnswer::Read(length) => Size { number: 0, length },
+    }
+}
+
+// An answer, and the buffer afterwards.
+pub struct Left {
+    size: Size,
+    bytes: [u8; 11100],
+}
+
+// The calls, by the bytes of the case file.
+const WRITE_NETWORK: u8 = 7;
+
+const READ_SHEET: u8 = 8;
+
+const WRITE_SHEET: u8 = 9;
+
+const WRITE_REPLY: u8 = 10;
+
+const LIST: u8 = 11;
+
+fn fill(
+    call: u8,
+    basins: u16,
+    kinds: &[u8],
+    a: &[u16],
+    b: &[u16],
+    s: &[u8],
+    out: &mut [u8],
+) -> Size {
+    match call {
+        WRITE_NETWORK => written(netfile::write_network_rows(basins, kinds, a, b, out)),
+        READ_SHEET => sheet_read(sheet::read_sheet_rows(basins, kinds, a, b, s, out)),
+        WRITE_SHEET => written(sheet::write_sheet_rows(basins, kinds, a, b, s, out)),
+        WRITE_REPLY => written(sheet::write_reply_rows(basins, kinds, a, b, out)),
+        _ => Size {
+            number: 0,
+            length: listing::laws::list(s, out),
+        },
+    }
+}
+
+pub fn filled(
+    call: u8,
+    basins: u16,
+    kinds: &[u8],
+    a: &[u16],
+    b: &[u16],
+    s: &[u8],
+    room: usize,
+) -> Left {
+    let mut bytes = [OLD; 11100];
+    let n = within(&bytes, room);
+    let size = fill(call, basins, kinds, a, b, s, &mut bytes[..n]);
+    Left { size, bytes }
+}
+
+// A listing as the text it is, or what is at most 2,000 bytes of it.
+fn show_text(call: u8, s: &[u8]) {
+    if call == LIST {
+        io::write_all(1, b"\n");
+        io::write_all(1, front(s, 2000));
+    }
+}
+
+// Prints an answer and the buffer, with two bytes beyond it.
+pub fn show_left(o: Out, call: u8, x: Left, room: usize) -> Out {
+    let size = x.size;
+    let bytes = x.bytes;
+    let o = show::value(show::reply(o, size.number), size.length as u64);
+    show_text(call, front(&bytes, size.length));
+    show::bytes(o, front(&bytes, sum(room, 2)))
+}

@@ -1,0 +1,213 @@
+// The public calls over rows, replayed from a file of cases. Of each call is printed what it replies and what it leaves in every lent buffer and in
+// two entries beyond. What is to be printed comes from make.py, which knows nothing of this code.
+mod bounds;
+mod files;
+mod plans;
+mod show;
+mod table_rows;
+
+use bounds::byte_at;
+use bounds::front;
+use bounds::front_words;
+use bounds::rest;
+use bounds::sum;
+use bounds::word_at;
+use files::Lengths;
+use plans::Room;
+use show::Out;
+
+// The calls, by the bytes of the case file; those of files stand there.
+const TABLE: u8 = 0;
+
+const CHECK: u8 = 1;
+
+const WALK: u8 = 2;
+
+const NEXT: u8 = 3;
+
+const MAKE: u8 = 4;
+
+const STEPS: u8 = 5;
+
+const READ_NETWORK: u8 = 6;
+
+// A case's bytes: the call; the basin count; the lengths of the three rows; those of two buffers; that of the data; how often to go on; where the
+// table stands, in steps of two bytes; the data, which is the table where that stands nowhere.
+const CASE: usize = 5300;
+
+const DATA: usize = 19;
+
+// The calls of the planner and of the walker.
+fn ask(o: Out, c: &[u8], kinds: &[u8], a: &[u16], b: &[u16], s: &[u8]) -> Out {
+    let call = byte_at(c, 0);
+    let basins = word_at(c, 1);
+    let plan = word_at(c, 9) as usize;
+    let marks = word_at(c, 11) as usize;
+    let room = Room { plan, marks };
+    let n = word_at(c, 15) as usize;
+    match call {
+        TABLE => show::reply(o, plans::table_number(basins, kinds, a, b)),
+        CHECK => show::reply(o, plans::check_number(basins, kinds, a, b, s)),
+        WALK => plans::walk(o, basins, kinds, a, b, room, n),
+        NEXT => plans::show_got(o, plans::next(basins, kinds, a, b, s, room), room),
+        MAKE => plans::show_made(o, basins, kinds, a, b, s, plan),
+        _ => plans::steps(o, plans::walker_of(s), basins, kinds, a, b, room, n),
+    }
+}
+
+fn read(o: Out, c: &[u8], s: &[u8]) -> Out {
+    let n = Lengths {
+        kinds: word_at(c, 3) as usize,
+        a: word_at(c, 5) as usize,
+        b: word_at(c, 7) as usize,
+    };
+    files::show_rows(o, files::read(s, n), n)
+}
+
+fn write(o: Out, c: &[u8], kinds: &[u8], a: &[u16], b: &[u16], s: &[u8]) -> Out {
+    let call = byte_at(c, 0);
+    let room = word_at(c, 9) as usize;
+    let left = files::filled(call, word_at(c, 1), kinds, a, b, s, room);
+    files::show_left(o, call, left, room)
+}
+
+// One call, on a table whose kinds and ends these are.
+fn play_on(o: Out, c: &[u8], kinds: &[u8], a: &[u16], b: &[u16]) -> Out {
+    let ks = front(kinds, word_at(c, 3) as usize);
+    let xs = front_words(a, word_at(c, 5) as usize);
+    let ys = front_words(b, word_at(c, 7) as usize);
+    let s = front(rest(c, DATA), word_at(c, 13) as usize);
+    let call = byte_at(c, 0);
+    match call {
+        TABLE..=STEPS => ask(o, c, ks, xs, ys, s),
+        READ_NETWORK => read(o, c, s),
+        _ => write(o, c, ks, xs, ys, s),
+    }
+}
+
+fn play_with(o: Out, c: &[u8], table: &[u8]) -> Out {
+    let ends = table_rows::load(table);
+    let a = ends.a;
+    let b = ends.b;
+    play_on(
+        o,
+        c,
+        front(rest(table, 2), word_at(table, 0) as usize),
+        &a,
+        &b,
+    )
+}
+
+struct Case {
+    bytes: [u8; CASE],
+}
+
+// One call, on the table of its case.
+fn play(o: Out, x: Case, file: &[u8]) -> Out {
+    let bytes = x.bytes;
+    let c = front(&bytes, CASE);
+    let at = 2 * (word_at(c, 17) as usize);
+    if at == 0 {
+        play_with(o, c, rest(c, DATA))
+    } else {
+        play_with(o, c, rest(file, at))
+    }
+}
+
+fn copied(c: &[u8]) -> Case {
+    let mut bytes = [0u8; CASE];
+    let mut i: usize = 0;
+    while i < CASE {
+        if i < c.len() {
+            bytes[i] = c[i];
+        }
+        i += 1;
+    }
+    Case { bytes }
+}
+
+// The case with the value of number v of a variation: the place of a byte, the number of its values, and the lowest of them.
+fn with_value(mut c: Case, variation: &[u8], v: usize) -> Case {
+    let i = word_at(variation, 0) as usize;
+    let count = word_at(variation, 2) as usize;
+    if count == 0 {
+        return c;
+    }
+    if i < CASE {
+        c.bytes[i] = ((v % count % 65536 + byte_at(variation, 4) as usize) % 256) as u8;
+    }
+    c
+}
+
+// The number that is left for the variations before it.
+fn number_left(v: usize, variation: &[u8]) -> usize {
+    let count = word_at(variation, 2) as usize;
+    if count == 0 {
+        return v;
+    }
+    v / count
+}
+
+// The case of number v; the last variation varies first.
+fn varied(c: Case, variations: &[u8], v: usize) -> Case {
+    let mut x = c;
+    let mut left = v;
+    let mut n = variations.len() / 5;
+    while n > 0 {
+        n -= 1;
+        let variation = rest(variations, 5 * (n % 256));
+        x = with_value(x, variation, left);
+        left = number_left(left, variation);
+    }
+    x
+}
+
+// A case with all its variations.
+fn play_all(o: Out, c: &[u8], variations: &[u8], count: usize, file: &[u8]) -> Out {
+    let case = copied(c);
+    let mut o = o;
+    let mut v: usize = 0;
+    while v < count {
+        o = play(o, varied(case, variations, v), file);
+        v += 1;
+    }
+    o
+}
+
+// The case at the start of s: the length of its name, the name; how much is printed, the number of variations, how many cases they make, the length of
+// the call; the variations; the call. Answers how many bytes these are.
+fn play_case(s: &[u8], file: &[u8]) -> usize {
+    let l = byte_at(s, 0) as usize;
+    io::write_all(1, front(rest(s, 1), l));
+    io::write_all(1, b":");
+    let t = rest(s, sum(l, 1));
+    let v = 5 * (byte_at(t, 1) as usize);
+    let count = 65536 * (byte_at(t, 4) as usize) + word_at(t, 2) as usize;
+    let n = word_at(t, 5) as usize;
+    let c = front(rest(t, sum(7, v)), n);
+    let o = Out {
+        mode: byte_at(t, 0),
+        number: 255,
+        run: 0,
+        sum: 0,
+    };
+    show::end(play_all(o, c, front(rest(t, 7), v), count, file));
+    sum(sum(l, 8), sum(v, n))
+}
+
+// The file: the number of cases, where they start, in steps of two bytes; the tables; the cases.
+fn play_cases(file: &[u8]) {
+    let n = word_at(file, 0) as usize;
+    let mut at = 2 * (word_at(file, 2) as usize);
+    let mut i: usize = 0;
+    while i < n {
+        at = sum(at, play_case(rest(file, at), file));
+        i += 1;
+    }
+}
+
+fn main() {
+    let mut cases = [0u8; 150000];
+    let n = io::read_full(0, &mut cases);
+    play_cases(&cases[..n]);
+}

@@ -1,0 +1,252 @@
+// The planner's and the walker's calls.
+use crate::bounds::OLD;
+use crate::bounds::front;
+use crate::bounds::sum;
+use crate::bounds::within;
+use crate::show;
+use crate::show::Out;
+use network::Refusal;
+use planner::Answer;
+use planner::CheckAnswer;
+use planner::Finding;
+use planner::Verdict;
+use tables::TableAnswer;
+use walker::MakeAnswer;
+use walker::Walker;
+
+// Document 01's number of a refusal.
+pub fn number(r: Refusal) -> u8 {
+    match r {
+        Refusal::BasinCount => 1,
+        Refusal::TooManyReaches => 2,
+        Refusal::EndOutOfRange => 3,
+        Refusal::Truncated => 4,
+        Refusal::UnknownKind => 5,
+        Refusal::TrailingBytes => 6,
+        Refusal::ShortBuffer => 7,
+        Refusal::BadSetting => 8,
+        Refusal::LastPlan => 11,
+    }
+}
+
+// What the table gets, and the check of a setting.
+pub fn table_number(basins: u16, kinds: &[u8], a: &[u16], b: &[u16]) -> u8 {
+    match tables::table_fault(basins, kinds, a, b) {
+        TableAnswer::Refused(r) => number(r),
+        TableAnswer::Accepted => 0,
+    }
+}
+
+pub fn check_number(basins: u16, kinds: &[u8], a: &[u16], b: &[u16], setting: &[u8]) -> u8 {
+    match planner::check_rows(basins, kinds, a, b, setting) {
+        CheckAnswer::Refused(r) => number(r),
+        CheckAnswer::Yes => show::YES,
+        CheckAnswer::No => show::NO,
+    }
+}
+
+// A finding's number, reach and count.
+fn show_finding(o: Out, number: u8, f: Finding) -> Out {
+    let o = show::value(show::reply(o, number), f.reach as u64);
+    show::value(o, f.count as u64)
+}
+
+// What first and next plan answer: 0 for a plan, else the number.
+fn show_answer(o: Out, answer: Answer) -> Out {
+    match answer {
+        Answer::Refused(r) => show::reply(o, number(r)),
+        Answer::Given(reply) => {
+            let verdict = reply.verdict;
+            match verdict {
+                Verdict::Plan => show::reply(o, 0),
+                Verdict::ShutIn(f) => show_finding(o, 9, f),
+                Verdict::Lone(f) => show_finding(o, 10, f),
+            }
+        }
+    }
+}
+
+// The lengths of the buffers that are lent.
+pub struct Room {
+    pub plan: usize,
+    pub marks: usize,
+}
+
+// An answer, and the buffers afterwards.
+pub struct Got {
+    answer: Answer,
+    plan: [u8; 1040],
+    marks: [u8; 40],
+}
+
+fn first(basins: u16, kinds: &[u8], a: &[u16], b: &[u16], room: Room) -> Got {
+    let mut plan = [OLD; 1040];
+    let mut marks = [OLD; 40];
+    let p = within(&plan, room.plan);
+    let m = within(&marks, room.marks);
+    let answer = planner::first_plan_rows(basins, kinds, a, b, &mut plan[..p], &mut marks[..m]);
+    Got {
+        answer,
+        plan,
+        marks,
+    }
+}
+
+pub fn next(basins: u16, kinds: &[u8], a: &[u16], b: &[u16], setting: &[u8], room: Room) -> Got {
+    let mut plan = [OLD; 1040];
+    let mut marks = [OLD; 40];
+    let p = within(&plan, room.plan);
+    let m = within(&marks, room.marks);
+    let answer = planner::next_plan_rows(
+        basins,
+        kinds,
+        a,
+        b,
+        setting,
+        &mut plan[..p],
+        &mut marks[..m],
+    );
+    Got {
+        answer,
+        plan,
+        marks,
+    }
+}
+
+// Prints an answer and the buffers, with two bytes beyond each.
+pub fn show_got(o: Out, g: Got, room: Room) -> Out {
+    let plan = g.plan;
+    let marks = g.marks;
+    let answer = g.answer;
+    let o = show_answer(o, answer);
+    let o = show::bytes(o, front(&plan, sum(room.plan, 2)));
+    show::bytes(o, front(&marks, sum(room.marks, 2)))
+}
+
+// A step's answer and buffers, and the walker after it.
+struct Step {
+    got: Got,
+    walker: Walker,
+}
+
+fn take_step(walker: Walker, basins: u16, kinds: &[u8], a: &[u16], b: &[u16], room: Room) -> Step {
+    let mut plan = [OLD; 1040];
+    let mut marks = [OLD; 40];
+    let p = within(&plan, room.plan);
+    let m = within(&marks, room.marks);
+    let stepped = walker.step_rows(basins, kinds, a, b, &mut plan[..p], &mut marks[..m]);
+    let answer = stepped.answer;
+    let walker = stepped.walker;
+    let got = Got {
+        answer,
+        plan,
+        marks,
+    };
+    Step { got, walker }
+}
+
+// A walker's first n bytes, and all of them to the sum.
+fn show_setting(o: Out, setting: &[u8; 1024], n: usize) -> Out {
+    let o = show::bytes(o, front(setting, n));
+    show::bytes(o, setting)
+}
+
+fn show_step(o: Out, s: Step, room: Room) -> Out {
+    let walker = s.walker;
+    let setting = walker.setting;
+    let got = s.got;
+    let o = show_got(o, got, room);
+    show_setting(o, &setting, sum(room.plan, 2))
+}
+
+// The walker of these bytes, with untouched ones after them.
+pub fn walker_of(s: &[u8]) -> Walker {
+    let mut setting = [OLD; 1024];
+    let mut i: usize = 0;
+    while i < 1024 {
+        if i < s.len() {
+            setting[i] = s[i];
+        }
+        i += 1;
+    }
+    Walker { setting }
+}
+
+// Makes a walker of a setting.
+pub fn show_made(
+    o: Out,
+    basins: u16,
+    kinds: &[u8],
+    a: &[u16],
+    b: &[u16],
+    s: &[u8],
+    n: usize,
+) -> Out {
+    let made = Walker::make_rows(basins, kinds, a, b, s);
+    let answer = made.answer;
+    let walker = made.walker;
+    let setting = walker.setting;
+    let o = show::reply(
+        o,
+        match answer {
+            MakeAnswer::Refused(r) => number(r),
+            MakeAnswer::Made => 0,
+        },
+    );
+    show_setting(o, &setting, n)
+}
+
+// The next plan of the plan that was got.
+fn after(g: Got, basins: u16, kinds: &[u8], a: &[u16], b: &[u16], room: Room) -> Got {
+    let plan = g.plan;
+    next(
+        basins,
+        kinds,
+        a,
+        b,
+        front(&plan, tables::count_gates(kinds)),
+        room,
+    )
+}
+
+// The first plan and the next ones, to a refusal, or so many of these.
+pub fn walk(o: Out, basins: u16, kinds: &[u8], a: &[u16], b: &[u16], room: Room, n: usize) -> Out {
+    let mut g = first(basins, kinds, a, b, room);
+    let mut o = show_got(o, g, room);
+    let mut left = n;
+    while left > 0 {
+        left -= 1;
+        if o.number != 0 {
+            return o;
+        }
+        g = after(g, basins, kinds, a, b, room);
+        o = show_got(o, g, room);
+    }
+    o
+}
+
+// A step of a walker and those after it, to a refusal, or so many of these.
+pub fn steps(
+    o: Out,
+    walker: Walker,
+    basins: u16,
+    kinds: &[u8],
+    a: &[u16],
+    b: &[u16],
+    room: Room,
+    n: usize,
+) -> Out {
+    let mut s = take_step(walker, basins, kinds, a, b, room);
+    let mut o = show_step(o, s, room);
+    let mut left = n;
+    while left > 0 {
+        left -= 1;
+        if o.number != 0 {
+            return o;
+        }
+        let walker = s.walker;
+        s = take_step(walker, basins, kinds, a, b, room);
+        o = show_step(o, s, room);
+    }
+    o
+}
