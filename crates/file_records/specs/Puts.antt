@@ -13,11 +13,6 @@ use Rattle.network.specs.Replies.{refusalNumber}
 use Rattle.file_records.specs.declared.WriteAnswer.{WriteAnswer}
 use Rattle.file_records.specs.declared.WriteAnswer.the-variants.{Refused, Written}
 
--- The first refusal of two that there is.
-abbrev pub firstOf : Option Refusal → Option Refusal → Option Refusal
-firstOf (some r) o = some r
-firstOf none o = o
-
 -- Document 01's number of the writer's answer, 0 where the bytes are written; and the same of a refusal, if there is one.
 abbrev pub writeNumber : WriteAnswer → ℕ
 writeNumber (Refused r) = refusalNumber r

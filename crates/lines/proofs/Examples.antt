@@ -10,7 +10,8 @@ use Rattle.network.specs.Replies.{shutInSide, loneSide, shutInFinding, loneFind
 use Rattle.file_records.specs.Records.{bodyOf}
 use Rattle.netfile_format.specs.Files.{readReaches, readFile}
 use Rattle.lines.specs.Listings.{plansFrom, listing}
-use Rattle.lines.specs.Examples.{examples, limits, case3}
+use Rattle.network.specs.Cases.{case3}
+use Rattle.lines.specs.Examples.{examples, limits}
 
 pub examples-hold : map (λ e. listing (e .0)) examples ≡ map (λ e. e .1) examples
 unfolding isSetting strongUnder isPlan passable firstPlan nextPlan crossesAlone isLone lowestLone marksOf shutInSide loneSide shutInFinding loneFinding answer firstAnswer bodyOf readReaches readFile plansFrom listing

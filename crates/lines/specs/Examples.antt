@@ -3,8 +3,6 @@
 use Prim.Native.Nat.{ℕ}
 use mathlib.Core.List.{List, [], _∷_, _++_}
 use lib.ListN.{replicate}
-use Rattle.network.specs.Networks.{Network}
-use Rattle.network.specs.Cases.{G, net}
 
 -- a record of a gated reach, a flap and a two-way reach between basins below 256
 abbrev pub gated : ℕ → ℕ → List ℕ
@@ -49,6 +47,3 @@ examples =
 abbrev pub limits : List (ℕ × List ℕ)
 limits =
     (0, more) ∷ (1, 48 ∷ 49 ∷ 10 ∷ more) ∷ (2, 48 ∷ 49 ∷ 10 ∷ 49 ∷ 48 ∷ 10 ∷ ending) ∷ (3, 48 ∷ 49 ∷ 10 ∷ 49 ∷ 48 ∷ 10 ∷ ending) ∷ []
-
-abbrev pub case3 : Network
-case3 = net 2 (G 0 1 ∷ G 0 1 ∷ [])

@@ -12,7 +12,7 @@ use lib.Dec.{ltb, eqb}
 use borrow.Author.Tests.{eqb-true, eqb-false}
 use Rattle.lists.proofs.Bools.{decide}
 use Rattle.network.specs.Networks.{Network}
-use Rattle.tables.specs.Rows.{netOf}
+use Rattle.tables.specs.Rows.{netOf, gatesHeld}
 use Rattle.lines.specs.declared.Due.{Due}
 use Rattle.lines.specs.declared.Due.the-variants as D
 use Rattle.lines.specs.Listings.{line, character, planText}
@@ -21,7 +21,7 @@ use Rattle.lists.proofs.Lists.{Copied, nil-of-length, copied-none, copied-lengt
 use Rattle.lines.proofs.Puts.{copied-end, put-copied}
 use Rattle.listing.specs.declared.Lister.{Lister}
 use Rattle.listing.specs.declared.Filled.{Filled}
-use Rattle.listing.specs.Pending.{lineOf, linesAfter, gatesHeld, planIn, restOf, pendingOf, lentNet, pending, Filling}
+use Rattle.listing.specs.Pending.{lineOf, linesAfter, planIn, restOf, pendingOf, lentNet, pending, Filling}
 use Rattle.listing.specs.Parts.{Turned}
 
 -- n bytes of what is to be printed in l stand in the buffer; the others are to be printed in the state.

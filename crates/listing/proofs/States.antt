@@ -20,7 +20,7 @@ use Rattle.network.specs.Replies.{Outcome, plan, shutIn, lone, refused, refusal
 use Rattle.network.proofs.Networks.{accepted, gates-fit}
 use Rattle.network.proofs.Order.{setting-length, plan-setting, first-is-plan, next-is-plan}
 use Rattle.network.proofs.Replies.{given-iff, first-given, next-given, unless-plan}
-use Rattle.tables.specs.Rows.{netOf}
+use Rattle.tables.specs.Rows.{netOf, gatesHeld}
 use Rattle.planner.specs.declared.Answer.{Answer}
 use Rattle.planner.specs.Answers.{answerOf, Written}
 use Rattle.lines.specs.declared.Due.{Due}
@@ -28,7 +28,7 @@ use Rattle.lines.specs.declared.Due.the-variants as D
 use Rattle.lines.specs.Listings.{maxPlans, line, planText, endText, refusedText, plansFrom, refusalLine, replyLines}
 use Rattle.lines.specs.Dues.{refusalDue, dueOf}
 use Rattle.listing.specs.declared.Lister.{Lister}
-use Rattle.listing.specs.Pending.{lineOf, linesAfter, gatesHeld, restOf, pendingOf, lentNet}
+use Rattle.listing.specs.Pending.{lineOf, linesAfter, restOf, pendingOf, lentNet}
 use Rattle.listing.specs.Parts.{FirstLine, LineAfter, RefusalLine}
 
 -- ---- a plan that is replied is a plan of an accepted table

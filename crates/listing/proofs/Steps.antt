@@ -16,7 +16,7 @@ use Rattle.network.specs.Replies.{Outcome, plan, refused, nextAnswer, nextReply
 use Rattle.lists.proofs.Bools.{clash}
 use Rattle.network.proofs.Networks.{accepted, gates-fit}
 use Rattle.network.proofs.Order.{setting-length, plan-setting}
-use Rattle.tables.specs.Rows.{netOf, gatesIn, waysRow, bytesRow}
+use Rattle.tables.specs.Rows.{netOf, gatesIn, waysRow, bytesRow, gatesHeld}
 use Rattle.tables.proofs.Laws.{row-gates}
 use Rattle.orienting.specs.Ready.{Ready}
 use Rattle.seeking.specs.Seeks.{AtPlan}
@@ -29,7 +29,7 @@ use Rattle.lines.specs.declared.Due.the-variants as D
 use Rattle.listing.specs.declared.Lister.{Lister}
 use Rattle.lines.specs.Listings.{replyLines}
 use Rattle.lines.specs.Dues.{planDue}
-use Rattle.listing.specs.Pending.{gatesHeld, pendingOf, lentNet}
+use Rattle.listing.specs.Pending.{pendingOf, lentNet}
 use Rattle.listing.specs.Parts.{LineAfter}
 use Rattle.listing.specs.Keeping.{Standing, Kept, unknown, kept}
 use Rattle.listing.proofs.States.{GivenPlan, roomy, plan-held, reply-pending}

@@ -12,7 +12,8 @@ use Rattle.lines.specs.declared.Due.{Due}
 use Rattle.lines.specs.declared.Due.the-variants as D
 use Rattle.listing.specs.declared.Lister.{Lister}
 use Rattle.lines.specs.Listings.{line, planText, refusedText, character}
-use Rattle.listing.specs.Pending.{lineOf, linesAfter, gatesHeld, planIn, restOf, pendingOf}
+use Rattle.listing.specs.Pending.{lineOf, linesAfter, planIn, restOf, pendingOf}
+use Rattle.tables.specs.Rows.{gatesHeld}
 use Rattle.listing.specs.Parts.{LineAfter, planLength, Turned}
 
 -- the length of a plan's line

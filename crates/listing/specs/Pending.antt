@@ -1,15 +1,14 @@
 -- What is still to be printed in a state of the lister, and what its calls promise. Both hold of every state and of all rows, also where no start made
 -- them: such a state prints the lines that next replies to its bytes.
 -- Assumes nothing.
-use Prim.Native.Nat.{ℕ, min}
+use Prim.Native.Nat.{ℕ}
 use mathlib.Core.Path.{_≡_}
 use mathlib.Core.List.{List, [], _++_}
 use lib.ListN.{length, take, drop}
 use Rattle.network.specs.Networks.{Network, maxReaches}
-use Rattle.network.specs.Settings.{gateCount}
 use Rattle.network.specs.Marks.{markBytes}
 use Rattle.network.specs.Replies.{nextReply}
-use Rattle.tables.specs.Rows.{netOf}
+use Rattle.tables.specs.Rows.{netOf, gatesHeld}
 use Rattle.netfile_format.specs.Files.{Reading, readFile}
 use Rattle.netfile_format.specs.Answers.{roomOf, withRoom, reachesRead, RowsFilled}
 use Rattle.lines.specs.declared.Due.{Due}
@@ -35,9 +34,6 @@ linesAfter N D.End s = []
 linesAfter N (D.Refused n) s = []
 
 -- The plan in hand: the first bytes of the state's, one for each gated reach.
-abbrev pub gatesHeld : Network → ℕ
-gatesHeld N = min (gateCount N) maxReaches
-
 abbrev pub planIn : Network → Lister → List ℕ
 planIn N l = take (gatesHeld N) (l .setting)
 

@@ -18,13 +18,12 @@ use network::MAX_REACHES;
 use network::Refusal;
 use planner::CheckAnswer;
 use planner::HALF_EDGES;
+use tables::gates_held;
 use tables::least;
 ghost use mathlib.Core.Path.{_≡_};
 ghost use Prim.Native.Nat.{_≤_, min};
 ghost use lib.ListN.{length, take, drop};
 ghost use Rattle.network.specs.Networks.{maxReaches};
-ghost use Rattle.network.specs.Tables.{tableOf};
-ghost use Rattle.network.specs.Settings.{gatesFrom};
 ghost use Rattle.network.specs.Replies.{refusalNumber};
 ghost use Rattle.orienting.specs.Ready.{Ready};
 ghost use Rattle.planner.specs.Rooms.{Space};
@@ -32,7 +31,8 @@ ghost use Rattle.seeking.specs.Seeks.{AtPlan};
 ghost use Rattle.lines.specs.Puts.{Put};
 ghost use Rattle.listing.specs.Keeping.{Standing, Kept};
 ghost use Rattle.listing.specs.Priming.{Spare, Primed};
-ghost use Rattle.listing.specs.Pending.{lineOf, gatesHeld, lentNet, Starting, Filling};
+ghost use Rattle.listing.specs.Pending.{lineOf, lentNet, Starting, Filling};
+ghost use Rattle.tables.specs.Rows.{gatesHeld};
 ghost use Rattle.listing.specs.Parts.{FirstLine, LineAfter, planLength, Turned, RefusalLine};
 
 // The most bytes of a file that are read, and the most plans that are printed.
@@ -58,15 +58,6 @@ pub struct Started {
 pub struct Filled {
     pub lister: Lister,
     pub count: usize,
-}
-
-// The number of gated reaches of a table, or the reach limit if there are more.
-fn gates_held(kinds: &[u8], a: &[u16], b: &[u16]) -> usize
-    ensures { λ r. ⌜ r ≡ min (length (gatesFrom 0 (tableOf (now (kinds .entry)) (now (a .entry)) (now (b .entry))))) maxReaches ⌝ }
-{
-    let m = tables::row_count(kinds, a, b);
-    let g = tables::count_gates(&kinds[..m]);
-    least(g, MAX_REACHES)
 }
 
 // Puts what is left of a state's line, as much as the buffer holds. The plan in hand has g bytes.

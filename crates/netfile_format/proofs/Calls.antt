@@ -24,7 +24,8 @@ use Rattle.file_records.specs.Records.{twoBytes}
 use Rattle.netfile_format.specs.Files.{Reading, refused, read, readFile, reachRecords, fileOf}
 use Rattle.netfile_format.specs.Answers.{roomOf, readAnswer, withRoom, reachesRead, RowsFilled, NetworkRead, Fills, reachesAt, NetworkWritten, readNumber, readingNumber}
 use Rattle.file_records.specs.declared.WriteAnswer.{WriteAnswer}
-use Rattle.file_records.specs.Puts.{firstOf, Wrote, roomFor, WroteWhole}
+use Rattle.file_records.specs.Puts.{Wrote, roomFor, WroteWhole}
+use Rattle.network.specs.Replies.{firstOf}
 use Rattle.netfile_format.proofs.Files.{write-read, length-records, length-file, reaches-again}
 use Rattle.lists.proofs.Lists.{sets-after}
 use Rattle.file_records.proofs.Puts.{put-refused, put-short, put-whole}

@@ -12,11 +12,11 @@ use Rattle.network.specs.declared.Refusal.{Refusal}
 use Rattle.network.specs.declared.Refusal.the-variants.{ShortBuffer}
 use Rattle.network.specs.Networks.{Network, tableFault}
 use Rattle.network.specs.Tables.{kindNumber}
-use Rattle.network.specs.Replies.{refusalNumber}
+use Rattle.network.specs.Replies.{refusalNumber, firstOf}
 use Rattle.netfile_format.specs.declared.ReadAnswer.{ReadAnswer}
 use Rattle.netfile_format.specs.declared.ReadAnswer.the-variants.{Refused, Read}
 use Rattle.file_records.specs.declared.WriteAnswer.{WriteAnswer}
-use Rattle.file_records.specs.Puts.{firstOf, Wrote, roomFor}
+use Rattle.file_records.specs.Puts.{Wrote, roomFor}
 use Rattle.netfile_format.specs.Files.{recordReach, Reading, refused, read, readFile, fileOf}
 
 -- The reader's answer: the refusal, or "the counts it read".

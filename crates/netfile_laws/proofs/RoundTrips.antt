@@ -16,7 +16,8 @@ use Rattle.tables.specs.Rows.{netOf}
 use lib.Pow.{areBytes}
 use Rattle.netfile_format.specs.Files.{fileOf, Reading, read, readFile}
 use Rattle.netfile_format.specs.Answers.{roomOf, readAnswer, withRoom, reachesRead, RowsFilled, NetworkRead, writeFault, NetworkWritten}
-use Rattle.file_records.specs.Puts.{firstOf, Wrote, roomFor, WroteWhole}
+use Rattle.file_records.specs.Puts.{Wrote, roomFor, WroteWhole}
+use Rattle.network.specs.Replies.{firstOf}
 use Rattle.netfile_laws.specs.Laws.{networkAgain, NetworkWriteRead, fileAgain, NetworkReadWrite}
 use Rattle.file_records.proofs.Puts.{first-of-none, put-refused, unwritten, written, written-fits, written-front}
 use Rattle.netfile_format.proofs.Files.{read-write, WasWritten, write-read}

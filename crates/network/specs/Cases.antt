@@ -46,6 +46,10 @@ row N o l = record { network = N; first = o; nexts = l }
 abbrev pub comes : List ℕ → Outcome → After
 comes s o = record { setting = s; reply = o }
 
+-- Case 3.
+abbrev pub case3 : Network
+case3 = net 2 (G 0 1 ∷ G 0 1 ∷ [])
+
 abbrev pub cases : List Case
 cases =
     -- 1. One basin, no reach: the empty plan; next is 11.
@@ -53,7 +57,7 @@ cases =
     -- 2. Two basins, G 0-1: 10, reach 0, marked {1}.
     row (net 2 (G 0 1 ∷ [])) (lone 0 (firstByte 2) 1) [] ∷
     -- 3. Two basins, G 0-1 twice: after 00 comes 01, after 01 comes 10, after 10 refusal 11.
-    row (net 2 (G 0 1 ∷ G 0 1 ∷ [])) (plan (0 ∷ 1 ∷ []))
+    row case3 (plan (0 ∷ 1 ∷ []))
     (comes (0 ∷ 0 ∷ []) (plan (0 ∷ 1 ∷ [])) ∷ comes (0 ∷ 1 ∷ []) (plan (1 ∷ 0 ∷ [])) ∷ comes (1 ∷ 0 ∷ []) (refused LastPlan) ∷ []) ∷
     -- 4. Two basins, T 0-1: the empty plan.
     row (net 2 (T 0 1 ∷ [])) (plan []) [] ∷

@@ -114,6 +114,11 @@ firstAnswer N = answer N (firstPlan N)
 unfoldable pub nextAnswer : Network → List ℕ → Outcome
 nextAnswer N s = answer N (nextPlan N s)
 
+-- The first refusal of two that there is.
+abbrev pub firstOf : Option Refusal → Option Refusal → Option Refusal
+firstOf (some r) o = some r
+firstOf none o = o
+
 -- A refusal if there is one, else the reply.
 abbrev pub unless : Option Refusal → Outcome → Outcome
 unless (some r) o = refused r

@@ -2,17 +2,14 @@
 -- Assumes nothing.
 use Prim.Native.Nat.{ℕ, _≤_, _<_}
 use native.Mathlib.Omega.{arith}
-use mathlib.Core.Path.{_≡_, refl, sym, ap, subst, subst⁻¹, _∙_}
-use mathlib.Core.Bool.{Bool, true, false, _&&_}
+use mathlib.Core.Path.{_≡_, refl, ap, subst, subst⁻¹, _∙_}
+use mathlib.Core.Bool.{Bool, true, false}
 use mathlib.Core.Option.{none, some}
 use mathlib.Core.List.{List}
 use lib.ListN.{length, take}
-use lib.Seq.{length-take-le}
-use lib.Dec.{leb, eqb}
 use borrow.Author.Tests.{le-leb, lt-leb}
 use Rattle.network.specs.declared.Refusal.{Refusal}
 use Rattle.network.specs.declared.Refusal.the-variants.{ShortBuffer, BadSetting}
-use Rattle.lists.specs.Lists.{every}
 use Rattle.network.specs.Networks.{Network, tableFault, Accepted}
 use Rattle.network.specs.Tables.{tableOf}
 use Rattle.network.specs.Settings.{gateCount, isSetting, settingFault}
@@ -20,7 +17,7 @@ use Rattle.network.specs.Plans.{strongUnder, isPlan}
 use Rattle.network.specs.Marks.{markBytes}
 use Rattle.network.specs.Replies.{Outcome, refused, firstAnswer, nextAnswer, roomFault, firstReply, nextReply}
 use Rattle.tables.specs.Rows.{netOf, gatesIn}
-use Rattle.tables.proofs.Laws.{shortest, table-short, table-take, row-gates, row-setting}
+use Rattle.tables.proofs.Cuts.{cut-ends-a, cut-ends-b, cut-net, cut-gates}
 use Rattle.planner.specs.declared.Answer.{Answer}
 use Rattle.planner.specs.declared.Answer.the-variants as A
 use Rattle.planner.specs.declared.CheckAnswer.{CheckAnswer}
@@ -31,50 +28,23 @@ use Rattle.seeking.specs.Levels.{Level}
 -- ---- rows cut to the length of the table
 
 module _ (n : ℕ) (ks xs ys : List ℕ) (m : ℕ) (e : m ≡ length (tableOf ks xs ys)) where
-  is-shortest : m ≡ shortest ks xs ys
-  is-shortest = e ∙ table-short ks xs ys
-
-  pub cut-kinds : m ≤ length ks
-  cut-kinds = omega (arith, is-shortest)
-
-  pub cut-a : m ≤ length xs
-  cut-a = omega (arith, is-shortest)
-
-  pub cut-b : m ≤ length ys
-  cut-b = omega (arith, is-shortest)
-
-  pub cut-net : netOf n (take m ks) (take m xs) (take m ys) ≡ netOf n ks xs ys
-  cut-net = rw is-shortest (ap (λ t. record { basins = n; reaches = t }) (table-take ks xs ys))
-
-  cut-ends-a : length (take m xs) ≡ length (take m ks)
-  cut-ends-a = length-take-le m xs cut-a ∙ sym (length-take-le m ks cut-kinds)
-
-  cut-ends-b : length (take m ys) ≡ length (take m ks)
-  cut-ends-b = length-take-le m ys cut-b ∙ sym (length-take-le m ks cut-kinds)
-
   pub cut-level : Accepted (netOf n ks xs ys) → Level n (take m ks) (take m xs) (take m ys)
-  cut-level ok = record { accepted = subst⁻¹ (λ (N : Network). Accepted N) cut-net ok; ends-a = cut-ends-a; ends-b = cut-ends-b }
-
-  pub cut-gates : gatesIn (take m ks) ≡ gateCount (netOf n ks xs ys)
-  cut-gates = sym (row-gates (take m ks) (take m xs) (take m ys) cut-ends-a cut-ends-b 0) ∙ ap gateCount cut-net
-
-  pub cut-setting : (s : List ℕ) → isSetting (netOf n ks xs ys) s ≡ eqb (length s) (gatesIn (take m ks)) && every (λ x. leb x 1) s
-  cut-setting s = ap (λ (N : Network). isSetting N s) (sym cut-net) ∙ row-setting (take m ks) (take m xs) (take m ys) cut-ends-a cut-ends-b n s
+  cut-level ok = record { accepted = subst⁻¹ (λ (N : Network). Accepted N) (cut-net ks xs ys m e n) ok; ends-a = cut-ends-a ks xs ys m e; ends-b = cut-ends-b ks xs ys m e }
 
   -- ---- the lent buffers
 
   module _ (planLength marksLength : ℕ) where
     pub short-plan : planLength < gatesIn (take m ks) → roomFault (netOf n ks xs ys) planLength marksLength ≡ some ShortBuffer
     unfolding roomFault
-    short-plan l = rw (lt-leb (gateCount (netOf n ks xs ys)) planLength (omega (arith, cut-gates)))
+    short-plan l = rw (lt-leb (gateCount (netOf n ks xs ys)) planLength (omega (arith, cut-gates ks xs ys m e n)))
 
     pub short-marks : gatesIn (take m ks) ≤ planLength → marksLength < markBytes → roomFault (netOf n ks xs ys) planLength marksLength ≡ some ShortBuffer
     unfolding roomFault
-    short-marks k l = rw (le-leb (gateCount (netOf n ks xs ys)) planLength (omega (arith, cut-gates)), lt-leb markBytes marksLength l)
+    short-marks k l = rw (le-leb (gateCount (netOf n ks xs ys)) planLength (omega (arith, cut-gates ks xs ys m e n)), lt-leb markBytes marksLength l)
 
     pub long-enough : gatesIn (take m ks) ≤ planLength → markBytes ≤ marksLength → roomFault (netOf n ks xs ys) planLength marksLength ≡ none
     unfolding roomFault
-    long-enough k l = rw (le-leb (gateCount (netOf n ks xs ys)) planLength (omega (arith, cut-gates)), le-leb markBytes marksLength l)
+    long-enough k l = rw (le-leb (gateCount (netOf n ks xs ys)) planLength (omega (arith, cut-gates ks xs ys m e n)), le-leb markBytes marksLength l)
 
 -- ---- refusals
 

@@ -42,7 +42,7 @@ use Rattle.seeking.specs.declared.Sought.{Sought}
 use Rattle.seeking.specs.declared.Sought.the-variants.{NoneLater, CameTo}
 use Rattle.seeking.specs.Levels.{Level}
 use Rattle.seeking.specs.Found.{FirstFound, found-closed, found-bridge, found-plan, NextFound, no-later, next-is}
-use Rattle.seeking.specs.Seeks.{SomePlan, Seeking, Partable, Stepped, stepped-at, no-step, OtherThanPlan, Followable, AtPlan, AtSetting, NextAfter, NextFrom}
+use Rattle.seeking.specs.Seeks.{SomePlan, Seeking, Partable, StepTaken, stepped-at, no-step, OtherThanPlan, Followable, AtPlan, AtSetting, NextAfter, NextFrom}
 use Rattle.seeking.proofs.Levels.{passable-open, level-length, under-row, row-under}
 use Rattle.seeking.proofs.Firsts.{under-basin}
 
@@ -101,16 +101,16 @@ module _ (N : Network) where
         (open-at N (u .setting) us (u .is) (u .fits) ok r k g (subst (λ (v : List ℕ). StronglyConnected N v) e str))
     part-begun u k (nowhere e f) = absurd (omega arith)
 
-    part-step : {ws ws′ : List ℕ} → r < length (N .reaches) → TurnedBack N us to ws r → Completed N ws ws′ → Stepped N us to ws′ r
+    part-step : {ws ws′ : List ℕ} → r < length (N .reaches) → TurnedBack N us to ws r → Completed N ws ws′ → StepTaken N us to ws′ r
     part-step {ws} {ws′} k (turned-at l g z e str f) m = stepped-at l g z f (subst (λ (v : List ℕ). Completed N v ws′) e m)
     part-step k (nowhere e f) m = absurd (omega arith)
 
-    part-none : {ws : List ℕ} (ws′ : List ℕ) → (r < length (N .reaches) → ⊥) → TurnedBack N us to ws r → Stepped N us to ws′ r
+    part-none : {ws : List ℕ} (ws′ : List ℕ) → (r < length (N .reaches) → ⊥) → TurnedBack N us to ws r → StepTaken N us to ws′ r
     part-none ws′ n (turned-at l g z e str f) = absurd (n (omega arith))
     part-none ws′ n (nowhere e f) = no-step e f
 
     -- it is left nowhere: no plan is later
-    part-last : SomePlan N → {ws : List ℕ} (seen : List ℕ) → (r < length (N .reaches) → ⊥) → Stepped N us to ws r → NextFrom N us to ws seen NoneLater
+    part-last : SomePlan N → {ws : List ℕ} (seen : List ℕ) → (r < length (N .reaches) → ⊥) → StepTaken N us to ws r → NextFrom N us to ws seen NoneLater
     unfolding nextAnswer
     part-last p seen n (stepped-at l g z f m) = absurd (n (omega arith))
     part-last p seen n (no-step e f) =
@@ -120,7 +120,7 @@ module _ (N : Network) where
         }
 
     -- or at r, and the gates after it decided make the next plan
-    part-next : {ws seen : List ℕ} → r < length (N .reaches) → Stepped N us to ws r → NextFrom N us to ws seen (CameTo Oriented)
+    part-next : {ws seen : List ℕ} → r < length (N .reaches) → StepTaken N us to ws r → NextFrom N us to ws seen (CameTo Oriented)
     part-next k (no-step e f) = absurd (omega arith)
     part-next {ws} {seen} k (stepped-at l g z f m) = record { found = found }
       where
@@ -157,14 +157,14 @@ module _ (n : ℕ) (ks xs ys : List ℕ) where
             begun = rw add-one (part-begun N (p .seeking .level .accepted) bound (p .seeking .under) (omega (arith, level-length (p .seeking .level))) d);
           }
 
-      pub step-made : {ws′ : List ℕ} → r < length xs → Completed N ws₁ ws′ → Stepped N us to ws′ r
+      pub step-made : {ws′ : List ℕ} → r < length xs → Completed N ws₁ ws′ → StepTaken N us to ws′ r
       step-made l m = part-step N (p .seeking .level .accepted) bound (omega (arith, level-length (p .seeking .level))) d m
 
-      pub step-none : (ws′ : List ℕ) → (r < length xs → ⊥) → Stepped N us to ws′ r
+      pub step-none : (ws′ : List ℕ) → (r < length xs → ⊥) → StepTaken N us to ws′ r
       step-none ws′ f = part-none N (p .seeking .level .accepted) bound ws′ (λ l. f (omega (arith, level-length (p .seeking .level)))) d
 
     -- after the step
-    module _ {ws′ : List ℕ} {r : ℕ} (d : Stepped N us to ws′ r) where
+    module _ {ws′ : List ℕ} {r : ℕ} (d : StepTaken N us to ws′ r) where
       pub row-last : (seen : List ℕ) → (r < length xs → ⊥) → NextFrom N us to ws′ seen NoneLater
       row-last seen f = part-last N (p .seeking .level .accepted) bound (p .some-plan) seen (λ l. f (omega (arith, level-length (p .seeking .level)))) d
 
@@ -200,7 +200,7 @@ module _ (n : ℕ) (ks xs ys : List ℕ) where
         f .found s fit is (subst (λ (m : ℕ). NoneFrom N s m) (level-length (p .level)) (none-from-end N s fit))
 
     -- it is left at r, or nowhere
-    module _ {ws′ : List ℕ} {r : ℕ} (d : Stepped N us (length xs) ws′ r) where
+    module _ {ws′ : List ℕ} {r : ℕ} (d : StepTaken N us (length xs) ws′ r) where
       pub plan-next : r < length xs → nextAnswer N s ≡ plan (bytesOf (N .reaches) ws′)
       plan-next l = go (plan-found (row-next plan-partable d l))
         where

@@ -5,7 +5,7 @@ ghost use Rattle.tables.specs.Rows.{netOf};
 ghost use Rattle.orienting.specs.Ready.{Ready};
 ghost use Rattle.seeking.specs.Levels.{NoneOriented, Passable};
 ghost use Rattle.seeking.specs.Found.{FirstFound, NextFound};
-ghost use Rattle.seeking.specs.Seeks.{Partable, Stepped, Followable, OtherThanPlan, AtPlan, AtSetting, NextAfter, NextFrom};
+ghost use Rattle.seeking.specs.Seeks.{Partable, StepTaken, Followable, OtherThanPlan, AtPlan, AtSetting, NextAfter, NextFrom};
 
 // What the search for a plan came to: a closed set of basins that are not all (document 01: shut in), a bridge (a lone reach), or a plan, with all
 // gates oriented.
@@ -86,7 +86,7 @@ pub fn step(
 ) -> usize
     requires { ⌜ Ready n (now a) (now b) (now ways) (now head) (now next) (now seen) (now queue) ⌝ }
     requires { ⌜ Partable n (now kinds) (now a) (now b) (now under) (now ways) to ⌝ }
-    ensures { λ r. ⌜ Stepped (netOf n (now (kinds .entry)) (now (a .entry)) (now (b .entry))) (now (under .entry)) to (now (ways .exit)) r ⌝ }
+    ensures { λ r. ⌜ StepTaken (netOf n (now (kinds .entry)) (now (a .entry)) (now (b .entry))) (now (under .entry)) to (now (ways .exit)) r ⌝ }
 {
     let at = branching::turn_back(n, kinds, a, b, under, ways, head, next, to, seen, queue);
     if at < a.len() {

@@ -15,7 +15,7 @@ use Rattle.network.specs.Networks.{Network, tableFault, Accepted}
 use Rattle.network.specs.Settings.{settingFault}
 use Rattle.network.specs.Plans.{isPlan}
 use Rattle.network.specs.Marks.{marksOf}
-use Rattle.network.specs.Replies.{Outcome, lone, loneSide, firstAnswer}
+use Rattle.network.specs.Replies.{Outcome, lone, loneSide, firstAnswer, firstOf}
 use Rattle.lists.proofs.Bools.{clash}
 use Rattle.network.proofs.Lone.{lone-blocks}
 use Rattle.network.proofs.Order.{plan-setting, first-is-plan}
@@ -24,7 +24,7 @@ use Rattle.network.proofs.Theorem.{plan-passable}
 use Rattle.file_records.specs.declared.WriteAnswer.{WriteAnswer}
 use Rattle.file_records.specs.declared.WriteAnswer.the-variants.{Refused as Unwritten, Written}
 use lib.Pow.{areBytes}
-use Rattle.file_records.specs.Puts.{firstOf, Wrote, roomFor, WroteWhole}
+use Rattle.file_records.specs.Puts.{Wrote, roomFor, WroteWhole}
 use Rattle.planner.specs.declared.CheckAnswer.{CheckAnswer}
 use Rattle.planner.specs.declared.CheckAnswer.the-variants as C
 use Rattle.planner.specs.Answers.{checkOf}

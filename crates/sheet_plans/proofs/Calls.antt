@@ -14,7 +14,8 @@ use Rattle.network.specs.Plans.{strongUnder, isPlan}
 use Rattle.network.proofs.Networks.{accepted}
 use Rattle.file_records.specs.declared.WriteAnswer.{WriteAnswer}
 use Rattle.file_records.specs.declared.WriteAnswer.the-variants.{Refused as Unwritten}
-use Rattle.file_records.specs.Puts.{firstOf, Wrote, roomFor, WroteWhole}
+use Rattle.file_records.specs.Puts.{Wrote, roomFor, WroteWhole}
+use Rattle.network.specs.Replies.{firstOf}
 use Rattle.planner.specs.declared.CheckAnswer.{CheckAnswer}
 use Rattle.planner.specs.declared.CheckAnswer.the-variants as C
 use Rattle.planner.specs.Answers.{yesOr, unlessRefused, checkOf}

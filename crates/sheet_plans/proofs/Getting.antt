@@ -15,7 +15,7 @@ use Rattle.network.specs.declared.Refusal.the-variants.{ShortBuffer, BadSetting
 use Rattle.network.specs.Networks.{Network, tableFault, Accepted}
 use Rattle.network.specs.Settings.{gates}
 use Rattle.network.specs.Plans.{isPlan}
-use Rattle.file_records.specs.Puts.{firstOf}
+use Rattle.network.specs.Replies.{firstOf}
 use Rattle.planner.specs.declared.CheckAnswer.{CheckAnswer}
 use Rattle.planner.specs.Answers.{checkOf}
 use Rattle.sheetfile.specs.declared.SheetAnswer.{SheetAnswer}

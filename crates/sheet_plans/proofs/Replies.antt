@@ -15,14 +15,14 @@ use Rattle.network.specs.Settings.{gateCount}
 use Rattle.network.specs.Plans.{isPlan, passable, firstPlan}
 use Rattle.network.specs.Lone.{lowestLone}
 use Rattle.network.specs.Marks.{markBytes, marksOf, onesIn}
-use Rattle.network.specs.Replies.{Outcome, plan, shutIn, lone, shutInSide, loneSide, shutInFinding, loneFinding, chosen, answer, firstAnswer, unless, roomFault, firstReply}
+use Rattle.network.specs.Replies.{Outcome, plan, shutIn, lone, shutInSide, loneSide, shutInFinding, loneFinding, chosen, answer, firstAnswer, unless, roomFault, firstReply, firstOf}
 use Rattle.network.proofs.Networks.{accepted, gates-below}
 use Rattle.network.proofs.Marks.{length-marks}
 use Rattle.network.proofs.Order.{first-is-plan, first-none}
 use Rattle.network.proofs.Replies.{Verdict, plans, no-way, one-lone, verdict}
 use Rattle.file_records.specs.declared.WriteAnswer.{WriteAnswer}
 use Rattle.file_records.specs.declared.WriteAnswer.the-variants.{Refused as Unwritten}
-use Rattle.file_records.specs.Puts.{firstOf, Wrote, roomFor, WroteWhole}
+use Rattle.file_records.specs.Puts.{Wrote, roomFor, WroteWhole}
 use Rattle.planner.specs.declared.Verdict.{Verdict as PlannerVerdict}
 use Rattle.planner.specs.declared.Verdict.the-variants.{Plan, ShutIn, Lone}
 use Rattle.planner.specs.declared.Answer.{Answer}

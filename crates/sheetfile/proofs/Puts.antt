@@ -10,7 +10,7 @@ use Rattle.network.specs.declared.Refusal.the-variants.{ShortBuffer}
 use Rattle.network.specs.Tables.{tableOf}
 use Rattle.network.specs.Settings.{gatesFrom}
 use Rattle.tables.specs.Rows.{gatesIn}
-use Rattle.tables.proofs.Laws.{table-short}
+use Rattle.tables.proofs.Cuts.{cut-kinds}
 use Rattle.file_records.specs.declared.WriteAnswer.{WriteAnswer}
 use Rattle.file_records.specs.declared.WriteAnswer.the-variants.{Refused as Unwritten, Written}
 use Rattle.file_records.specs.Records.{twoBytes}
@@ -89,12 +89,9 @@ module _ (ks xs ys : List ℕ) (m : ℕ) (e : m ≡ length (tableOf ks xs ys)) w
   pub cut-gates : gatesRow 0 (take m ks) ≡ gatesFrom 0 (tableOf ks xs ys)
   cut-gates = rw e (gates-row 0 ks xs ys)
 
-  pub cut-kinds : m ≤ length ks
-  cut-kinds = omega (arith, e, table-short ks xs ys)
-
   pub cut-fits : (s : List ℕ) → Fitting (tableOf ks xs ys) s → Records (take m ks) s
   cut-fits s f =
-      record { few = omega (arith, length-take-le m ks cut-kinds, f .few); full = f .full ∙ sym (ap length cut-gates) }
+      record { few = omega (arith, length-take-le m ks (cut-kinds ks xs ys m e), f .few); full = f .full ∙ sym (ap length cut-gates) }
 
   pub cut-sheet :
       (s out : List ℕ) (r : WriteAnswer) (out′ : List ℕ)

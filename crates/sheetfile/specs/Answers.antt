@@ -10,9 +10,9 @@ use Rattle.network.specs.declared.Refusal.{Refusal}
 use Rattle.network.specs.declared.Refusal.the-variants.{BadSetting}
 use Rattle.network.specs.Networks.{Network, tableFault}
 use Rattle.network.specs.Plans.{isPlan}
-use Rattle.network.specs.Replies.{refusalNumber}
+use Rattle.network.specs.Replies.{refusalNumber, firstOf}
 use Rattle.file_records.specs.declared.WriteAnswer.{WriteAnswer}
-use Rattle.file_records.specs.Puts.{firstOf, Wrote, roomFor}
+use Rattle.file_records.specs.Puts.{Wrote, roomFor}
 use Rattle.sheetfile.specs.declared.SheetAnswer.{SheetAnswer}
 use Rattle.sheetfile.specs.declared.SheetAnswer.the-variants.{Refused, Read}
 use Rattle.sheetfile.specs.Sheets.{sheetOf, replySheet}

@@ -3,15 +3,11 @@
 use Prim.Native.Nat.{ℕ}
 use mathlib.Core.List.{List, [], _∷_, _++_}
 use Rattle.network.specs.Networks.{Network}
-use Rattle.network.specs.Cases.{G, F, T, net, firstByte}
+use Rattle.network.specs.Cases.{G, F, T, net, firstByte, case3}
 
 -- Case 3 with a two-way reach between its two gated ones, so that these have the numbers 0 and 2.
 abbrev pub mixed : Network
 mixed = net 2 (G 0 1 ∷ T 0 1 ∷ G 0 1 ∷ [])
-
--- Case 3.
-abbrev pub case3 : Network
-case3 = net 2 (G 0 1 ∷ G 0 1 ∷ [])
 
 -- A network, the bytes of a sheet, and document 01's number for reading them, 0 where they are read.
 abbrev pub sheets : List (Network × (List ℕ) × ℕ)

@@ -26,7 +26,7 @@ use Rattle.orientations.proofs.Least.{same-plain, has-decided, fits-at}
 use Rattle.orientations.proofs.Nexts.{gate-byte, oriented-length, oriented-below}
 use Rattle.completing.specs.Greedy.{Completed}
 use Rattle.seeking.specs.Levels.{Level}
-use Rattle.seeking.specs.Seeks.{Stepped, stepped-at, no-step, AtPlan}
+use Rattle.seeking.specs.Seeks.{StepTaken, stepped-at, no-step, AtPlan}
 use Rattle.seeking.proofs.Seeks.{plan-next, plan-last}
 use Rattle.stepping.specs.Advances.{PartsAt, Advanced, moved, at-last}
 use Rattle.stepping.proofs.Rewrites.{front-same, gate-row}
@@ -95,10 +95,10 @@ module _ (n : ℕ) (ks xs ys : List ℕ) (v : Level n ks xs ys) where
       l g (ap (λ (u : List ℕ). getD u r 3) (sym is) ∙ z) fits
 
   -- what a step from a plan came to
-  pub advanced : {s us ws₀ ws : List ℕ} {r : ℕ} → AtPlan n ks xs ys s us → ws₀ ≡ waysRow ks s → Stepped N us (length xs) ws r → Advanced N ks s ws r
+  pub advanced : {s us ws₀ ws : List ℕ} {r : ℕ} → AtPlan n ks xs ys s us → ws₀ ≡ waysRow ks s → StepTaken N us (length xs) ws r → Advanced N ks s ws r
   advanced {s} {us} {ws₀} {ws} {r} p e d = go d
     where
-      go : Stepped N us (length xs) ws r → Advanced N ks s ws r
+      go : StepTaken N us (length xs) ws r → Advanced N ks s ws r
       go (stepped-at l g z f c) =
           let below : r < length (N .reaches) = omega (arith, many, v .ends-a) in
           moved (parted p below g z c) (plan-next n ks xs ys p e d l ∙ ap plan (bytes ws)) (subst (λ p. isPlan N p ≡ true) (bytes ws) (c .least .is-plan))

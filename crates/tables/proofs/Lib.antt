@@ -4,3 +4,4 @@ pub mod Turns
 pub mod Faults
 pub mod Hangs
 pub mod Gathers
+pub mod Cuts

@@ -1,11 +1,11 @@
 -- A network lent as rows of numbers, and what its kinds alone decide.
 -- Assumes nothing.
-use Prim.Native.Nat.{ℕ, suc}
+use Prim.Native.Nat.{ℕ, suc, min}
 use mathlib.Core.Bool.{cond}
 use mathlib.Core.List.{List, [], _∷_}
-use Rattle.network.specs.Networks.{Network}
+use Rattle.network.specs.Networks.{Network, maxReaches}
 use Rattle.network.specs.Tables.{kindOf, tableOf}
-use Rattle.network.specs.Settings.{isGated}
+use Rattle.network.specs.Settings.{isGated, gateCount}
 use Rattle.network.specs.Hangings.{way, after}
 
 -- The network of a basin count and three rows: kinds, ends A, ends B.
@@ -27,3 +27,7 @@ abbrev pub bytesRow : List ℕ → List ℕ → List ℕ
 bytesRow [] ws = []
 bytesRow (k ∷ ks) [] = []
 bytesRow (k ∷ ks) (w ∷ ws) = cond (isGated (kindOf k)) (w ∷ bytesRow ks ws) (bytesRow ks ws)
+
+-- The number of gated reaches, as far as bytes for them are held: a walker and the lister hold bytes up to the reach limit.
+abbrev pub gatesHeld : Network → ℕ
+gatesHeld N = min (gateCount N) maxReaches

@@ -13,7 +13,7 @@ ghost use Rattle.lists.specs.Lists.{every};
 ghost use Rattle.network.specs.Networks.{goodEnds, tableFault};
 ghost use Rattle.network.specs.Tables.{kindOf, tableOf};
 ghost use Rattle.network.specs.Hangings.{way};
-ghost use Rattle.tables.specs.Rows.{netOf, gatesIn, waysRow, bytesRow};
+ghost use Rattle.tables.specs.Rows.{netOf, gatesIn, gatesHeld, waysRow, bytesRow};
 ghost use Rattle.tables.specs.Answers.{answerOf};
 
 // The kinds that have a number of their own.
@@ -156,4 +156,13 @@ pub fn gather(kinds: &[u8], ways: &[u8], plan: &mut [u8])
         }
         i += 1;
     }
+}
+
+// The number of gated reaches of a table, or the reach limit if there are more.
+pub fn gates_held(kinds: &[u8], a: &[u16], b: &[u16]) -> usize
+    ensures { λ r. ⌜ r ≡ gatesHeld (netOf 0 (now (kinds .entry)) (now (a .entry)) (now (b .entry))) ⌝ }
+{
+    let m = row_count(kinds, a, b);
+    let g = count_gates(&kinds[..m]);
+    least(g, MAX_REACHES)
 }

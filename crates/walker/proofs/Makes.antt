@@ -21,7 +21,8 @@ use Rattle.walker.specs.declared.MakeAnswer.{MakeAnswer}
 use Rattle.walker.specs.declared.MakeAnswer.the-variants as M
 use Rattle.walker.specs.declared.Walker.{Walker}
 use Rattle.walker.specs.declared.Made.{Made}
-use Rattle.walker.specs.Walkers.{walkerOf, faultOr, makeFault, makeOf, walkerMade, keptOf, Making}
+use Rattle.walker.specs.Walkers.{walkerOf, makeFault, makeOf, walkerMade, keptOf, Making}
+use Rattle.network.specs.Replies.{firstOf}
 
 -- ---- what the making answers
 
@@ -45,7 +46,7 @@ module _ (N : Network) (s : List ℕ) where
   unfolding checkOf makeFault
   make-as-check = go (tableFault N)
     where
-      go : (f : Option Refusal) → unlessRefused f (unlessRefused (settingFault N s) (yesOr (isPlan N s))) ≡ unlessRefused (faultOr f (settingFault N s)) (yesOr (isPlan N s))
+      go : (f : Option Refusal) → unlessRefused f (unlessRefused (settingFault N s) (yesOr (isPlan N s))) ≡ unlessRefused (firstOf f (settingFault N s)) (yesOr (isPlan N s))
       go none = refl
       go (some r) = refl
 
@@ -54,7 +55,7 @@ module _ (N : Network) (s : List ℕ) where
   unfolding makeFault settingFault
   made-held e = go (tableFault N) refl (isSetting N s) refl e
     where
-      go : (f : Option Refusal) → tableFault N ≡ f → (b : Bool) → isSetting N s ≡ b → faultOr f (cond b none (some BadSetting)) ≡ none → length s ≤ maxReaches
+      go : (f : Option Refusal) → tableFault N ≡ f → (b : Bool) → isSetting N s ≡ b → firstOf f (cond b none (some BadSetting)) ≡ none → length s ≤ maxReaches
       go none ok true fit e = omega (arith, gates-fit N ok, setting-length N s fit)
       go none ok false fit e = absurd (Option·some-ne-none BadSetting e)
       go (some r) bad true fit e = absurd (Option·some-ne-none r e)

@@ -25,7 +25,8 @@ use Rattle.planner.proofs.Calls.{next-faulty}
 use Rattle.lent.proofs.Packings.{ByTable}
 use Rattle.walker.specs.declared.Walker.{Walker}
 use Rattle.walker.specs.declared.Stepped.{Stepped}
-use Rattle.walker.specs.Walkers.{settingIn, stepReply, gatesHeld, advancedBy, Stepping}
+use Rattle.walker.specs.Walkers.{settingIn, stepReply, advancedBy, Stepping}
+use Rattle.tables.specs.Rows.{gatesHeld}
 use Rattle.network.proofs.Networks.{gates-fit}
 
 -- ---- the walker after an answer
@@ -54,15 +55,15 @@ walk-on (refused x) w {g} {buffer′} sized e = ap (λ (x : Answer). advancedBy 
 
 module _ (N : Network) where
   -- of an accepted table the walker holds all gates
-  all-held : Accepted N → gatesHeld (N .reaches) ≡ gateCount N
+  all-held : Accepted N → gatesHeld N ≡ gateCount N
   all-held ok = omega (arith, gates-fit N ok)
 
   -- the reply to the bytes held is the reply to the walker's setting
-  pub step-same : (w : List ℕ) (planLength marksLength : ℕ) → nextReply N (take (gatesHeld (N .reaches)) w) planLength marksLength ≡ stepReply N w planLength marksLength
+  pub step-same : (w : List ℕ) (planLength marksLength : ℕ) → nextReply N (take (gatesHeld N) w) planLength marksLength ≡ stepReply N w planLength marksLength
   unfolding nextReply stepReply
   step-same w planLength marksLength = go (tableFault N) refl
     where
-      go : (f : Option Refusal) → tableFault N ≡ f → nextReply N (take (gatesHeld (N .reaches)) w) planLength marksLength ≡ nextReply N (settingIn N w) planLength marksLength
+      go : (f : Option Refusal) → tableFault N ≡ f → nextReply N (take (gatesHeld N) w) planLength marksLength ≡ nextReply N (settingIn N w) planLength marksLength
       go (some r) e = rw e
       go none e = rw (all-held e)
 
@@ -79,11 +80,11 @@ module _ (N : Network) where
 
   module _ (w : List ℕ) {buffer marks buffer′ marks′ : List ℕ} {r : Answer} where
     -- the walker advanced by the answer has what the reply leaves
-    pub step-walk : Written (stepReply N w (length buffer) (length marks)) buffer marks buffer′ marks′ r → advancedBy r (gatesHeld (N .reaches)) buffer′ w ≡ planAfter (stepReply N w (length buffer) (length marks)) w
+    pub step-walk : Written (stepReply N w (length buffer) (length marks)) buffer marks buffer′ marks′ r → advancedBy r (gatesHeld N) buffer′ w ≡ planAfter (stepReply N w (length buffer) (length marks)) w
     step-walk = walk-on (stepReply N w (length buffer) (length marks)) w (λ p e. let given = step-given w (length buffer) (length marks) e in given .1 ∙ sym (all-held (given .0)))
 
     -- a call of next with the bytes held, and the walker advanced by its answer, are a step
-    pub step-made : {g : ℕ} {v : Walker} → g ≡ gatesHeld (N .reaches) → Written (nextReply N (take g w) (length buffer) (length marks)) buffer marks buffer′ marks′ r → v .setting ≡ advancedBy r g buffer′ w → Stepping N w buffer marks buffer′ marks′ (record { answer = r; walker = v })
+    pub step-made : {g : ℕ} {v : Walker} → g ≡ gatesHeld N → Written (nextReply N (take g w) (length buffer) (length marks)) buffer marks buffer′ marks′ r → v .setting ≡ advancedBy r g buffer′ w → Stepping N w buffer marks buffer′ marks′ (record { answer = r; walker = v })
     step-made {g} {v} held next walked = record { replied = replied; walked = walked ∙ ap (λ (k : ℕ). advancedBy r k buffer′ w) held ∙ step-walk replied }
       where
         replied : Written (stepReply N w (length buffer) (length marks)) buffer marks buffer′ marks′ r

@@ -1,17 +1,16 @@
 -- "A walker over plans carries its setting with it, and each step hands back the walker after it."
 -- Assumes nothing.
-use Prim.Native.Nat.{ℕ, _-_, min}
+use Prim.Native.Nat.{ℕ, _-_}
 use mathlib.Core.Path.{_≡_}
 use mathlib.Core.Bool.{cond}
 use mathlib.Core.Option.{Option, none, some}
 use mathlib.Core.List.{List, [], _++_}
 use lib.ListN.{length, take, drop, replicate}
 use lib.Dec.{leb}
-use Rattle.network.specs.declared.Reach.{Reach}
 use Rattle.network.specs.declared.Refusal.{Refusal}
 use Rattle.network.specs.Networks.{Network, maxReaches, tableFault}
-use Rattle.network.specs.Settings.{gatesFrom, gateCount, settingFault}
-use Rattle.network.specs.Replies.{Outcome, planAfter, nextReply}
+use Rattle.network.specs.Settings.{gateCount, settingFault}
+use Rattle.network.specs.Replies.{Outcome, planAfter, nextReply, firstOf}
 use Rattle.planner.specs.declared.Verdict.{Verdict}
 use Rattle.planner.specs.declared.Verdict.the-variants.{Plan, ShutIn, Lone}
 use Rattle.planner.specs.declared.Answer.{Answer}
@@ -32,12 +31,8 @@ settingIn N w = take (gateCount N) w
 
 -- "It is made from a table and a setting, with bytes past the setting 0; where the check of that setting would refuse, so does the making, and hands
 -- back a walker of zeros."
-abbrev pub faultOr : Option Refusal → Option Refusal → Option Refusal
-faultOr (some r) o = some r
-faultOr none o = o
-
 unfoldable pub makeFault : Network → List ℕ → Option Refusal
-makeFault N s = faultOr (tableFault N) (settingFault N s)
+makeFault N s = firstOf (tableFault N) (settingFault N s)
 
 abbrev pub makeOf : Option Refusal → MakeAnswer
 makeOf (some r) = M.Refused r
@@ -66,10 +61,6 @@ pub record Stepping (N : Network) (w plan marks plan′ marks′ : List ℕ) (r 
 abbrev pub keptOf : MakeAnswer → ℕ → ℕ
 keptOf (M.Refused r) n = 0
 keptOf M.Made n = n
-
--- The number of gated reaches of a table, as far as a walker holds bytes.
-abbrev pub gatesHeld : List Reach → ℕ
-gatesHeld t = min (length (gatesFrom 0 t)) maxReaches
 
 -- The walker's bytes after an answer: where it gives a plan, the first g bytes of the plan buffer for its own.
 abbrev pub movedBy : Verdict → ℕ → List ℕ → List ℕ → List ℕ

@@ -7,10 +7,9 @@ ghost use mathlib.Core.List.{_++_};
 ghost use Prim.Native.Nat.{_≤_};
 ghost use lib.ListN.{length, take, drop};
 ghost use Rattle.network.specs.Networks.{maxReaches};
-ghost use Rattle.network.specs.Tables.{tableOf};
 ghost use Rattle.tables.specs.Rows.{netOf};
 ghost use Rattle.lent.specs.Tables.{lentNet, OfTable};
-ghost use Rattle.walker.specs.Walkers.{walkerOf, makeFault, makeOf, keptOf, Making, gatesHeld, advancedBy, Stepping};
+ghost use Rattle.walker.specs.Walkers.{walkerOf, makeFault, makeOf, keptOf, Making, advancedBy, Stepping};
 use lent::Packed;
 use lent::held;
 use lent::pack;
@@ -20,6 +19,7 @@ use network::Refusal;
 use planner::Answer;
 use planner::Verdict;
 use tables::TableAnswer;
+use tables::gates_held;
 
 // A setting with a byte for each gated reach, in the first of its bytes. The others neither count nor change.
 pub struct Walker {
@@ -93,15 +93,6 @@ fn advanced(answer: Answer, walker: Walker, plan: &[u8], g: usize) -> Walker
             }
         }
     }
-}
-
-// The number of gated reaches of a table, or the reach limit if there are more.
-fn gates_held(kinds: &[u8], a: &[u16], b: &[u16]) -> usize
-    ensures { λ r. ⌜ r ≡ gatesHeld (tableOf (now (kinds .entry)) (now (a .entry)) (now (b .entry))) ⌝ }
-{
-    let m = tables::row_count(kinds, a, b);
-    let g = tables::count_gates(&kinds[..m]);
-    if g < MAX_REACHES { g } else { MAX_REACHES }
 }
 
 // What the making of a walker answers: 1, 2 and 3 by the table, then 8 by the setting.

@@ -5,7 +5,7 @@ use Prim.Native.Nat.{ℕ, _-_}
 use native.Mathlib.Omega.{arith}
 use mathlib.Core.Path.{_≡_, refl, sym, ap, subst, subst⁻¹, _∙_}
 use lib.ListN.{length, take}
-use Rattle.listing.specs.Pending.{gatesHeld}
+use Rattle.tables.specs.Rows.{gatesHeld}
 use Rattle.listing.specs.Keeping.{Kept}
 use Rattle.lists.proofs.Lists.{copied-length}
 use Rattle.listing.proofs.Fills.{Printing, print-none, same-net, turned-here, print-turn, print-full, print-laid, place-short, print-more, print-end}

@@ -15,7 +15,8 @@ use Rattle.sheetfile.specs.Readings.{readRecords}
 use Rattle.sheetfile.specs.Rows.{gatesRow}
 use Rattle.sheetfile.specs.Answers.{Held}
 use Rattle.sheetfile.proofs.Gates.{gates-few}
-use Rattle.sheetfile.proofs.Puts.{cut-kinds, cut-gates}
+use Rattle.tables.proofs.Cuts.{cut-kinds}
+use Rattle.sheetfile.proofs.Puts.{cut-gates}
 use Rattle.sheet_plans.proofs.Getting.{stored, got-table, got-torn, got-kept}
 use Rattle.sheet.proofs.read_sheet_in.Statement.{statement}
 use Rattle.sheet.proofs.read_sheet_in.Tie as tie

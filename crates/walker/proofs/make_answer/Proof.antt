@@ -7,7 +7,7 @@ use Rattle.network.specs.Networks.{Network, tableFault, Accepted}
 use Rattle.network.specs.Settings.{isSetting}
 use Rattle.tables.specs.Rows.{netOf}
 use Rattle.tables.proofs.Faults.{answer-refused, answer-accepted}
-use Rattle.planner.proofs.Calls.{cut-kinds, cut-setting}
+use Rattle.tables.proofs.Cuts.{cut-kinds, cut-setting}
 use Rattle.walker.proofs.Makes.{make-faulty, make-misfit, make-fitting}
 use Rattle.walker.proofs.make_answer.Statement.{statement}
 use Rattle.walker.proofs.make_answer.Tie as tie
@@ -25,7 +25,7 @@ tested : (c : tie.After-fits2) → let s = c .before .before .before .before .be
 tested c =
     let s = c .before .before .before .before .before .before .before .before .before .before .args in
     let m = c .before .before .row-count in
-    cut-setting (s .basins) (s .kinds .now) (s .a .now) (s .b .now) (m .result) (m .ensures) (s .setting .now) ∙ sym (c .fits2 .ensures)
+    cut-setting (s .kinds .now) (s .a .now) (s .b .now) (m .result) (m .ensures) (s .basins) (s .setting .now) ∙ sym (c .fits2 .ensures)
 
 table-fault-requires : tie.Need-table-fault-requires
 table-fault-requires c κs = search needs
@@ -48,7 +48,7 @@ slice-aggregate-fits : tie.Need-slice-aggregate-fits
 slice-aggregate-fits c =
     let s = c .before .before .before .before .before .before .before .before .before .args in
     let m = c .before .row-count in
-    sym (length-take-le _ (s .kinds .now) (cut-kinds (s .basins) (s .kinds .now) (s .a .now) (s .b .now) (m .result) (m .ensures)))
+    sym (length-take-le _ (s .kinds .now) (cut-kinds (s .kinds .now) (s .a .now) (s .b .now) (m .result) (m .ensures)))
 
 fits-requires : tie.Need-fits-requires
 fits-requires c κs = search needs

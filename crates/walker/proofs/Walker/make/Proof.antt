@@ -1,9 +1,7 @@
 -- `walker::Walker::make` meets its contract: a walk of its MIR, by hand. The table is packed, and `make_packed` is called on the rows.
 -- Assumes nothing.
 use denote.Struct.Laws as LL
-use Rattle.lent.proofs.Relays.{refl, ℕ, _<_, _^_, List, [], _∷_, URA, w16, Val, vint, SProp, ent, id⊢, Lft, Share, ftrue, flft, Memory, Routine, Heap, Tables, WpFn, Atoms, fmOf, Fun, factI, givenOf, tables, tablesOf}
-use Rattle.lent.proofs.Relays.{Given, ‵, _⊛_, _$_, _∵_, !, qed, by, move, join, look-in, stop, from, land, returns, enter, allots, takes-in, within, copies, fills, frees-all, uint-vals, uint-tells, u8, u16, owns, RefT, now, slice-vals, ShrSlice, Room, shr-slice-tells, length, named, Fml}
-use Rattle.lent.proofs.Relays.{Bound, Contract, Triple, entered, cited, Reach, packedOf, Promise, meets, ending, calls-known, Packs, packs-cited, asked, val, table, table-tells, TableRoom, packs}
+use Rattle.lent.proofs.Relays.{refl, ℕ, _<_, _^_, List, [], _∷_, URA, w16, Val, vint, SProp, ent, id⊢, Lft, Share, ftrue, flft, Memory, Routine, Heap, Tables, WpFn, Atoms, fmOf, Fun, factI, givenOf, tables, tablesOf, Given, ‵, _⊛_, _$_, _∵_, !, qed, by, move, join, look-in, stop, from, land, returns, enter, allots, takes-in, within, copies, fills, frees-all, uint-vals, uint-tells, u8, u16, owns, RefT, now, slice-vals, ShrSlice, Room, shr-slice-tells, length, named, Fml, Bound, Contract, Triple, entered, cited, Reach, packedOf, Promise, meets, ending, calls-known, Packs, packs-cited, asked, val, table, table-tells, TableRoom, packs}
 use Rattle.walker.proofs.Made as S
 use Rattle.walker.proofs.Made.Laws as S′
 use Rattle.walker.proofs.make_packed as core

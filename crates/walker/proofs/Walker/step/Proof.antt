@@ -2,9 +2,7 @@
 -- Assumes nothing.
 use denote.Laws.{Is}
 use denote.Struct.Laws as LL
-use Rattle.lent.proofs.Relays.{refl, ℕ, _<_, _^_, List, [], _∷_, URA, w16, Val, vint, SProp, ent, id⊢, Lft, Share, ftrue, flft, Memory, Routine, Heap, Tables, WpFn, Atoms, fmOf, Fun, factI, givenOf, tables, tablesOf}
-use Rattle.lent.proofs.Relays.{Given, ‵, _⊛_, _$_, _∵_, !, qed, by, move, join, look-in, stop, from, land, returns, enter, allots, takes-in, within, copies, fills, lends, frees-all, uint-vals, uint-tells, u8, u16, owns, RefT, now, slice-vals, MutSlice, Room, mut-slice-tells, length, named, Fml}
-use Rattle.lent.proofs.Relays.{Bound, Contract, Triple, entered, cited, Reach, packedOf, Promise, meets, ending, calls-known, Packs, packs-cited, asked, val, table, table-tells, TableRoom, packs}
+use Rattle.lent.proofs.Relays.{refl, ℕ, _<_, _^_, List, [], _∷_, URA, w16, Val, vint, SProp, ent, id⊢, Lft, Share, ftrue, flft, Memory, Routine, Heap, Tables, WpFn, Atoms, fmOf, Fun, factI, givenOf, tables, tablesOf, Given, ‵, _⊛_, _$_, _∵_, !, qed, by, move, join, look-in, stop, from, land, returns, enter, allots, takes-in, within, copies, fills, lends, frees-all, uint-vals, uint-tells, u8, u16, owns, RefT, now, slice-vals, MutSlice, Room, mut-slice-tells, length, named, Fml, Bound, Contract, Triple, entered, cited, Reach, packedOf, Promise, meets, ending, calls-known, Packs, packs-cited, asked, val, table, table-tells, TableRoom, packs}
 use Rattle.walker.specs.declared.Walker.{Walker}
 use Rattle.walker.proofs.Walker as T
 use Rattle.walker.proofs.Walker.Laws as T′
