@@ -7,10 +7,10 @@ use Rattle.network.specs.Networks.{tableFault}
 use Rattle.network.specs.Replies.{Outcome, firstReply, nextReply}
 use Rattle.tables.specs.declared.TableAnswer.{TableAnswer}
 use Rattle.tables.specs.Answers.{answerOf}
-use Rattle.planner.specs.declared.Answer.{Answer}
-use Rattle.planner.specs.declared.CheckAnswer.{CheckAnswer}
-use Rattle.planner.specs.Answers.{checkOf, Written}
-use Rattle.planner.proofs.Calls.{check-faulty, first-faulty, next-faulty}
+use Rattle.replies.specs.declared.Answer.{Answer}
+use Rattle.replies.specs.declared.CheckAnswer.{CheckAnswer}
+use Rattle.replies.specs.Answers.{checkOf, Written}
+use Rattle.replies.proofs.Refusals.{check-faulty, first-faulty, next-faulty}
 use Rattle.lent.proofs.Packings.{ByTable}
 
 pub table-alike : {r : TableAnswer} → ByTable (λ N. r ≡ answerOf (tableFault N))

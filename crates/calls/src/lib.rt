@@ -6,15 +6,15 @@ use lent::Packed;
 use lent::held;
 use lent::pack;
 use network::Reach;
-use planner::Answer;
-use planner::CheckAnswer;
+use replies::Answer;
+use replies::CheckAnswer;
 use tables::TableAnswer;
 ghost use mathlib.Core.Path.{_≡_};
 ghost use lib.ListN.{length};
 ghost use Rattle.network.specs.Networks.{tableFault};
 ghost use Rattle.network.specs.Replies.{firstReply, nextReply};
 ghost use Rattle.tables.specs.Answers.{answerOf};
-ghost use Rattle.planner.specs.Answers.{checkOf, Written};
+ghost use Rattle.replies.specs.Answers.{checkOf, Written};
 ghost use Rattle.lent.specs.Tables.{lentNet, OfTable};
 
 // The call over rows, for each public call. The rows of an over-full table are over-full too, and refused as such.

@@ -1,8 +1,8 @@
 // The lines of the lister's text: which line an answer calls for, and the bytes of a line, put into a lent buffer from a place on.
 // The whole text, `listing`, is defined in specs/Listings.antt. No function has a `requires`.
 use network::Refusal;
-use planner::Answer;
-use planner::Verdict;
+use replies::Answer;
+use replies::Verdict;
 use tables::least;
 ghost use mathlib.Core.Path.{_≡_};
 ghost use mathlib.Core.List.{map};

@@ -17,8 +17,8 @@ use Rattle.tables.specs.Rows.{netOf}
 use Rattle.tables.proofs.Laws.{row-length}
 use Rattle.half_edges.specs.Chains.{Index, Indexable}
 use Rattle.orienting.specs.Ready.{Ready}
-use Rattle.planner.specs.declared.CheckAnswer.the-variants as C
-use Rattle.planner.specs.Answers.{yesOr, unlessRefused, checkOf}
+use Rattle.replies.specs.declared.CheckAnswer.the-variants as C
+use Rattle.replies.specs.Answers.{yesOr, unlessRefused, checkOf}
 use Rattle.seeking.specs.Levels.{Level}
 use Rattle.finder.specs.Rooms.{Room}
 use Rattle.finder.proofs.Rooms.{room-index, room-ready}

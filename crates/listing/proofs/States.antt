@@ -21,8 +21,8 @@ use Rattle.network.proofs.Networks.{accepted, gates-fit}
 use Rattle.network.proofs.Order.{setting-length, plan-setting, first-is-plan, next-is-plan}
 use Rattle.network.proofs.Replies.{given-iff, first-given, next-given, unless-plan}
 use Rattle.tables.specs.Rows.{netOf, gatesHeld}
-use Rattle.planner.specs.declared.Answer.{Answer}
-use Rattle.planner.specs.Answers.{answerOf, Written}
+use Rattle.replies.specs.declared.Answer.{Answer}
+use Rattle.replies.specs.Answers.{answerOf, Written}
 use Rattle.lines.specs.declared.Due.{Due}
 use Rattle.lines.specs.declared.Due.the-variants as D
 use Rattle.lines.specs.Listings.{maxPlans, line, planText, endText, refusedText, plansFrom, refusalLine, replyLines}

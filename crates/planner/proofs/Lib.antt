@@ -1,4 +1,2 @@
 -- The laws of the planner.
-pub mod Reports
 pub mod Calls
-pub mod Demands

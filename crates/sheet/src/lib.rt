@@ -4,7 +4,7 @@ use file_records::WriteAnswer;
 use marks::MARK_BYTES;
 use network::MAX_REACHES;
 use network::Refusal;
-use planner::CheckAnswer;
+use replies::CheckAnswer;
 use sheetfile::SheetAnswer;
 use tables::TableAnswer;
 ghost use mathlib.Core.Path.{_≡_};

@@ -25,9 +25,9 @@ use Rattle.file_records.specs.declared.WriteAnswer.{WriteAnswer}
 use Rattle.file_records.specs.declared.WriteAnswer.the-variants.{Refused as Unwritten, Written}
 use lib.Pow.{areBytes}
 use Rattle.file_records.specs.Puts.{Wrote, roomFor, WroteWhole}
-use Rattle.planner.specs.declared.CheckAnswer.{CheckAnswer}
-use Rattle.planner.specs.declared.CheckAnswer.the-variants as C
-use Rattle.planner.specs.Answers.{checkOf}
+use Rattle.replies.specs.declared.CheckAnswer.{CheckAnswer}
+use Rattle.replies.specs.declared.CheckAnswer.the-variants as C
+use Rattle.replies.specs.Answers.{checkOf}
 use Rattle.sheetfile.specs.declared.SheetAnswer.{SheetAnswer}
 use Rattle.sheetfile.specs.declared.SheetAnswer.the-variants.{Refused, Read}
 use Rattle.sheetfile.specs.Sheets.{sheetOf, outcomeSheet, replySheet}

@@ -14,8 +14,8 @@ use Rattle.network.specs.Lone.{lowestLone}
 use Rattle.network.specs.Marks.{marksOf}
 use Rattle.network.specs.Replies.{Outcome, plan, shutIn, lone, refused as told, firstAnswer, shutInSide, loneSide}
 use Rattle.file_records.specs.declared.WriteAnswer.{WriteAnswer}
-use Rattle.planner.specs.declared.CheckAnswer.{CheckAnswer}
-use Rattle.planner.specs.declared.CheckAnswer.the-variants as C
+use Rattle.replies.specs.declared.CheckAnswer.{CheckAnswer}
+use Rattle.replies.specs.declared.CheckAnswer.the-variants as C
 use Rattle.sheetfile.specs.declared.SheetAnswer.{SheetAnswer}
 use Rattle.sheetfile.specs.Sheets.{sheetOf, shutInSheet, loneSheet, replySheet}
 use Rattle.sheetfile.specs.Readings.{SheetReading, sheetRefused, sheetSays, unlessFault, readSheet, sheetWithRoom}

@@ -1,6 +1,6 @@
 // The laws of the sheets over the running calls. Their proofs cite only what the calls promise.
 use file_records::WriteAnswer;
-use planner::CheckAnswer;
+use replies::CheckAnswer;
 use sheetfile::SheetAnswer;
 ghost use Rattle.tables.specs.Rows.{netOf};
 ghost use Rattle.sheet_laws.specs.Laws.{SheetWriteRead, SheetReadWrite, SheetReadCheck, ReplyWriteRead};

@@ -16,9 +16,9 @@ use Rattle.file_records.specs.declared.WriteAnswer.{WriteAnswer}
 use Rattle.file_records.specs.declared.WriteAnswer.the-variants.{Refused as Unwritten}
 use Rattle.file_records.specs.Puts.{Wrote, roomFor, WroteWhole}
 use Rattle.network.specs.Replies.{firstOf}
-use Rattle.planner.specs.declared.CheckAnswer.{CheckAnswer}
-use Rattle.planner.specs.declared.CheckAnswer.the-variants as C
-use Rattle.planner.specs.Answers.{yesOr, unlessRefused, checkOf}
+use Rattle.replies.specs.declared.CheckAnswer.{CheckAnswer}
+use Rattle.replies.specs.declared.CheckAnswer.the-variants as C
+use Rattle.replies.specs.Answers.{yesOr, unlessRefused, checkOf}
 use Rattle.sheetfile.specs.Sheets.{sheetOf}
 use Rattle.sheetfile.specs.Rows.{Fitting}
 use Rattle.sheetfile.specs.Answers.{planFault, sheetFault, SheetWritten}

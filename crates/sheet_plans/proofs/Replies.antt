@@ -23,11 +23,11 @@ use Rattle.network.proofs.Replies.{Verdict, plans, no-way, one-lone, verdict}
 use Rattle.file_records.specs.declared.WriteAnswer.{WriteAnswer}
 use Rattle.file_records.specs.declared.WriteAnswer.the-variants.{Refused as Unwritten}
 use Rattle.file_records.specs.Puts.{Wrote, roomFor, WroteWhole}
-use Rattle.planner.specs.declared.Verdict.{Verdict as PlannerVerdict}
-use Rattle.planner.specs.declared.Verdict.the-variants.{Plan, ShutIn, Lone}
-use Rattle.planner.specs.declared.Answer.{Answer}
-use Rattle.planner.specs.declared.Answer.the-variants as A
-use Rattle.planner.specs.Answers.{given, answerOf, Written}
+use Rattle.replies.specs.declared.Verdict.{Verdict as PlannerVerdict}
+use Rattle.replies.specs.declared.Verdict.the-variants.{Plan, ShutIn, Lone}
+use Rattle.replies.specs.declared.Answer.{Answer}
+use Rattle.replies.specs.declared.Answer.the-variants as A
+use Rattle.replies.specs.Answers.{given, answerOf, Written}
 use Rattle.sheetfile.specs.Sheets.{sheetOf, shutInSheet, loneSheet, outcomeSheet, replySheet}
 use Rattle.sheetfile.specs.Rows.{Roomy, firstBytesSheet}
 use Rattle.sheetfile.specs.Answers.{ReplyWritten}

@@ -2,9 +2,9 @@
 // network's reply is put down as a sheet. For the crate `sheet`.
 use file_records::WriteAnswer;
 use network::Refusal;
-use planner::Answer;
-use planner::CheckAnswer;
-use planner::Verdict;
+use replies::Answer;
+use replies::CheckAnswer;
+use replies::Verdict;
 use sheetfile::SheetAnswer;
 ghost use mathlib.Core.Path.{_≡_};
 ghost use lib.ListN.{length};

@@ -16,12 +16,12 @@ use Rattle.network.specs.Settings.{gateCount, isSetting, settingFault}
 use Rattle.network.specs.Replies.{Outcome, plan, shutIn, lone, refused, planAfter, unless, roomFault, nextAnswer, nextReply}
 use Rattle.network.proofs.Order.{setting-length, plan-setting, next-is-plan}
 use Rattle.network.proofs.Replies.{next-given, unless-plan}
-use Rattle.planner.specs.declared.Verdict.the-variants.{Plan}
-use Rattle.planner.specs.declared.Reply.{Reply}
-use Rattle.planner.specs.declared.Answer.{Answer}
-use Rattle.planner.specs.declared.Answer.the-variants as A
-use Rattle.planner.specs.Answers.{Written}
-use Rattle.planner.proofs.Calls.{next-faulty}
+use Rattle.replies.specs.declared.Verdict.the-variants.{Plan}
+use Rattle.replies.specs.declared.Reply.{Reply}
+use Rattle.replies.specs.declared.Answer.{Answer}
+use Rattle.replies.specs.declared.Answer.the-variants as A
+use Rattle.replies.specs.Answers.{Written}
+use Rattle.replies.proofs.Refusals.{next-faulty}
 use Rattle.lent.proofs.Packings.{ByTable}
 use Rattle.walker.specs.declared.Walker.{Walker}
 use Rattle.walker.specs.declared.Stepped.{Stepped}

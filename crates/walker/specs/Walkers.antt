@@ -11,11 +11,11 @@ use Rattle.network.specs.declared.Refusal.{Refusal}
 use Rattle.network.specs.Networks.{Network, maxReaches, tableFault}
 use Rattle.network.specs.Settings.{gateCount, settingFault}
 use Rattle.network.specs.Replies.{Outcome, planAfter, nextReply, firstOf}
-use Rattle.planner.specs.declared.Verdict.{Verdict}
-use Rattle.planner.specs.declared.Verdict.the-variants.{Plan, ShutIn, Lone}
-use Rattle.planner.specs.declared.Answer.{Answer}
-use Rattle.planner.specs.declared.Answer.the-variants as A
-use Rattle.planner.specs.Answers.{Written}
+use Rattle.replies.specs.declared.Verdict.{Verdict}
+use Rattle.replies.specs.declared.Verdict.the-variants.{Plan, ShutIn, Lone}
+use Rattle.replies.specs.declared.Answer.{Answer}
+use Rattle.replies.specs.declared.Answer.the-variants as A
+use Rattle.replies.specs.Answers.{Written}
 use Rattle.walker.specs.declared.MakeAnswer.{MakeAnswer}
 use Rattle.walker.specs.declared.MakeAnswer.the-variants as M
 use Rattle.walker.specs.declared.Made.{Made}

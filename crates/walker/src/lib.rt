@@ -16,8 +16,8 @@ use lent::pack;
 use network::MAX_REACHES;
 use network::Reach;
 use network::Refusal;
-use planner::Answer;
-use planner::Verdict;
+use replies::Answer;
+use replies::Verdict;
 use tables::TableAnswer;
 use tables::gates_held;
 

@@ -4,8 +4,8 @@ use denote.Enum.Laws as EL
 use Rattle.lent.proofs.Relays.{refl, ℕ, _<_, _^_, List, [], _∷_, URA, w16, Val, vint, SProp, ent, id⊢, Lft, Share, ftrue, flft, Memory, Routine, Heap, Tables, WpFn, Atoms, fmOf, Fun, factI, givenOf, tables, tablesOf}
 use Rattle.lent.proofs.Relays.{Given, ‵, _⊛_, _$_, _∵_, !, qed, by, move, join, look-in, stop, from, land, returns, enter, allots, takes-in, within, copies, fills, lends, frees-all, uint-vals, uint-tells, u8, u16, owns, RefT, now, slice-vals, ShrSlice, MutSlice, Room, shr-slice-tells, mut-slice-tells, length, named, Fml}
 use Rattle.lent.proofs.Relays.{Bound, Contract, Triple, entered, cited, Reach, packedOf, Promise, meets, ending, calls-known, Packs, packs-cited, asked, val, table, table-tells, TableRoom, packs}
-use Rattle.planner.proofs.Answer as S
-use Rattle.planner.proofs.Answer.Laws as S′
+use Rattle.replies.proofs.Answer as S
+use Rattle.replies.proofs.Answer.Laws as S′
 use Rattle.calls.proofs.next_plan_packed as core
 use Rattle.calls.proofs.next_plan_packed.Symbol as core-def
 use Rattle.calls.proofs.next_plan_packed.Met as core-thm

@@ -4,9 +4,10 @@ use mathlib.Core.Path.{sym, ap, _∙_}
 use lib.Seq.{length-take-le}
 use borrow.Author.Tests.{not-true, not-false}
 use Rattle.tables.specs.Rows.{netOf}
-use Rattle.planner.specs.Answers.{yesOr}
+use Rattle.replies.specs.Answers.{yesOr}
 use Rattle.tables.proofs.Cuts.{cut-kinds, cut-a, cut-b, cut-net, cut-setting}
-use Rattle.planner.proofs.Calls.{cut-level, check-misfit, check-given}
+use Rattle.replies.proofs.Refusals.{check-misfit}
+use Rattle.planner.proofs.Calls.{cut-level, check-given}
 use borrow.Author.Needs.{needs}
 use Rattle.planner.proofs.check_table.Statement.{statement}
 use Rattle.planner.proofs.check_table.Tie as tie

@@ -4,7 +4,7 @@ use mathlib.Core.Path.{sym, _∙_}
 use Rattle.network.specs.Networks.{tableFault}
 use Rattle.tables.specs.Rows.{netOf}
 use Rattle.tables.proofs.Faults.{answer-refused, answer-accepted}
-use Rattle.planner.proofs.Calls.{refused-written, first-faulty}
+use Rattle.replies.proofs.Refusals.{refused-written, first-faulty}
 use borrow.Author.Needs.{needs}
 use Rattle.planner.proofs.first_plan_rows.Statement.{statement}
 use Rattle.planner.proofs.first_plan_rows.Tie as tie

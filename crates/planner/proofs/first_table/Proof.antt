@@ -6,7 +6,8 @@ use lib.ListN.{length}
 use lib.Seq.{length-take-le}
 use Rattle.tables.specs.Rows.{netOf}
 use Rattle.tables.proofs.Cuts.{cut-kinds, cut-a, cut-b, cut-net}
-use Rattle.planner.proofs.Calls.{cut-level, short-plan, short-marks, long-enough, refused-written, first-short, first-given}
+use Rattle.replies.proofs.Refusals.{refused-written, first-short}
+use Rattle.planner.proofs.Calls.{cut-level, short-plan, short-marks, long-enough, first-given}
 use borrow.Author.Needs.{needs}
 use Rattle.planner.proofs.first_table.Statement.{statement}
 use Rattle.planner.proofs.first_table.Tie as tie

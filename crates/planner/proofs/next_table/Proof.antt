@@ -9,7 +9,8 @@ use Rattle.network.specs.Networks.{Network}
 use Rattle.network.specs.Settings.{isSetting}
 use Rattle.tables.specs.Rows.{netOf}
 use Rattle.tables.proofs.Cuts.{cut-kinds, cut-a, cut-b, cut-net, cut-setting}
-use Rattle.planner.proofs.Calls.{cut-level, short-plan, short-marks, long-enough, refused-written, next-misfit, next-short, next-given}
+use Rattle.replies.proofs.Refusals.{refused-written, next-misfit, next-short}
+use Rattle.planner.proofs.Calls.{cut-level, short-plan, short-marks, long-enough, next-given}
 use borrow.Author.Needs.{needs}
 use Rattle.planner.proofs.next_table.Statement.{statement}
 use Rattle.planner.proofs.next_table.Tie as tie

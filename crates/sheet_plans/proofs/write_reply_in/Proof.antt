@@ -4,8 +4,8 @@ use mathlib.Core.Path.{ap, _∙_}
 use borrow.Author.Needs.{needs}
 use Rattle.network.specs.Networks.{Network}
 use Rattle.tables.specs.Rows.{netOf}
-use Rattle.planner.specs.declared.Answer.the-variants.{Given}
-use Rattle.planner.specs.declared.Verdict.the-variants.{Plan}
+use Rattle.replies.specs.declared.Answer.the-variants.{Given}
+use Rattle.replies.specs.declared.Verdict.the-variants.{Plan}
 use Rattle.sheet_plans.proofs.Replies.{reply-refused, reply-roomy, reply-put}
 use Rattle.sheet_plans.proofs.write_reply_in.Statement.{statement}
 use Rattle.sheet_plans.proofs.write_reply_in.Tie as tie

@@ -1,1 +1,0 @@
--- The proofs of following a setting, and of parting from it, at one reach.

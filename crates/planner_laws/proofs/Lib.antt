@@ -1,0 +1,2 @@
+-- Demand 3, from what the calls promise.
+pub mod Demands

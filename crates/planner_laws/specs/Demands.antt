@@ -1,0 +1,61 @@
+-- Demand 3, said of what a caller of next gets: the answer, and the plan or the marks in the lent buffers.
+-- Assumes nothing.
+use Prim.Native.Nat.{ℕ, _≤_}
+use mathlib.Core.Path.{_≡_}
+use mathlib.Core.Bool.{true, false}
+use mathlib.Core.Logic.{_↔_}
+use mathlib.Core.Option.{some}
+use mathlib.Core.List.{List}
+use lib.ListN.{length, take}
+use Rattle.network.specs.declared.Refusal.the-variants.{LastPlan}
+use Rattle.network.specs.Networks.{Network, Accepted}
+use Rattle.network.specs.Settings.{gateCount, isSetting, before}
+use Rattle.network.specs.Plans.{isPlan, nextPlan}
+use Rattle.network.specs.Marks.{markBytes}
+use Rattle.network.specs.Replies.{Outcome, plan, shutIn, lone, refused}
+use Rattle.replies.specs.declared.Verdict.{Verdict}
+use Rattle.replies.specs.declared.Verdict.the-variants.{Plan, ShutIn, Lone}
+use Rattle.replies.specs.declared.Answer.{Answer}
+use Rattle.replies.specs.declared.Answer.the-variants as A
+
+-- The reply that a caller reads: the first bytes of the plan buffer, one for each gated reach, or the 32 bytes of marks.
+abbrev pub readVerdict : Network → Verdict → List ℕ → List ℕ → Outcome
+readVerdict N Plan planBuffer marksBuffer = plan (take (gateCount N) planBuffer)
+readVerdict N (ShutIn f) planBuffer marksBuffer = shutIn (take markBytes marksBuffer) (f .count)
+readVerdict N (Lone f) planBuffer marksBuffer = lone (f .reach) (take markBytes marksBuffer) (f .count)
+
+abbrev pub readReply : Network → Answer → List ℕ → List ℕ → Outcome
+readReply N (A.Refused r) planBuffer marksBuffer = refused r
+readReply N (A.Given g) planBuffer marksBuffer = readVerdict N (g .verdict) planBuffer marksBuffer
+
+-- An accepted network, a setting of it, and lent buffers long enough, whatever they hold.
+pub record Asked (N : Network) (s planBuffer marksBuffer : List ℕ) : Type 0 where
+  pub accepted : Accepted N
+  pub fits : isSetting N s ≡ true
+  pub plan-room : gateCount N ≤ length planBuffer
+  pub marks-room : markBytes ≤ length marksBuffer
+
+-- What one reply of next says: a plan given is the next plan of the setting, later than it; one is given wherever a plan is later; "last plan"
+-- is said exactly where a plan exists and none is later.
+pub record NextShown (N : Network) (s : List ℕ) (o : Outcome) : Type 0 where
+  pub is-next : (p : List ℕ) → (o ≡ plan p) ↔ (nextPlan N s ≡ some p)
+  pub is-plan : (p : List ℕ) → o ≡ plan p → isPlan N p ≡ true
+  pub is-later : (p : List ℕ) → o ≡ plan p → before s p ≡ true
+  pub is-earliest : (p q : List ℕ) → o ≡ plan p → isPlan N q ≡ true → before s q ≡ true → before q p ≡ false
+  pub is-given : (q : List ℕ) → isPlan N q ≡ true → before s q ≡ true → (p : List ℕ) × (o ≡ plan p)
+  pub is-last : (o ≡ refused LastPlan) ↔ (((p : List ℕ) × (isPlan N p ≡ true)) × ((q : List ℕ) → isPlan N q ≡ true → before s q ≡ true → ⊥))
+
+-- No plan comes after s up to and including t.
+abbrev pub NoneBetween : Network → List ℕ → List ℕ → Type 0
+NoneBetween N s t = (p : List ℕ) → isPlan N p ≡ true → before s p ≡ true → before t p ≡ false → ⊥
+
+-- Demand 3 of two replies: o to the setting s and o′ to the setting t.
+pub record DemandThree (N : Network) (s t : List ℕ) (o o′ : Outcome) : Type 0 where
+  pub equal : before t s ≡ false → (o ≡ o′) ↔ NoneBetween N s t
+  pub first-shown : NextShown N s o
+  pub second-shown : NextShown N t o′
+
+-- Demand 3 over two calls of next, with buffers of their own that held anything: what their callers read.
+abbrev pub DemandOver : Network → List ℕ → List ℕ → List ℕ → List ℕ → List ℕ → List ℕ → List ℕ → List ℕ → List ℕ → List ℕ → Answer → Answer → Type 0
+DemandOver N s t plan₁ marks₁ plan₂ marks₂ plan₁′ marks₁′ plan₂′ marks₂′ r₁ r₂ =
+    Asked N s plan₁ marks₁ → Asked N t plan₂ marks₂ → DemandThree N s t (readReply N r₁ plan₁′ marks₁′) (readReply N r₂ plan₂′ marks₂′)

@@ -1,0 +1,2 @@
+-- Demand 3, said of what a caller gets.
+pub mod Demands

@@ -1,0 +1,50 @@
+-- `planning::check_in` meets its contract: the working memory is cut to the table.
+-- Assumes nothing.
+use native.Mathlib.Omega.{arith}
+use mathlib.Core.Path.{sym}
+use lib.Seq.{length-take-le}
+use Rattle.planning.proofs.Working.{level-few, level-room}
+use borrow.Author.Needs.{needs}
+use Rattle.planning.proofs.check_in.Statement.{statement}
+use Rattle.planning.proofs.check_in.Tie as tie
+
+slice-relend-prefix-strong-under : tie.Need-slice-relend-prefix-strong-under
+slice-relend-prefix-strong-under c = omega (arith, level-few ((c .before .before .before .before .before .before .before .before .before) .pre .0), (c .before .before .before .before .before .before .before .before .before) .pre .1 .ways-space)
+
+slice-aggregate-strong-under : tie.Need-slice-aggregate-strong-under
+slice-aggregate-strong-under c = let s = (c .before .before .before .before .before .before .before .before .before .before) in sym (length-take-le _ (s .args .ways .now) (omega (arith, level-few (s .pre .0), s .pre .1 .ways-space)))
+
+strong-under-requires : tie.Need-strong-under-requires
+strong-under-requires c κs = let s = (c .before .before .before .before .before .before .before .before .before .before .before .before .before .before) in level-room (s .pre .0) (s .pre .1)
+
+same-length : tie.Need-same-length
+same-length c = search needs
+
+same-length-2 : tie.Need-same-length-2
+same-length-2 c = search needs
+
+same-length-3 : tie.Need-same-length-3
+same-length-3 c = search needs
+
+same-length-4 : tie.Need-same-length-4
+same-length-4 c = search needs
+
+same-length-5 : tie.Need-same-length-5
+same-length-5 c = search needs
+
+returns : tie.Need-returns
+returns c = search needs
+
+pub check-in-spec : {M : Type 1} → statement M
+check-in-spec =
+    tie.close
+    (tie.spec
+    slice-relend-prefix-strong-under
+    slice-aggregate-strong-under
+    strong-under-requires
+    same-length
+    same-length-2
+    same-length-3
+    same-length-4
+    same-length-5
+    returns)

@@ -1,0 +1,2 @@
+-- Lent buffers, and working memory for the largest table.
+pub mod Rooms

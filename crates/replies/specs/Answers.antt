@@ -1,0 +1,47 @@
+-- The planner's answers: the code's enums as document 01's replies, with its numbers and values.
+-- Assumes nothing.
+use Prim.Native.Nat.{ℕ}
+use mathlib.Core.Path.{_≡_}
+use mathlib.Core.Bool.{Bool, true, false}
+use mathlib.Core.Option.{Option, none, some}
+use mathlib.Core.List.{List}
+use Rattle.network.specs.declared.Refusal.{Refusal}
+use Rattle.network.specs.Networks.{Network, tableFault}
+use Rattle.network.specs.Settings.{settingFault}
+use Rattle.network.specs.Plans.{isPlan}
+use Rattle.network.specs.Replies.{Outcome, plan, shutIn, lone, refused, planAfter, marksAfter}
+use Rattle.replies.specs.declared.Verdict.{Verdict}
+use Rattle.replies.specs.declared.Verdict.the-variants.{Plan, ShutIn, Lone}
+use Rattle.replies.specs.declared.Answer.{Answer}
+use Rattle.replies.specs.declared.Answer.the-variants as A
+use Rattle.replies.specs.declared.CheckAnswer.{CheckAnswer}
+use Rattle.replies.specs.declared.CheckAnswer.the-variants as C
+
+-- The verdict of a reply that is no refusal by number only; the plan and the marks stand in the lent buffers.
+abbrev pub given : Verdict → Answer
+given v = A.Given (record { verdict = v })
+
+-- The answer that says a reply. A shut-in finding has no reach, and 0 stands in its place.
+abbrev pub answerOf : Outcome → Answer
+answerOf (plan s) = given Plan
+answerOf (shutIn m c) = given (ShutIn (record { reach = 0; count = c }))
+answerOf (lone i m c) = given (Lone (record { reach = i; count = c }))
+answerOf (refused r) = A.Refused r
+
+-- The reply o was given: the answer says it, its plan and its marks stand in the first bytes of the lent buffers, and all else is untouched.
+pub record Written (o : Outcome) (plan marks plan′ marks′ : List ℕ) (r : Answer) : Type 0 where
+  pub reply : r ≡ answerOf o
+  pub plan-left : plan′ ≡ planAfter o plan
+  pub marks-left : marks′ ≡ marksAfter o marks
+
+-- The check of a setting "answers yes or no after 1, 2, 3, 8".
+abbrev pub yesOr : Bool → CheckAnswer
+yesOr true = C.Yes
+yesOr false = C.No
+
+abbrev pub unlessRefused : Option Refusal → CheckAnswer → CheckAnswer
+unlessRefused (some r) a = C.Refused r
+unlessRefused none a = a
+
+unfoldable pub checkOf : Network → List ℕ → CheckAnswer
+checkOf N s = unlessRefused (tableFault N) (unlessRefused (settingFault N s) (yesOr (isPlan N s)))
