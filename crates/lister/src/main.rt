@@ -2,8 +2,8 @@
 // What it prints is made in the crate `listing`; here are only the reading and the writing.
 use libc::STDIN_FILENO;
 use libc::STDOUT_FILENO;
-use listing::Lister;
-use listing::MAX_BYTES;
+use listing_state::Lister;
+use listing_state::MAX_BYTES;
 use network::MAX_REACHES;
 
 // The bytes of one call that writes.
@@ -13,7 +13,7 @@ const CHUNK: usize = 65536;
 fn print(lister: Lister, kinds: &[u8], a: &[u16], b: &[u16], out: &mut [u8]) {
     let mut state = lister;
     loop {
-        let filled = state.fill(kinds, a, b, out);
+        let filled = listing::fill(state, kinds, a, b, out);
         let n = filled.count;
         if n == 0 {
             return;
@@ -27,7 +27,7 @@ fn print(lister: Lister, kinds: &[u8], a: &[u16], b: &[u16], out: &mut [u8]) {
 
 // Prints the listing of a file.
 fn list(file: &[u8], kinds: &mut [u8], a: &mut [u16], b: &mut [u16], out: &mut [u8]) {
-    let started = listing::start(file, kinds, a, b);
+    let started = listing_state::start(file, kinds, a, b);
     let m = started.reaches;
     let lister = started.lister;
     print(lister, &kinds[..m], &a[..m], &b[..m], out);

@@ -19,10 +19,10 @@ use Rattle.lines.specs.Listings.{line, character, planText}
 use Rattle.lines.specs.Puts.{Put}
 use Rattle.lists.proofs.Lists.{Copied, nil-of-length, copied-none, copied-length, take-rest}
 use Rattle.lines.proofs.Puts.{copied-end, put-copied}
-use Rattle.listing.specs.declared.Lister.{Lister}
-use Rattle.listing.specs.declared.Filled.{Filled}
-use Rattle.listing.specs.Pending.{lineOf, linesAfter, planIn, restOf, pendingOf, lentNet, pending, Filling}
-use Rattle.listing.specs.Parts.{Turned}
+use Rattle.listing_state.specs.declared.Lister.{Lister}
+use Rattle.listing_state.specs.declared.Filled.{Filled}
+use Rattle.listing_state.specs.Pending.{lineOf, linesAfter, planIn, restOf, pendingOf, lentNet, pending, Filling}
+use Rattle.listing_state.specs.Parts.{Turned}
 
 -- n bytes of what is to be printed in l stand in the buffer; the others are to be printed in the state.
 pub record Printing (l : Lister) (kinds a b out out′ : List ℕ) (state : Lister) (n : ℕ) : Type 0 where

@@ -23,7 +23,7 @@ use Rattle.netfile_format.specs.Files.{Reading, refused, read, headDue, reachDu
 use Rattle.netfile_format.proofs.Files.{write-read}
 use Rattle.lines.specs.Listings.{maxBytes, maxPlans, refusalLine, replyLines, readingLines, listing}
 use Rattle.listing.specs.Laws.{Printed, one-line, plans}
-use Rattle.listing.proofs.Starts.{bytes-first}
+use Rattle.listing_state.proofs.Starts.{bytes-first}
 
 -- ---- a file is refused by one of 1 to 6
 

@@ -26,13 +26,13 @@ use Rattle.stepping.proofs.Rewrites.{gates-split}
 use Rattle.listing.proofs.Priming.{spare-ready}
 use Rattle.lines.specs.declared.Due.{Due}
 use Rattle.lines.specs.declared.Due.the-variants as D
-use Rattle.listing.specs.declared.Lister.{Lister}
+use Rattle.listing_state.specs.declared.Lister.{Lister}
 use Rattle.lines.specs.Listings.{replyLines}
 use Rattle.lines.specs.Dues.{planDue}
-use Rattle.listing.specs.Pending.{pendingOf, lentNet}
-use Rattle.listing.specs.Parts.{LineAfter}
+use Rattle.listing_state.specs.Pending.{pendingOf, lentNet}
+use Rattle.listing_state.specs.Parts.{LineAfter}
 use Rattle.listing.specs.Keeping.{Standing, Kept, unknown, kept}
-use Rattle.listing.proofs.States.{GivenPlan, roomy, plan-held, reply-pending}
+use Rattle.listing_state.proofs.States.{GivenPlan, roomy, plan-held, reply-pending}
 
 module _ (l : Lister) (ks xs ys ws : List ℕ) (left g : ℕ) (held : g ≡ gatesHeld (lentNet l ks xs ys)) (p : AtPlan (l .basins) ks xs ys (take g (l .setting)) ws) where
   abbrev N : Network

@@ -10,11 +10,11 @@ use Rattle.lists.proofs.Lists.{nil-of-length}
 use Rattle.network.specs.Networks.{Network, maxReaches}
 use Rattle.lines.specs.declared.Due.{Due}
 use Rattle.lines.specs.declared.Due.the-variants as D
-use Rattle.listing.specs.declared.Lister.{Lister}
+use Rattle.listing_state.specs.declared.Lister.{Lister}
 use Rattle.lines.specs.Listings.{line, planText, refusedText, character}
-use Rattle.listing.specs.Pending.{lineOf, linesAfter, planIn, restOf, pendingOf}
+use Rattle.listing_state.specs.Pending.{lineOf, linesAfter, planIn, restOf, pendingOf}
 use Rattle.tables.specs.Rows.{gatesHeld}
-use Rattle.listing.specs.Parts.{LineAfter, planLength, Turned}
+use Rattle.listing_state.specs.Parts.{LineAfter, planLength, Turned}
 
 -- the length of a plan's line
 plan-size : (s : List ℕ) → length (line (planText s)) ≡ planLength (length s)

@@ -1,6 +1,4 @@
 -- What is still to be printed of the lister's text, and what is printed at all.
 pub mod Laws
-pub mod Pending
-pub mod Parts
 pub mod Keeping
 pub mod Priming

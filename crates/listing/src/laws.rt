@@ -11,10 +11,10 @@ fn list_in(file: &[u8], kinds: &mut [u8], a: &mut [u16], b: &mut [u16], out: &mu
     requires { ⌜ maxReaches ≤ roomOf (now kinds) (now a) (now b) ⌝ }
     ensures { λ r. ⌜ Put (listing (now (file .entry))) (now (out .entry)) (now (out .exit)) r ⌝ }
 {
-    let started = crate::start(file, kinds, a, b);
+    let started = listing_state::start(file, kinds, a, b);
     let m = started.reaches;
     let lister = started.lister;
-    let filled = lister.fill(&kinds[..m], &a[..m], &b[..m], out);
+    let filled = crate::fill(lister, &kinds[..m], &a[..m], &b[..m], out);
     filled.count
 }
 

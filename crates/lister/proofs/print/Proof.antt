@@ -3,7 +3,7 @@
 use mathlib.Core.Path.{_≡_, refl, sym, _∙_}
 use lib.ListN.{length}
 use lib.Seq.{length-take-le}
-use Rattle.listing.specs.Pending.{pending}
+use Rattle.listing_state.specs.Pending.{pending}
 use Rattle.listing.proofs.Fills.{fill-length, fill-within, fill-less}
 use Rattle.lister.proofs.print.Statement.{statement}
 use Rattle.lister.proofs.print.Tie as tie

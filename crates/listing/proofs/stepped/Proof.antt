@@ -4,7 +4,7 @@ use native.Mathlib.Omega.{arith}
 use mathlib.Core.Path.{sym, _∙_}
 use lib.Seq.{length-take-le}
 use borrow.Author.Needs.{needs}
-use Rattle.listing.proofs.Sizes.{lister-size}
+use Rattle.listing_state.proofs.Sizes.{lister-size}
 use Rattle.listing.proofs.Steps.{gates-held, gates-room, front-stands, step-last, step-next, step-stands, was-last, was-next}
 use Rattle.listing.proofs.stepped.Statement.{statement}
 use Rattle.listing.proofs.stepped.Tie as tie

@@ -4,10 +4,10 @@ use native.Mathlib.Omega.{arith}
 use mathlib.Core.Path.{ap, subst}
 use lib.ListN.{take}
 use Rattle.lines.specs.declared.Due.{Due}
-use Rattle.listing.specs.Pending.{linesAfter, planIn, lentNet}
-use Rattle.listing.specs.Parts.{planLength}
+use Rattle.listing_state.specs.Pending.{linesAfter, planIn, lentNet}
+use Rattle.listing_state.specs.Parts.{planLength}
 use Rattle.listing.specs.Keeping.{Kept}
-use Rattle.listing.proofs.Sizes.{lister-size}
+use Rattle.listing_state.proofs.Sizes.{lister-size}
 use Rattle.listing.proofs.Turns.{turned-none, turned-next, turned-last}
 use borrow.Author.Needs.{needs}
 use Rattle.listing.proofs.turned.Statement.{statement}

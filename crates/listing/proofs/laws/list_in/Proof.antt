@@ -6,7 +6,7 @@ use lib.ListN.{length}
 use lib.Seq.{length-take-le}
 use Rattle.file_records.proofs.Records.{bytes-make}
 use Rattle.lines.proofs.Puts.{put-same}
-use Rattle.listing.proofs.Starts.{started-long, started-listing}
+use Rattle.listing_state.proofs.Starts.{started-long, started-listing}
 use borrow.Author.Needs.{needs}
 use Rattle.listing.proofs.laws.list_in.Statement.{statement}
 use Rattle.listing.proofs.laws.list_in.Tie as tie

@@ -10,8 +10,8 @@ use Rattle.tables.specs.Rows.{netOf}
 use Rattle.lines.specs.declared.Due.the-variants as D
 use Rattle.lines.specs.Listings.{maxPlans, replyLines}
 use Rattle.lines.specs.Dues.{refusalDue}
-use Rattle.listing.specs.declared.Lister.{Lister}
-use Rattle.listing.specs.Pending.{linesAfter, planIn, restOf, pendingOf}
+use Rattle.listing_state.specs.declared.Lister.{Lister}
+use Rattle.listing_state.specs.Pending.{linesAfter, planIn, restOf, pendingOf}
 
 -- The first line's state, and that after the line of a plan.
 pub record FirstLine (n : ℕ) (kinds a b : List ℕ) (r : Lister) : Type 0 where

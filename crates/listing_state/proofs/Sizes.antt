@@ -7,8 +7,8 @@ use mir.Val.{Val}
 use denote.Laws.{Is}
 use denote.Struct.Declared.{row}
 use Rattle.network.specs.Networks.{maxReaches}
-use Rattle.listing.specs.declared.Lister.{Lister}
-use Rattle.listing.proofs.Lister.{the-type}
+use Rattle.listing_state.specs.declared.Lister.{Lister}
+use Rattle.listing_state.proofs.Lister.{the-type}
 
 -- The machine's values of a state, of which there are some at entry, hold an array of that length.
 pub lister-size : (l : Lister) {vs : List Val} → Is (row the-type) l vs → length (l .setting) ≡ maxReaches

@@ -15,9 +15,9 @@ use Rattle.lines.specs.declared.Due.{Due}
 use Rattle.lines.specs.declared.Due.the-variants as D
 use Rattle.lines.specs.Listings.{maxBytes, line, planText, endText, moreText, refusedText, replyLines, readingLines}
 use Rattle.lines.specs.Puts.{Put}
-use Rattle.listing.specs.declared.Lister.{Lister}
-use Rattle.listing.specs.declared.Started.{Started}
-use Rattle.listing.specs.declared.Filled.{Filled}
+use Rattle.listing_state.specs.declared.Lister.{Lister}
+use Rattle.listing_state.specs.declared.Started.{Started}
+use Rattle.listing_state.specs.declared.Filled.{Filled}
 
 -- The line that is being printed; s is the plan in hand.
 abbrev pub lineOf : Due → List ℕ → List ℕ

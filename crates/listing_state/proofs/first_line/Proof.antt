@@ -1,10 +1,10 @@
--- `listing::first_line` meets its contract: the line that the reply of first calls for.
+-- `listing_state::first_line` meets its contract: the line that the reply of first calls for.
 -- Assumes nothing.
 use mathlib.Core.Path.{refl}
-use Rattle.listing.proofs.States.{first-state}
+use Rattle.listing_state.proofs.States.{first-state}
 use borrow.Author.Needs.{needs}
-use Rattle.listing.proofs.first_line.Statement.{statement}
-use Rattle.listing.proofs.first_line.Tie as tie
+use Rattle.listing_state.proofs.first_line.Statement.{statement}
+use Rattle.listing_state.proofs.first_line.Tie as tie
 
 slice-aggregate-first-plan-rows : tie.Need-slice-aggregate-first-plan-rows
 slice-aggregate-first-plan-rows c = search needs

@@ -26,12 +26,12 @@ use Rattle.netfile_format.specs.Answers.{roomOf, withRoom, reachesRead, RowsFil
 use Rattle.tables.proofs.Laws.{table-of-rows}
 use Rattle.netfile_format.proofs.Files.{write-read}
 use Rattle.netfile_format.proofs.Calls.{room-kept, answer-refused, Counted, answer-read}
-use Rattle.listing.specs.declared.Lister.{Lister}
-use Rattle.listing.specs.declared.Started.{Started}
+use Rattle.listing_state.specs.declared.Lister.{Lister}
+use Rattle.listing_state.specs.declared.Started.{Started}
 use Rattle.lines.specs.Listings.{maxBytes, maxPlans, replyLines, readingLines, listing}
-use Rattle.listing.specs.Pending.{pendingOf, pending, fileRead, Starting}
-use Rattle.listing.specs.Parts.{FirstLine, RefusalLine}
-use Rattle.listing.proofs.States.{first-roomy, refusal-pending}
+use Rattle.listing_state.specs.Pending.{pendingOf, pending, fileRead, Starting}
+use Rattle.listing_state.specs.Parts.{FirstLine, RefusalLine}
+use Rattle.listing_state.proofs.States.{first-roomy, refusal-pending}
 
 -- what is read of them is read of the first 8,000
 pub first-read : (file : List ℕ) {n : ℕ} {kinds a b kinds′ a′ b′ : List ℕ} {r : ReadAnswer} → n ≡ min (length file) maxBytes → NetworkRead (take n file) kinds a b r kinds′ a′ b′ → NetworkRead (take maxBytes file) kinds a b r kinds′ a′ b′

@@ -1,4 +1,4 @@
--- `listing::start` meets its contract, by what the reader promises.
+-- `listing_state::start` meets its contract, by what the reader promises.
 -- Assumes nothing.
 use Prim.Native.Nat.{_≤_}
 use native.Mathlib.Omega.{arith}
@@ -11,10 +11,10 @@ use Rattle.netfile_format.specs.Answers.{NetworkRead}
 use Rattle.file_records.proofs.Records.{bytes-make}
 use Rattle.netfile_format.proofs.Calls.{rows-long}
 use Rattle.lines.specs.Listings.{maxBytes}
-use Rattle.listing.proofs.Starts.{first-read, bytes-first, start-refused, start-read}
+use Rattle.listing_state.proofs.Starts.{first-read, bytes-first, start-refused, start-read}
 use borrow.Author.Needs.{needs}
-use Rattle.listing.proofs.start.Statement.{statement}
-use Rattle.listing.proofs.start.Tie as tie
+use Rattle.listing_state.proofs.start.Statement.{statement}
+use Rattle.listing_state.proofs.start.Tie as tie
 
 -- what the reader promises of its answer r
 abbrev Got : tie.After-read-network-rows → ReadAnswer → Type 0

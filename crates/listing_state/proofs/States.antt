@@ -27,9 +27,9 @@ use Rattle.lines.specs.declared.Due.{Due}
 use Rattle.lines.specs.declared.Due.the-variants as D
 use Rattle.lines.specs.Listings.{maxPlans, line, planText, endText, refusedText, plansFrom, refusalLine, replyLines}
 use Rattle.lines.specs.Dues.{refusalDue, dueOf}
-use Rattle.listing.specs.declared.Lister.{Lister}
-use Rattle.listing.specs.Pending.{lineOf, linesAfter, restOf, pendingOf, lentNet}
-use Rattle.listing.specs.Parts.{FirstLine, LineAfter, RefusalLine}
+use Rattle.listing_state.specs.declared.Lister.{Lister}
+use Rattle.listing_state.specs.Pending.{lineOf, linesAfter, restOf, pendingOf, lentNet}
+use Rattle.listing_state.specs.Parts.{FirstLine, LineAfter, RefusalLine}
 
 -- ---- a plan that is replied is a plan of an accepted table
 
