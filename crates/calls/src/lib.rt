@@ -10,11 +10,9 @@ use replies::Answer;
 use replies::CheckAnswer;
 use tables::TableAnswer;
 ghost use mathlib.Core.Path.{_≡_};
-ghost use lib.ListN.{length};
 ghost use Rattle.network.specs.Networks.{tableFault};
-ghost use Rattle.network.specs.Replies.{firstReply, nextReply};
 ghost use Rattle.tables.specs.Answers.{answerOf};
-ghost use Rattle.replies.specs.Answers.{checkOf, Written};
+ghost use Rattle.replies.specs.Answers.{CheckCall, FirstCall, NextCall};
 ghost use Rattle.lent.specs.Tables.{lentNet, OfTable};
 
 // The call over rows, for each public call. The rows of an over-full table are over-full too, and refused as such.
@@ -29,7 +27,7 @@ fn table_check_packed(basins: u16, p: Packed) -> TableAnswer
 }
 
 fn check_packed(basins: u16, p: Packed, setting: &[u8]) -> CheckAnswer
-    ensures { λ r. ⌜ OfTable basins p (λ N. r ≡ checkOf N (now (setting .entry))) ⌝ }
+    ensures { λ r. ⌜ OfTable basins p (λ N. CheckCall N (now (setting .entry)) r) ⌝ }
 {
     let n = held(p.n);
     let kinds = p.kinds;
@@ -39,7 +37,7 @@ fn check_packed(basins: u16, p: Packed, setting: &[u8]) -> CheckAnswer
 }
 
 fn first_plan_packed(basins: u16, p: Packed, plan: &mut [u8], marks: &mut [u8]) -> Answer
-    ensures { λ r. ⌜ OfTable basins p (λ N. Written (firstReply N (length (now (plan .entry))) (length (now (marks .entry)))) (now (plan .entry)) (now (marks .entry)) (now (plan .exit)) (now (marks .exit)) r) ⌝ }
+    ensures { λ r. ⌜ OfTable basins p (λ N. FirstCall N (now (plan .entry)) (now (marks .entry)) r (now (plan .exit)) (now (marks .exit))) ⌝ }
 {
     let n = held(p.n);
     let kinds = p.kinds;
@@ -55,7 +53,8 @@ fn next_plan_packed(
     plan: &mut [u8],
     marks: &mut [u8],
 ) -> Answer
-    ensures { λ r. ⌜ OfTable basins p (λ N. Written (nextReply N (now (setting .entry)) (length (now (plan .entry))) (length (now (marks .entry)))) (now (plan .entry)) (now (marks .entry)) (now (plan .exit)) (now (marks .exit)) r) ⌝ }
+    ensures { λ r. ⌜ OfTable basins p (λ N. NextCall N (now (setting .entry)) (now (plan .entry)) (now (marks .entry)) r (now (plan .exit))
+        (now (marks .exit))) ⌝ }
 {
     let n = held(p.n);
     let kinds = p.kinds;
@@ -73,14 +72,14 @@ pub fn table_check(basins: u16, table: &[Reach]) -> TableAnswer
 
 // Whether a setting is a plan of the network. Refuses 1, 2, 3 and 8, and writes nothing.
 pub fn check(basins: u16, table: &[Reach], setting: &[u8]) -> CheckAnswer
-    ensures { λ r. ⌜ r ≡ checkOf (lentNet basins (now (table .entry))) (now (setting .entry)) ⌝ }
+    ensures { λ r. ⌜ CheckCall (lentNet basins (now (table .entry))) (now (setting .entry)) r ⌝ }
 {
     check_packed(basins, pack(table), setting)
 }
 
 // The first plan of the network, or the finding that shows why there is none. Refuses 1, 2, 3 and 7.
 pub fn first_plan(basins: u16, table: &[Reach], plan: &mut [u8], marks: &mut [u8]) -> Answer
-    ensures { λ r. ⌜ Written (firstReply (lentNet basins (now (table .entry))) (length (now (plan .entry))) (length (now (marks .entry)))) (now (plan .entry)) (now (marks .entry)) (now (plan .exit)) (now (marks .exit)) r ⌝ }
+    ensures { λ r. ⌜ FirstCall (lentNet basins (now (table .entry))) (now (plan .entry)) (now (marks .entry)) r (now (plan .exit)) (now (marks .exit)) ⌝ }
 {
     first_plan_packed(basins, pack(table), plan, marks)
 }
@@ -94,7 +93,8 @@ pub fn next_plan(
     plan: &mut [u8],
     marks: &mut [u8],
 ) -> Answer
-    ensures { λ r. ⌜ Written (nextReply (lentNet basins (now (table .entry))) (now (setting .entry)) (length (now (plan .entry))) (length (now (marks .entry)))) (now (plan .entry)) (now (marks .entry)) (now (plan .exit)) (now (marks .exit)) r ⌝ }
+    ensures { λ r. ⌜ NextCall (lentNet basins (now (table .entry))) (now (setting .entry)) (now (plan .entry)) (now (marks .entry)) r
+        (now (plan .exit)) (now (marks .exit)) ⌝ }
 {
     next_plan_packed(basins, pack(table), setting, plan, marks)
 }

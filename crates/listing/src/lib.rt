@@ -102,9 +102,11 @@ fn line_after(
     queue: &mut [u16],
 ) -> Lister
     requires { ⌜ g ≡ gatesHeld (lentNet l (now kinds) (now a) (now b)) ⌝ }
-    requires { ⌜ Kept (l .basins) (now kinds) (now a) (now b) (Due.Plan left) (take g (l .setting)) (now under) (now ways) (now head) (now next) (now seen) (now queue) standing ⌝ }
+    requires { ⌜ Kept (l .basins) (now kinds) (now a) (now b) (Due.Plan left) (take g (l .setting)) (now under) (now ways) (now head) (now next)
+        (now seen) (now queue) standing ⌝ }
     ensures { λ r. ⌜ LineAfter (lentNet l (now (kinds .entry)) (now (a .entry)) (now (b .entry))) l left r ⌝ }
-    ensures { λ r. ⌜ Kept (l .basins) (now (kinds .entry)) (now (a .entry)) (now (b .entry)) (r .due) (take g (r .setting)) (now (under .exit)) (now (ways .exit)) (now (head .entry)) (now (next .entry)) (now (seen .exit)) (now (queue .exit)) standing ⌝ }
+    ensures { λ r. ⌜ Kept (l .basins) (now (kinds .entry)) (now (a .entry)) (now (b .entry)) (r .due) (take g (r .setting)) (now (under .exit))
+        (now (ways .exit)) (now (head .entry)) (now (next .entry)) (now (seen .exit)) (now (queue .exit)) standing ⌝ }
 {
     if standing {
         return stepped(
@@ -141,9 +143,11 @@ fn turned(
     queue: &mut [u16],
 ) -> Lister
     requires { ⌜ g ≡ gatesHeld (lentNet l (now kinds) (now a) (now b)) ⌝ }
-    requires { ⌜ Kept (l .basins) (now kinds) (now a) (now b) (l .due) (take g (l .setting)) (now under) (now ways) (now head) (now next) (now seen) (now queue) standing ⌝ }
+    requires { ⌜ Kept (l .basins) (now kinds) (now a) (now b) (l .due) (take g (l .setting)) (now under) (now ways) (now head) (now next)
+        (now seen) (now queue) standing ⌝ }
     ensures { λ r. ⌜ Turned (lentNet l (now (kinds .entry)) (now (a .entry)) (now (b .entry))) l r ⌝ }
-    ensures { λ r. ⌜ Kept (l .basins) (now (kinds .entry)) (now (a .entry)) (now (b .entry)) (r .due) (take g (r .setting)) (now (under .exit)) (now (ways .exit)) (now (head .entry)) (now (next .entry)) (now (seen .exit)) (now (queue .exit)) standing ⌝ }
+    ensures { λ r. ⌜ Kept (l .basins) (now (kinds .entry)) (now (a .entry)) (now (b .entry)) (r .due) (take g (r .setting)) (now (under .exit))
+        (now (ways .exit)) (now (head .entry)) (now (next .entry)) (now (seen .exit)) (now (queue .exit)) standing ⌝ }
 {
     let due = l.due;
     match due {
@@ -189,7 +193,8 @@ fn print_lines(
     queue: &mut [u16],
 ) -> Filled
     requires { ⌜ g ≡ gatesHeld (lentNet l (now kinds) (now a) (now b)) ⌝ }
-    requires { ⌜ Kept (l .basins) (now kinds) (now a) (now b) (l .due) (take g (l .setting)) (now under) (now ways) (now head) (now next) (now seen) (now queue) standing ⌝ }
+    requires { ⌜ Kept (l .basins) (now kinds) (now a) (now b) (l .due) (take g (l .setting)) (now under) (now ways) (now head) (now next)
+        (now seen) (now queue) standing ⌝ }
     ensures { λ r. ⌜ Filling l (now (kinds .entry)) (now (a .entry)) (now (b .entry)) (now (out .entry)) (now (out .exit)) r ⌝ }
 {
     let mut state = l;

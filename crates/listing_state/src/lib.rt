@@ -121,7 +121,8 @@ fn refusal_line(r: Refusal) -> Lister
 
 // Reads the first bytes of a file into the rows, and finds the first line.
 pub fn start(file: &[u8], kinds: &mut [u8], a: &mut [u16], b: &mut [u16]) -> Started
-    ensures { λ r. ⌜ Starting (now (file .entry)) (now (kinds .entry)) (now (a .entry)) (now (b .entry)) r (now (kinds .exit)) (now (a .exit)) (now (b .exit)) ⌝ }
+    ensures { λ r. ⌜ Starting (now (file .entry)) (now (kinds .entry)) (now (a .entry)) (now (b .entry)) r (now (kinds .exit)) (now (a .exit))
+        (now (b .exit)) ⌝ }
 {
     let n = least(file.len(), MAX_BYTES);
     match netfile::read_network_rows(&file[..n], kinds, a, b) {

@@ -8,12 +8,9 @@ use planning::next_accepted;
 use replies::Answer;
 use replies::CheckAnswer;
 use tables::TableAnswer;
-ghost use mathlib.Core.Path.{_≡_};
-ghost use lib.ListN.{length};
 ghost use Rattle.network.specs.Networks.{Accepted};
-ghost use Rattle.network.specs.Replies.{firstReply, nextReply};
 ghost use Rattle.tables.specs.Rows.{netOf};
-ghost use Rattle.replies.specs.Answers.{checkOf, Written};
+ghost use Rattle.replies.specs.Answers.{CheckCall, FirstCall, NextCall};
 
 // First plan of an accepted table, after 7.
 fn first_table(
@@ -25,7 +22,8 @@ fn first_table(
     marks: &mut [u8],
 ) -> Answer
     requires { ⌜ Accepted (netOf n (now kinds) (now a) (now b)) ⌝ }
-    ensures { λ r. ⌜ Written (firstReply (netOf n (now (kinds .entry)) (now (a .entry)) (now (b .entry))) (length (now (plan .entry))) (length (now (marks .entry)))) (now (plan .entry)) (now (marks .entry)) (now (plan .exit)) (now (marks .exit)) r ⌝ }
+    ensures { λ r. ⌜ FirstCall (netOf n (now (kinds .entry)) (now (a .entry)) (now (b .entry))) (now (plan .entry)) (now (marks .entry)) r
+        (now (plan .exit)) (now (marks .exit)) ⌝ }
 {
     let m = tables::row_count(kinds, a, b);
     let ks = &kinds[..m];
@@ -47,7 +45,8 @@ pub fn first_plan_rows(
     plan: &mut [u8],
     marks: &mut [u8],
 ) -> Answer
-    ensures { λ r. ⌜ Written (firstReply (netOf basins (now (kinds .entry)) (now (a .entry)) (now (b .entry))) (length (now (plan .entry))) (length (now (marks .entry)))) (now (plan .entry)) (now (marks .entry)) (now (plan .exit)) (now (marks .exit)) r ⌝ }
+    ensures { λ r. ⌜ FirstCall (netOf basins (now (kinds .entry)) (now (a .entry)) (now (b .entry))) (now (plan .entry)) (now (marks .entry)) r
+        (now (plan .exit)) (now (marks .exit)) ⌝ }
 {
     if let TableAnswer::Refused(r) = tables::table_fault(basins, kinds, a, b) {
         return Answer::Refused(r);
@@ -58,7 +57,7 @@ pub fn first_plan_rows(
 // The check of a setting of an accepted table, after 8.
 fn check_table(n: usize, kinds: &[u8], a: &[u16], b: &[u16], setting: &[u8]) -> CheckAnswer
     requires { ⌜ Accepted (netOf n (now kinds) (now a) (now b)) ⌝ }
-    ensures { λ r. ⌜ r ≡ checkOf (netOf n (now (kinds .entry)) (now (a .entry)) (now (b .entry))) (now (setting .entry)) ⌝ }
+    ensures { λ r. ⌜ CheckCall (netOf n (now (kinds .entry)) (now (a .entry)) (now (b .entry))) (now (setting .entry)) r ⌝ }
 {
     let m = tables::row_count(kinds, a, b);
     let ks = &kinds[..m];
@@ -74,7 +73,7 @@ fn check_table(n: usize, kinds: &[u8], a: &[u16], b: &[u16], setting: &[u8]) -> 
 
 // Whether a setting is a plan of the network. Refuses 1, 2, 3 and 8, and writes nothing.
 pub fn check_rows(basins: u16, kinds: &[u8], a: &[u16], b: &[u16], setting: &[u8]) -> CheckAnswer
-    ensures { λ r. ⌜ r ≡ checkOf (netOf basins (now (kinds .entry)) (now (a .entry)) (now (b .entry))) (now (setting .entry)) ⌝ }
+    ensures { λ r. ⌜ CheckCall (netOf basins (now (kinds .entry)) (now (a .entry)) (now (b .entry))) (now (setting .entry)) r ⌝ }
 {
     if let TableAnswer::Refused(r) = tables::table_fault(basins, kinds, a, b) {
         return CheckAnswer::Refused(r);
@@ -93,7 +92,8 @@ fn next_table(
     marks: &mut [u8],
 ) -> Answer
     requires { ⌜ Accepted (netOf n (now kinds) (now a) (now b)) ⌝ }
-    ensures { λ r. ⌜ Written (nextReply (netOf n (now (kinds .entry)) (now (a .entry)) (now (b .entry))) (now (setting .entry)) (length (now (plan .entry))) (length (now (marks .entry)))) (now (plan .entry)) (now (marks .entry)) (now (plan .exit)) (now (marks .exit)) r ⌝ }
+    ensures { λ r. ⌜ NextCall (netOf n (now (kinds .entry)) (now (a .entry)) (now (b .entry))) (now (setting .entry)) (now (plan .entry))
+        (now (marks .entry)) r (now (plan .exit)) (now (marks .exit)) ⌝ }
 {
     let m = tables::row_count(kinds, a, b);
     let ks = &kinds[..m];
@@ -120,7 +120,8 @@ pub fn next_plan_rows(
     plan: &mut [u8],
     marks: &mut [u8],
 ) -> Answer
-    ensures { λ r. ⌜ Written (nextReply (netOf basins (now (kinds .entry)) (now (a .entry)) (now (b .entry))) (now (setting .entry)) (length (now (plan .entry))) (length (now (marks .entry)))) (now (plan .entry)) (now (marks .entry)) (now (plan .exit)) (now (marks .exit)) r ⌝ }
+    ensures { λ r. ⌜ NextCall (netOf basins (now (kinds .entry)) (now (a .entry)) (now (b .entry))) (now (setting .entry)) (now (plan .entry))
+        (now (marks .entry)) r (now (plan .exit)) (now (marks .exit)) ⌝ }
 {
     if let TableAnswer::Refused(r) = tables::table_fault(basins, kinds, a, b) {
         return Answer::Refused(r);

@@ -38,7 +38,8 @@ fn first_in(
 ) -> Reply
     requires { ⌜ Lent n (now kinds) (now a) (now b) (now plan) (now marks) ⌝ }
     requires { ⌜ Space (now ways) (now head) (now next) (now seen) (now queue) ⌝ }
-    ensures { λ r. ⌜ Written (firstAnswer (netOf n (now (kinds .entry)) (now (a .entry)) (now (b .entry)))) (now (plan .entry)) (now (marks .entry)) (now (plan .exit)) (now (marks .exit)) (Answer.Given r) ⌝ }
+    ensures { λ r. ⌜ Written (firstAnswer (netOf n (now (kinds .entry)) (now (a .entry)) (now (b .entry)))) (now (plan .entry))
+        (now (marks .entry)) (now (plan .exit)) (now (marks .exit)) (Answer.Given r) ⌝ }
 {
     let m = kinds.len();
     let hung = &mut ways[..m];
@@ -56,7 +57,8 @@ pub fn first_accepted(
     marks: &mut [u8],
 ) -> Reply
     requires { ⌜ Lent n (now kinds) (now a) (now b) (now plan) (now marks) ⌝ }
-    ensures { λ r. ⌜ Written (firstAnswer (netOf n (now (kinds .entry)) (now (a .entry)) (now (b .entry)))) (now (plan .entry)) (now (marks .entry)) (now (plan .exit)) (now (marks .exit)) (Answer.Given r) ⌝ }
+    ensures { λ r. ⌜ Written (firstAnswer (netOf n (now (kinds .entry)) (now (a .entry)) (now (b .entry)))) (now (plan .entry))
+        (now (marks .entry)) (now (plan .exit)) (now (marks .exit)) (Answer.Given r) ⌝ }
 {
     let mut ways = [0u8; MAX_REACHES];
     let mut head = [0u16; MAX_BASINS];
@@ -155,7 +157,8 @@ fn next_in(
     requires { ⌜ isSetting (netOf n (now kinds) (now a) (now b)) (now setting) ≡ true ⌝ }
     requires { ⌜ Space (now ways) (now head) (now next) (now seen) (now queue) ⌝ }
     requires { ⌜ length (now under) ≡ maxReaches ⌝ }
-    ensures { λ r. ⌜ Written (nextAnswer (netOf n (now (kinds .entry)) (now (a .entry)) (now (b .entry))) (now (setting .entry))) (now (plan .entry)) (now (marks .entry)) (now (plan .exit)) (now (marks .exit)) r ⌝ }
+    ensures { λ r. ⌜ Written (nextAnswer (netOf n (now (kinds .entry)) (now (a .entry)) (now (b .entry))) (now (setting .entry)))
+        (now (plan .entry)) (now (marks .entry)) (now (plan .exit)) (now (marks .exit)) r ⌝ }
 {
     let m = kinds.len();
     let hung = &mut ways[..m];
@@ -190,7 +193,8 @@ pub fn next_accepted(
 ) -> Answer
     requires { ⌜ Lent n (now kinds) (now a) (now b) (now plan) (now marks) ⌝ }
     requires { ⌜ isSetting (netOf n (now kinds) (now a) (now b)) (now setting) ≡ true ⌝ }
-    ensures { λ r. ⌜ Written (nextAnswer (netOf n (now (kinds .entry)) (now (a .entry)) (now (b .entry))) (now (setting .entry))) (now (plan .entry)) (now (marks .entry)) (now (plan .exit)) (now (marks .exit)) r ⌝ }
+    ensures { λ r. ⌜ Written (nextAnswer (netOf n (now (kinds .entry)) (now (a .entry)) (now (b .entry))) (now (setting .entry)))
+        (now (plan .entry)) (now (marks .entry)) (now (plan .exit)) (now (marks .exit)) r ⌝ }
 {
     let mut under = [0u8; MAX_REACHES];
     let mut ways = [0u8; MAX_REACHES];

@@ -5,11 +5,12 @@ use mathlib.Core.Path.{_≡_}
 use mathlib.Core.Bool.{Bool, true, false}
 use mathlib.Core.Option.{Option, none, some}
 use mathlib.Core.List.{List}
+use lib.ListN.{length}
 use Rattle.network.specs.declared.Refusal.{Refusal}
 use Rattle.network.specs.Networks.{Network, tableFault}
 use Rattle.network.specs.Settings.{settingFault}
 use Rattle.network.specs.Plans.{isPlan}
-use Rattle.network.specs.Replies.{Outcome, plan, shutIn, lone, refused, planAfter, marksAfter}
+use Rattle.network.specs.Replies.{Outcome, plan, shutIn, lone, refused, planAfter, marksAfter, firstReply, nextReply}
 use Rattle.replies.specs.declared.Verdict.{Verdict}
 use Rattle.replies.specs.declared.Verdict.the-variants.{Plan, ShutIn, Lone}
 use Rattle.replies.specs.declared.Answer.{Answer}
@@ -45,3 +46,14 @@ unlessRefused none a = a
 
 unfoldable pub checkOf : Network → List ℕ → CheckAnswer
 checkOf N s = unlessRefused (tableFault N) (unlessRefused (settingFault N s) (yesOr (isPlan N s)))
+
+-- What the calls leave: the answer to a setting's check; the answer of first and of next plan with the lent buffers, the plan's p and the marks' m, before
+-- and after.
+abbrev pub CheckCall : Network → List ℕ → CheckAnswer → Type 0
+CheckCall N s r = r ≡ checkOf N s
+
+abbrev pub FirstCall : Network → List ℕ → List ℕ → Answer → List ℕ → List ℕ → Type 0
+FirstCall N p m r p′ m′ = Written (firstReply N (length p) (length m)) p m p′ m′ r
+
+abbrev pub NextCall : Network → List ℕ → List ℕ → List ℕ → Answer → List ℕ → List ℕ → Type 0
+NextCall N s p m r p′ m′ = Written (nextReply N s (length p) (length m)) p m p′ m′ r

@@ -68,7 +68,8 @@ pub fn report(
     marks: &mut [u8],
 ) -> Reply
     requires { ⌜ Reportable n (now kinds) (now ways) (now seen) (now plan) (now marks) found ⌝ }
-    ensures { λ r. ⌜ Reported n (now (kinds .entry)) (now (ways .entry)) (now (seen .entry)) found (now (plan .entry)) (now (marks .entry)) (now (plan .exit)) (now (marks .exit)) r ⌝ }
+    ensures { λ r. ⌜ Reported n (now (kinds .entry)) (now (ways .entry)) (now (seen .entry)) found (now (plan .entry)) (now (marks .entry))
+        (now (plan .exit)) (now (marks .exit)) r ⌝ }
 {
     match found {
         Found::Closed => {

@@ -163,7 +163,8 @@ impl Walker {
         plan: &mut [u8],
         marks: &mut [u8],
     ) -> Stepped
-        ensures { λ r. ⌜ Stepping (netOf basins (now (kinds .entry)) (now (a .entry)) (now (b .entry))) (self .setting) (now (plan .entry)) (now (marks .entry)) (now (plan .exit)) (now (marks .exit)) r ⌝ }
+        ensures { λ r. ⌜ Stepping (netOf basins (now (kinds .entry)) (now (a .entry)) (now (b .entry))) (self .setting) (now (plan .entry))
+            (now (marks .entry)) (now (plan .exit)) (now (marks .exit)) r ⌝ }
     {
         let setting = self.setting;
         let g = gates_held(kinds, a, b);
@@ -181,7 +182,8 @@ impl Walker {
 
     // `step_rows` over a lent table.
     pub fn step(self, basins: u16, table: &[Reach], plan: &mut [u8], marks: &mut [u8]) -> Stepped
-        ensures { λ r. ⌜ Stepping (lentNet basins (now (table .entry))) (self .setting) (now (plan .entry)) (now (marks .entry)) (now (plan .exit)) (now (marks .exit)) r ⌝ }
+        ensures { λ r. ⌜ Stepping (lentNet basins (now (table .entry))) (self .setting) (now (plan .entry)) (now (marks .entry))
+            (now (plan .exit)) (now (marks .exit)) r ⌝ }
     {
         step_packed(self, basins, pack(table), plan, marks)
     }
