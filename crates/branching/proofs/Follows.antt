@@ -10,12 +10,12 @@ use lib.ListN.{length, getD, set}
 use Rattle.lists.proofs.Lists.{getD-any}
 use Rattle.network.specs.Networks.{Network, basinsOf, Accepted}
 use Rattle.network.specs.Settings.{isGated}
-use Rattle.network.specs.Hangings.{arcs}
-use Rattle.network.specs.Plans.{strong}
-use Rattle.network.specs.Lone.{reachAt}
+use Rattle.network.specs.Orientations.{arcs}
+use Rattle.network.specs.Plans.{stronglyConnected}
+use Rattle.network.specs.Bridges.{reachAt}
 use Rattle.lists.proofs.Bools.{clash}
 use Rattle.network.proofs.Ways.{length-ways}
-use Rattle.network.proofs.Steps.{hang-drawn, hang-turned}
+use Rattle.network.proofs.Steps.{orient-drawn, orient-turned}
 use Rattle.tables.specs.Rows.{netOf}
 use Rattle.tables.proofs.Laws.{row-length}
 use Rattle.orientations.specs.Partials.{StronglyConnected, NotStronglyConnected, Under, upTo, StronglyConnectedBelow, NoPart}
@@ -79,9 +79,9 @@ module _ (n : ℕ) (ks xs ys : List ℕ) (ea : length xs ≡ length ks) (eb : le
       full = up-length N (u .setting) us (u .is) i (omega (arith, below))
 
       -- what a search decides, for each way
-      way-law : (x : ℕ) → x ≤ 1 → strong (basinsOf N) (arcs (N .reaches) (set (upTo N us i) i x)) ≡ ledRound (leftOut xs ys (upTo N us i) i) xs ys i x
-      way-law zero small = hang-drawn N ok (upTo N us i) i below full either ∙ row-led n ks xs ys ea eb (upTo N us i) i l
-      way-law (suc zero) small = hang-turned N ok (upTo N us i) i below full either ∙ row-led-turned n ks xs ys ea eb (upTo N us i) i l
+      way-law : (x : ℕ) → x ≤ 1 → stronglyConnected (basinsOf N) (arcs (N .reaches) (set (upTo N us i) i x)) ≡ ledRound (leftOut xs ys (upTo N us i) i) xs ys i x
+      way-law zero small = orient-drawn N ok (upTo N us i) i below full either ∙ row-led n ks xs ys ea eb (upTo N us i) i l
+      way-law (suc zero) small = orient-turned N ok (upTo N us i) i below full either ∙ row-led-turned n ks xs ys ea eb (upTo N us i) i l
       way-law (suc (suc x)) small = absurd (omega arith)
 
       module _ (x : ℕ) (small : x ≤ 1) {ws′ : List ℕ} {r : Bool} (t : Tried xs ys (upTo N us i) i x ws′ r) where

@@ -7,7 +7,7 @@ use mathlib.Core.List.{List}
 use lib.ListN.{length, getD, set}
 use Rattle.network.specs.Networks.{Network, Accepted}
 use Rattle.network.specs.Settings.{isGated}
-use Rattle.network.specs.Lone.{reachAt}
+use Rattle.network.specs.Bridges.{reachAt}
 use Rattle.tables.specs.Rows.{netOf}
 use Rattle.orientations.specs.Partials.{StronglyConnected, NotStronglyConnected, Under, upTo, NoPart}
 

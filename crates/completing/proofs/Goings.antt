@@ -9,8 +9,8 @@ use mathlib.Core.List.{List, []}
 use lib.ListN.{length, getD, set}
 use Rattle.network.specs.Networks.{Accepted}
 use Rattle.network.specs.Tables.{tableOf}
-use Rattle.network.specs.Hangings.{Arc, reached}
-use Rattle.network.specs.Lone.{isLone}
+use Rattle.network.specs.Orientations.{Arc, reached}
+use Rattle.network.specs.Bridges.{isBridge}
 use Rattle.network.specs.Marks.{bit}
 use Rattle.lists.proofs.Bools.{decide, clash}
 use Rattle.tables.specs.Rows.{netOf}
@@ -40,12 +40,12 @@ module _ (n : ℕ) (ks xs ys : List ℕ) (ea : length xs ≡ length ks) (eb : le
     going-on (neither g p p′ q f) y = clash y q
 
     -- the same of a gate that is settled, since it is no bridge
-    pub going-settled : {ws′ : List ℕ} → isLone (netOf n ks xs ys) i ≡ false → Settled ks xs ys ws i ws′ → Going (netOf n ks xs ys) ws₀ from ws′ (suc i)
+    pub going-settled : {ws′ : List ℕ} → isBridge (netOf n ks xs ys) i ≡ false → Settled ks xs ys ws i ws′ → Going (netOf n ks xs ys) ws₀ from ws′ (suc i)
     going-settled c (as-it-was g e) = going-on {seen = []} (no-gate g e refl) refl
     going-settled c (as-drawn g p e) = going-on {seen = []} (drawn g p e refl) refl
     going-settled c (as-turned g p e) = ⊎-elim (λ y. going-on {seen = []} (turned g p y e refl) refl) (λ y. clash (bridge y) c) (decide (ledRound (leftOut xs ys ws i) xs ys i 1))
       where
-        bridge : ledRound (leftOut xs ys ws i) xs ys i 1 ≡ false → isLone (netOf n ks xs ys) i ≡ true
+        bridge : ledRound (leftOut xs ys ws i) xs ys i 1 ≡ false → isBridge (netOf n ks xs ys) i ≡ true
         bridge y = is-bridge (netOf n ks xs ys) ok ws i (row-below n ks xs ys ea eb i l) (w .begun) (row-gated n ks xs ys ea eb i true l g) (row-led n ks xs ys ea eb ws i l ∙ p) (row-led-turned n ks xs ys ea eb ws i l ∙ y)
 
     -- or the gate that can get neither way

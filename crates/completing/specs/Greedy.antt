@@ -8,8 +8,8 @@ use lib.ListN.{length, getD}
 use lib.Dec.{eqb}
 use Rattle.lists.specs.Lists.{keep}
 use Rattle.network.specs.Networks.{Network, basinsOf, Accepted}
-use Rattle.network.specs.Hangings.{ways}
-use Rattle.network.specs.Lone.{crossesAlone, isLone}
+use Rattle.network.specs.Orientations.{ways}
+use Rattle.network.specs.Bridges.{crossesAlone, isBridge}
 use Rattle.tables.specs.Partial.{bytesOf}
 use Rattle.tables.specs.Rows.{netOf}
 use Rattle.orientations.specs.Least.{LeastPlan}
@@ -26,7 +26,7 @@ pub record Completable (n : ℕ) (ks xs ys ws : List ℕ) (i : ℕ) : Type 0 whe
 -- those before it are none, and it alone crosses the cut of the basins whose byte is 1, not 0.
 pub data Greedy (N : Network) (ws : List ℕ) (i : ℕ) : List ℕ → List ℕ → ℕ → Type 0 where
   all-oriented : {ws′ seen : List ℕ} {r : ℕ} → r ≡ length (N .reaches) → LeastPlan N ws (bytesOf (N .reaches) ws′) → Greedy N ws i ws′ seen r
-  bridge-at : {ws′ seen : List ℕ} {r : ℕ} → r < length (N .reaches) → isLone N r ≡ true → ((j : ℕ) → i ≤ j → j < r → isLone N j ≡ false)
+  bridge-at : {ws′ seen : List ℕ} {r : ℕ} → r < length (N .reaches) → isBridge N r ≡ true → ((j : ℕ) → i ≤ j → j < r → isBridge N j ≡ false)
       → crossesAlone N (keep (λ b. eqb (getD seen b 0) 1) (basinsOf N)) r ≡ true → ((v : ℕ) → v < N .basins → getD seen v 0 ≤ 1) → Greedy N ws i ws′ seen r
 
 -- What it leaves where no reach is a bridge: the ways of the least plan that fits.

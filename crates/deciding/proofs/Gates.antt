@@ -8,7 +8,7 @@ use lib.ListN.{getD, set}
 use lib.Seq.{set-set}
 use Rattle.network.specs.Tables.{kindOf}
 use Rattle.network.specs.Settings.{isGated}
-use Rattle.network.specs.Hangings.{reached}
+use Rattle.network.specs.Orientations.{reached}
 use Rattle.network.specs.Marks.{bit}
 use Rattle.half_edges.specs.Ends.{arcsOf}
 use Rattle.search.specs.Searches.{Noted}

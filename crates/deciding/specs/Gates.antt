@@ -7,7 +7,7 @@ use mathlib.Core.List.{List}
 use lib.ListN.{getD, set}
 use Rattle.network.specs.Tables.{kindOf}
 use Rattle.network.specs.Settings.{isGated}
-use Rattle.network.specs.Hangings.{reached}
+use Rattle.network.specs.Orientations.{reached}
 use Rattle.network.specs.Marks.{bit}
 use Rattle.orienting.specs.Tries.{leftOut, ledRound}
 

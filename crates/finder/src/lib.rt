@@ -1,7 +1,7 @@
 // The first plan and the next, looked for in lent working memory over an accepted table whose rows are of one length.
 // These functions are for the planner; what they require it has checked.
 ghost use mathlib.Core.Path.{_≡_};
-ghost use Rattle.network.specs.Plans.{strongUnder};
+ghost use Rattle.network.specs.Plans.{stronglyConnectedUnder};
 ghost use Rattle.tables.specs.Rows.{netOf};
 ghost use Rattle.seeking.specs.Found.{FirstFound, NextFound};
 ghost use Rattle.finder.specs.Rooms.{Room, Preparable, Prepared, Seekable};
@@ -23,12 +23,12 @@ fn prepare(
     ensures { λ _. ⌜ Prepared n (now (kinds .entry)) (now (a .entry)) (now (b .entry)) (now (setting .entry))
         (now (ways .exit)) (now (head .exit)) (now (next .exit)) ⌝ }
 {
-    tables::hang(kinds, setting, ways);
+    tables::orient(kinds, setting, ways);
     half_edges::index(n, a, b, head, next);
 }
 
 // Whether everything reaches everything under the setting, in lent working memory.
-pub fn strong_under(
+pub fn strongly_connected_under(
     n: usize,
     kinds: &[u8],
     a: &[u16],
@@ -41,7 +41,7 @@ pub fn strong_under(
     queue: &mut [u16],
 ) -> bool
     requires { ⌜ Room n (now kinds) (now a) (now b) (now ways) (now head) (now next) (now seen) (now queue) ⌝ }
-    ensures { λ r. ⌜ r ≡ strongUnder (netOf n (now (kinds .entry)) (now (a .entry)) (now (b .entry))) (now (setting .entry)) ⌝ }
+    ensures { λ r. ⌜ r ≡ stronglyConnectedUnder (netOf n (now (kinds .entry)) (now (a .entry)) (now (b .entry))) (now (setting .entry)) ⌝ }
 {
     prepare(n, kinds, a, b, setting, ways, head, next);
     orienting::shut_in_basin(n, a, b, ways, head, next, seen, queue) == n

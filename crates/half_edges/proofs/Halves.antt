@@ -9,7 +9,7 @@ use native.Mathlib.Omega.{arith}
 use lib.ListN.{length, getD}
 use lib.Dec.{eqb}
 use borrow.Author.Tests.{eqb-true}
-use Rattle.network.specs.Hangings.{Arc, arc, passing}
+use Rattle.network.specs.Orientations.{Arc, arc, passing}
 use Rattle.lists.proofs.Bools.{or-cases}
 use Rattle.half_edges.specs.Ends.{arcsOf, halves, pick, endOf, otherOf, leaves, Next}
 use Rattle.half_edges.specs.Chains.{Table}

@@ -7,7 +7,7 @@ use mathlib.Core.Logic.{⊎-elim}
 use mathlib.Core.List.{List, [], _∷_, _++_, map, List·Memᴰ, List·Memᴰ·head, List·Memᴰ·tail, List·Memᴰ·not-nil, List·Memᴰ·eq-of-singleton, List·Memᴰ·cases-cons, List·Memᴰ·append-cases, Memᴰ·append-left, Memᴰ·append-right}
 use native.Mathlib.Omega.{arith}
 use Rattle.network.specs.declared.Reach.{Reach}
-use Rattle.network.specs.Hangings.{Arc, arc, passing, arcs, Walk, stay, step, reached}
+use Rattle.network.specs.Orientations.{Arc, arc, passing, arcs, Walk, stay, step, reached}
 use Rattle.lists.proofs.Bools.{same-test}
 use Rattle.network.proofs.Walks.{Within, walk-trans, walk-arc, walk-reached, reached-walk, reached-same}
 use Rattle.half_edges.specs.Ends.{arcsOf, flipWay, Next}

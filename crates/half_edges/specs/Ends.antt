@@ -5,7 +5,7 @@ use mathlib.Core.Bool.{Bool, true, false, _||_}
 use mathlib.Core.List.{List, [], _∷_, _++_, map, List·Memᴰ}
 use lib.ListN.{length, getD}
 use lib.Dec.{eqb}
-use Rattle.network.specs.Hangings.{Arc, arc, passing}
+use Rattle.network.specs.Orientations.{Arc, arc, passing}
 
 -- What the reaches with ends A xs and ends B ys pass, each in its way. proofs/Laws.antt: the `arcs` of the table with these ends.
 abbrev pub arcsOf : List ℕ → List ℕ → List ℕ → List Arc

@@ -3,7 +3,7 @@ ghost use mathlib.Core.Path.{_≡_};
 ghost use Prim.Native.Nat.{_≤_, _<_};
 ghost use lib.ListN.{length};
 ghost use Rattle.network.specs.Networks.{maxBasins};
-ghost use Rattle.network.specs.Hangings.{reached};
+ghost use Rattle.network.specs.Orientations.{reached};
 ghost use Rattle.half_edges.specs.Ends.{arcsOf};
 ghost use Rattle.search.specs.Searches.{Searchable, Queued, Meets};
 ghost use Rattle.leading.specs.Leads.{Underway};

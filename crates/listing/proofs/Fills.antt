@@ -21,14 +21,14 @@ use Rattle.lists.proofs.Lists.{Copied, nil-of-length, copied-none, copied-lengt
 use Rattle.lines.proofs.Puts.{copied-end, put-copied}
 use Rattle.listing_state.specs.declared.Lister.{Lister}
 use Rattle.listing_state.specs.declared.Filled.{Filled}
-use Rattle.listing_state.specs.Pending.{lineOf, linesAfter, planIn, restOf, pendingOf, lentNet, pending, Filling}
+use Rattle.listing_state.specs.Pending.{lineOf, linesAfter, planInHand, restOf, pendingOf, stateNet, pending, Filling}
 use Rattle.listing_state.specs.Parts.{Turned}
 
 -- n bytes of what is to be printed in l stand in the buffer; the others are to be printed in the state.
 pub record Printing (l : Lister) (kinds a b out out′ : List ℕ) (state : Lister) (n : ℕ) : Type 0 where
   pub basins-kept : state .basins ≡ l .basins
   pub laid : Copied (pending l kinds a b) out out′ n
-  pub left : pendingOf (lentNet l kinds a b) state ≡ drop n (pending l kinds a b)
+  pub left : pendingOf (stateNet l kinds a b) state ≡ drop n (pending l kinds a b)
 
 -- no line is longer than its plan by more than eleven bytes
 line-short : (d : Due) (s : List ℕ) → length (lineOf d s) ≤ length s + 11
@@ -45,7 +45,7 @@ line-short (D.Refused n) s = refusal-short (ltb n 10)
 module _ (l : Lister) (kinds a b out : List ℕ) where
   -- the network, and what is to be printed
   abbrev N : Network
-  N = lentNet l kinds a b
+  N = stateNet l kinds a b
 
   abbrev text : List ℕ
   text = pending l kinds a b
@@ -55,14 +55,14 @@ module _ (l : Lister) (kinds a b out : List ℕ) where
 
   module _ (out′ : List ℕ) (state : Lister) (n : ℕ) (p : Printing l kinds a b out out′ state n) where
     -- the network is the same
-    pub same-net : lentNet state kinds a b ≡ N
+    pub same-net : stateNet state kinds a b ≡ N
     same-net = ap (λ (k : ℕ). netOf k kinds a b) (p .basins-kept)
 
     -- a state that is turned to
-    pub turned-here : {r : Lister} → Turned (lentNet state kinds a b) state r → Turned N state r
+    pub turned-here : {r : Lister} → Turned (stateNet state kinds a b) state r → Turned N state r
     turned-here {r} t = subst (λ (M : Network). Turned M state r) same-net t
 
-    pub print-turn : {r : Lister} → Turned (lentNet state kinds a b) state r → Printing l kinds a b out out′ r n
+    pub print-turn : {r : Lister} → Turned (stateNet state kinds a b) state r → Printing l kinds a b out out′ r n
     print-turn t =
         let turned = turned-here t in
         record { basins-kept = turned .basins-kept ∙ p .basins-kept; laid = p .laid; left = turned .same ∙ p .left }
@@ -91,7 +91,7 @@ module _ (l : Lister) (kinds a b out : List ℕ) where
       in-rest = omega (arith, rest-put .count)
 
       abbrev later : List ℕ
-      later = linesAfter N (state .due) (planIn N state)
+      later = linesAfter N (state .due) (planInHand N state)
 
       whole : rest ++ later ≡ drop n text
       unfolding rest pendingOf
@@ -145,7 +145,7 @@ module _ (l : Lister) (kinds a b out : List ℕ) where
             basins-kept = p .basins-kept;
             laid = print-laid;
             left =
-                ap (λ (t : List ℕ). t ++ later) (sym (drop-drop k (state .at) (lineOf (state .due) (planIn N state))))
+                ap (λ (t : List ℕ). t ++ later) (sym (drop-drop k (state .at) (lineOf (state .due) (planInHand N state))))
                 ∙ sym (drop-append-le k rest later in-rest)
                 ∙ ap (drop k) whole
                 ∙ drop-drop k n text;

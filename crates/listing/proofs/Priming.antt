@@ -11,7 +11,7 @@ use Rattle.network.specs.declared.Refusal.{Refusal}
 use Rattle.network.specs.declared.Refusal.the-variants.{BadSetting}
 use Rattle.network.specs.Networks.{Network, tableFault, Accepted}
 use Rattle.network.specs.Settings.{isSetting, settingFault}
-use Rattle.network.specs.Plans.{strongUnder, isPlan}
+use Rattle.network.specs.Plans.{stronglyConnectedUnder, isPlan}
 use Rattle.network.proofs.Networks.{accepted}
 use Rattle.tables.specs.Rows.{netOf}
 use Rattle.tables.proofs.Laws.{row-length}
@@ -33,7 +33,7 @@ yes-both N s (some r) b c t e = absurd (true≢false cc)
 
 pub yes-plan : (N : Network) (s : List ℕ) → checkOf N s ≡ C.Yes → Accepted N × (isPlan N s ≡ true)
 unfolding checkOf settingFault isPlan
-yes-plan N s e = yes-both N s (tableFault N) (isSetting N s) (strongUnder N s) refl e
+yes-plan N s e = yes-both N s (tableFault N) (isSetting N s) (stronglyConnectedUnder N s) refl e
 
 -- a row of ways, and working memory, for an accepted table whose rows are of one length
 module _ {n : ℕ} {ks xs ys ws head next : List ℕ} (v : Level n ks xs ys) (z : Spare ks ws head next) where

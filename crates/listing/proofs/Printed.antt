@@ -105,7 +105,7 @@ printed file bytes = go (readFile (take maxBytes file)) refl
         first none n = absurd (first-none N n s is)
         first (some p) y = plans N p e y (ap readingLines e ∙ ap (replyLines N maxPlans) (f (firstPlan N) ∙ ap chosen y))
     of-network N e (R.no-way n none-is f) = one-line 9 refl (ap readingLines e ∙ ap (replyLines N maxPlans) (f (firstPlan N)))
-    of-network N e (R.one-lone i l y none-is f) = one-line 10 refl (ap readingLines e ∙ ap (replyLines N maxPlans) (f (firstPlan N)))
+    of-network N e (R.one-bridge i l y none-is f) = one-line 10 refl (ap readingLines e ∙ ap (replyLines N maxPlans) (f (firstPlan N)))
 
     refused-by : (r : Refusal) → Fair (refused r) → OfFile r
     refused-by r (fair-refused h) = h

@@ -29,14 +29,14 @@ use Rattle.lines.specs.declared.Due.the-variants as D
 use Rattle.listing_state.specs.declared.Lister.{Lister}
 use Rattle.lines.specs.Listings.{replyLines}
 use Rattle.lines.specs.Dues.{planDue}
-use Rattle.listing_state.specs.Pending.{pendingOf, lentNet}
+use Rattle.listing_state.specs.Pending.{pendingOf, stateNet}
 use Rattle.listing_state.specs.Parts.{LineAfter}
 use Rattle.listing.specs.Keeping.{Standing, Kept, unknown, kept}
 use Rattle.listing_state.proofs.States.{GivenPlan, roomy, plan-held, reply-pending}
 
-module _ (l : Lister) (ks xs ys ws : List ℕ) (left g : ℕ) (held : g ≡ gatesHeld (lentNet l ks xs ys)) (p : AtPlan (l .basins) ks xs ys (take g (l .setting)) ws) where
+module _ (l : Lister) (ks xs ys ws : List ℕ) (left g : ℕ) (held : g ≡ gatesHeld (stateNet l ks xs ys)) (p : AtPlan (l .basins) ks xs ys (take g (l .setting)) ws) where
   abbrev N : Network
-  N = lentNet l ks xs ys
+  N = stateNet l ks xs ys
 
   abbrev s : List ℕ
   s = take g (l .setting)
@@ -75,7 +75,7 @@ module _ (l : Lister) (ks xs ys ws : List ℕ) (left g : ℕ) (held : g ≡ gate
   pub step-last : nextAnswer N s ≡ refused LastPlan → LineAfter N l left ended
   step-last e = lines-after ended e refl refl (reply-pending N (l .setting) (refused LastPlan) (λ q f. absurd (true≢false cc)) left ended refl refl refl)
 
-  module _ {ws′ bytes : List ℕ} {d : Due} (due : d ≡ planDue left) (e : nextAnswer N s ≡ plan (bytesRow ks ws′)) (is : isPlan N (bytesRow ks ws′) ≡ true) (hung : ws′ ≡ waysRow ks (bytesRow ks ws′))
+  module _ {ws′ bytes : List ℕ} {d : Due} (due : d ≡ planDue left) (e : nextAnswer N s ≡ plan (bytesRow ks ws′)) (is : isPlan N (bytesRow ks ws′) ≡ true) (oriented : ws′ ≡ waysRow ks (bytesRow ks ws′))
       (put : bytes ≡ bytesRow ks ws′ ++ drop g (l .setting)) where
     abbrev q : List ℕ
     q = bytesRow ks ws′
@@ -103,22 +103,22 @@ module _ (l : Lister) (ks xs ys ws : List ℕ) (left g : ℕ) (held : g ≡ gate
       where
         stands : (k : ℕ) → Standing (l .basins) ks xs ys (planDue k) (take g bytes) ws′
         stands zero = tt
-        stands (suc k) = subst⁻¹ (λ (v : List ℕ). AtPlan (l .basins) ks xs ys v ws′) in-hand (record { level = p .level; is-plan = is; oriented = hung })
+        stands (suc k) = subst⁻¹ (λ (v : List ℕ). AtPlan (l .basins) ks xs ys v ws′) in-hand (record { level = p .level; is-plan = is; oriented = oriented })
 
 -- ---- what a step says
 
 pub was-last : {N : Network} {ks s ws′ : List ℕ} {r : ℕ} → Advanced N ks s ws′ r → length ks ≤ r → nextAnswer N s ≡ refused LastPlan
-was-last (moved d e is hung) n = absurd (omega (arith, d .below))
+was-last (moved d e is oriented) n = absurd (omega (arith, d .below))
 was-last (at-last y e) n = e
 
 pub record Next (N : Network) (ks s ws′ : List ℕ) (r : ℕ) : Type 0 where
   pub parts : PartsAt ks s (bytesRow ks ws′) r
   pub is-next : nextAnswer N s ≡ plan (bytesRow ks ws′)
   pub is-plan : isPlan N (bytesRow ks ws′) ≡ true
-  pub hung : ws′ ≡ waysRow ks (bytesRow ks ws′)
+  pub oriented : ws′ ≡ waysRow ks (bytesRow ks ws′)
 
 pub was-next : {N : Network} {ks s ws′ : List ℕ} {r : ℕ} → Advanced N ks s ws′ r → r < length ks → Next N ks s ws′ r
-was-next (moved d e is hung) t = record { parts = d; is-next = e; is-plan = is; hung = hung }
+was-next (moved d e is oriented) t = record { parts = d; is-next = e; is-plan = is; oriented = oriented }
 was-next (at-last y e) t = absurd (omega arith)
 
 -- ---- working memory that is kept

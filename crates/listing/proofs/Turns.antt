@@ -12,7 +12,7 @@ use Rattle.lines.specs.declared.Due.{Due}
 use Rattle.lines.specs.declared.Due.the-variants as D
 use Rattle.listing_state.specs.declared.Lister.{Lister}
 use Rattle.lines.specs.Listings.{line, planText, refusedText, character}
-use Rattle.listing_state.specs.Pending.{lineOf, linesAfter, planIn, restOf, pendingOf}
+use Rattle.listing_state.specs.Pending.{lineOf, linesAfter, planInHand, restOf, pendingOf}
 use Rattle.tables.specs.Rows.{gatesHeld}
 use Rattle.listing_state.specs.Parts.{LineAfter, planLength, Turned}
 
@@ -37,8 +37,8 @@ module _ (N : Network) (l : Lister) (size : length (l .setting) ≡ maxReaches) 
   unfolding restOf
   rest-size left e =
       rw e
-      (length-drop (l .at) (line (planText (planIn N l)))
-      ∙ ap (λ (k : ℕ). k - l .at) (plan-size (planIn N l) ∙ ap planLength (length-take-le (gatesHeld N) (l .setting) (omega arith))))
+      (length-drop (l .at) (line (planText (planInHand N l)))
+      ∙ ap (λ (k : ℕ). k - l .at) (plan-size (planInHand N l) ∙ ap planLength (length-take-le (gatesHeld N) (l .setting) (omega arith))))
 
   -- something is left of it
   pub turned-none : (left : ℕ) → l .due ≡ D.Plan left → l .at < planLength (gatesHeld N) → Turned N l l
@@ -52,12 +52,12 @@ module _ (N : Network) (l : Lister) (size : length (l .setting) ≡ maxReaches) 
       let nothing : restOf N l ≡ [] = nil-of-length (restOf N l) (omega (arith, rest-size left e)) in
       record {
         basins-kept = a .basins-kept;
-        same = a .lines ∙ sym (ap (λ (t : List ℕ). t ++ linesAfter N (l .due) (planIn N l)) nothing ∙ ap (λ (d : Due). linesAfter N d (planIn N l)) e);
-        ended = λ z. let none : ⊥ = omega (arith, ap length z, ap (λ (k : ℕ). length (drop k (lineOf (r .due) (planIn N r)))) (a .begun), due-some (r .due) (planIn N r)) in absurd none;
+        same = a .lines ∙ sym (ap (λ (t : List ℕ). t ++ linesAfter N (l .due) (planInHand N l)) nothing ∙ ap (λ (d : Due). linesAfter N d (planInHand N l)) e);
+        ended = λ z. let none : ⊥ = omega (arith, ap length z, ap (λ (k : ℕ). length (drop k (lineOf (r .due) (planInHand N r)))) (a .begun), due-some (r .due) (planInHand N r)) in absurd none;
       }
 
 -- the last line
-pub turned-last : (N : Network) (l : Lister) → linesAfter N (l .due) (planIn N l) ≡ [] → Turned N l l
+pub turned-last : (N : Network) (l : Lister) → linesAfter N (l .due) (planInHand N l) ≡ [] → Turned N l l
 unfolding restOf pendingOf
 turned-last N l e =
     record { basins-kept = refl; same = refl; ended = λ z. ap (λ (t : List ℕ). restOf N l ++ t) e ∙ append-nil (restOf N l) ∙ z }

@@ -24,7 +24,7 @@ ghost use Rattle.planning.specs.Rooms.{Space};
 ghost use Rattle.seeking.specs.Seeks.{AtPlan};
 ghost use Rattle.listing.specs.Keeping.{Standing, Kept};
 ghost use Rattle.listing.specs.Priming.{Spare, Primed};
-ghost use Rattle.listing_state.specs.Pending.{lentNet, Filling};
+ghost use Rattle.listing_state.specs.Pending.{stateNet, Filling};
 ghost use Rattle.tables.specs.Rows.{gatesHeld};
 ghost use Rattle.listing_state.specs.Parts.{LineAfter, Turned};
 
@@ -43,11 +43,11 @@ fn stepped(
     seen: &mut [u8],
     queue: &mut [u16],
 ) -> Lister
-    requires { ⌜ g ≡ gatesHeld (lentNet l (now kinds) (now a) (now b)) ⌝ }
+    requires { ⌜ g ≡ gatesHeld (stateNet l (now kinds) (now a) (now b)) ⌝ }
     requires { ⌜ Ready (l .basins) (now a) (now b) (now ways) (now head) (now next) (now seen) (now queue) ⌝ }
     requires { ⌜ AtPlan (l .basins) (now kinds) (now a) (now b) (take g (l .setting)) (now ways) ⌝ }
     requires { ⌜ length (now under) ≡ length (now ways) ⌝ }
-    ensures { λ r. ⌜ LineAfter (lentNet l (now (kinds .entry)) (now (a .entry)) (now (b .entry))) l left r ⌝ }
+    ensures { λ r. ⌜ LineAfter (stateNet l (now (kinds .entry)) (now (a .entry)) (now (b .entry))) l left r ⌝ }
     ensures { λ r. ⌜ Standing (l .basins) (now (kinds .entry)) (now (a .entry)) (now (b .entry)) (r .due) (take g (r .setting)) (now (ways .exit)) ⌝ }
 {
     let basins = l.basins;
@@ -101,10 +101,10 @@ fn line_after(
     seen: &mut [u8],
     queue: &mut [u16],
 ) -> Lister
-    requires { ⌜ g ≡ gatesHeld (lentNet l (now kinds) (now a) (now b)) ⌝ }
+    requires { ⌜ g ≡ gatesHeld (stateNet l (now kinds) (now a) (now b)) ⌝ }
     requires { ⌜ Kept (l .basins) (now kinds) (now a) (now b) (Due.Plan left) (take g (l .setting)) (now under) (now ways) (now head) (now next)
         (now seen) (now queue) standing ⌝ }
-    ensures { λ r. ⌜ LineAfter (lentNet l (now (kinds .entry)) (now (a .entry)) (now (b .entry))) l left r ⌝ }
+    ensures { λ r. ⌜ LineAfter (stateNet l (now (kinds .entry)) (now (a .entry)) (now (b .entry))) l left r ⌝ }
     ensures { λ r. ⌜ Kept (l .basins) (now (kinds .entry)) (now (a .entry)) (now (b .entry)) (r .due) (take g (r .setting)) (now (under .exit))
         (now (ways .exit)) (now (head .entry)) (now (next .entry)) (now (seen .exit)) (now (queue .exit)) standing ⌝ }
 {
@@ -142,10 +142,10 @@ fn turned(
     seen: &mut [u8],
     queue: &mut [u16],
 ) -> Lister
-    requires { ⌜ g ≡ gatesHeld (lentNet l (now kinds) (now a) (now b)) ⌝ }
+    requires { ⌜ g ≡ gatesHeld (stateNet l (now kinds) (now a) (now b)) ⌝ }
     requires { ⌜ Kept (l .basins) (now kinds) (now a) (now b) (l .due) (take g (l .setting)) (now under) (now ways) (now head) (now next)
         (now seen) (now queue) standing ⌝ }
-    ensures { λ r. ⌜ Turned (lentNet l (now (kinds .entry)) (now (a .entry)) (now (b .entry))) l r ⌝ }
+    ensures { λ r. ⌜ Turned (stateNet l (now (kinds .entry)) (now (a .entry)) (now (b .entry))) l r ⌝ }
     ensures { λ r. ⌜ Kept (l .basins) (now (kinds .entry)) (now (a .entry)) (now (b .entry)) (r .due) (take g (r .setting)) (now (under .exit))
         (now (ways .exit)) (now (head .entry)) (now (next .entry)) (now (seen .exit)) (now (queue .exit)) standing ⌝ }
 {
@@ -192,7 +192,7 @@ fn print_lines(
     seen: &mut [u8],
     queue: &mut [u16],
 ) -> Filled
-    requires { ⌜ g ≡ gatesHeld (lentNet l (now kinds) (now a) (now b)) ⌝ }
+    requires { ⌜ g ≡ gatesHeld (stateNet l (now kinds) (now a) (now b)) ⌝ }
     requires { ⌜ Kept (l .basins) (now kinds) (now a) (now b) (l .due) (take g (l .setting)) (now under) (now ways) (now head) (now next)
         (now seen) (now queue) standing ⌝ }
     ensures { λ r. ⌜ Filling l (now (kinds .entry)) (now (a .entry)) (now (b .entry)) (now (out .entry)) (now (out .exit)) r ⌝ }
@@ -251,11 +251,11 @@ fn prime(
     if b.len() != kinds.len() {
         return false;
     }
-    match planner::check_rows(basins, kinds, a, b, setting) {
+    match planner_rows::check(basins, kinds, a, b, setting) {
         CheckAnswer::Refused(_) => false,
         CheckAnswer::No => false,
         CheckAnswer::Yes => {
-            tables::hang(kinds, setting, ways);
+            tables::orient(kinds, setting, ways);
             half_edges::index(basins as usize, a, b, head, next);
             true
         }
@@ -284,8 +284,8 @@ fn fill_in(
     let m = least(kinds.len(), MAX_REACHES);
     let basins = l.basins;
     let setting = l.setting;
-    let hung = &mut ways[..m];
-    let standing = prime(basins, kinds, a, b, &setting[..g], hung, head, next);
+    let oriented = &mut ways[..m];
+    let standing = prime(basins, kinds, a, b, &setting[..g], oriented, head, next);
     print_lines(
         l,
         g,
@@ -295,7 +295,7 @@ fn fill_in(
         b,
         out,
         &mut under[..m],
-        hung,
+        oriented,
         head,
         next,
         seen,

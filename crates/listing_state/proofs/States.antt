@@ -22,13 +22,13 @@ use Rattle.network.proofs.Order.{setting-length, plan-setting, first-is-plan, n
 use Rattle.network.proofs.Replies.{given-iff, first-given, next-given, unless-plan}
 use Rattle.tables.specs.Rows.{netOf, gatesHeld}
 use Rattle.replies.specs.declared.Answer.{Answer}
-use Rattle.replies.specs.Answers.{answerOf, Written}
+use Rattle.replies.specs.Answers.{answerOf, Replied}
 use Rattle.lines.specs.declared.Due.{Due}
 use Rattle.lines.specs.declared.Due.the-variants as D
 use Rattle.lines.specs.Listings.{maxPlans, line, planText, endText, refusedText, plansFrom, refusalLine, replyLines}
 use Rattle.lines.specs.Dues.{refusalDue, dueOf}
 use Rattle.listing_state.specs.declared.Lister.{Lister}
-use Rattle.listing_state.specs.Pending.{lineOf, linesAfter, restOf, pendingOf, lentNet}
+use Rattle.listing_state.specs.Pending.{lineOf, linesAfter, restOf, pendingOf, stateNet}
 use Rattle.listing_state.specs.Parts.{FirstLine, LineAfter, RefusalLine}
 
 -- ---- a plan that is replied is a plan of an accepted table
@@ -122,23 +122,23 @@ refusal-pending N k l state = rw (state .its-line, state .begun) (refusal-lines 
 
 module _ (N : Network) (w marks : List ℕ) {bytes marks′ : List ℕ} {r : Answer} {d : Due} (left : ℕ) (size : length w ≡ maxReaches) (room : length marks ≡ markBytes) (due : d ≡ dueOf r left) where
   -- the state that a reply leads to
-  replied : (reply : ℕ → ℕ → Outcome) → ((p : List ℕ) → reply maxReaches markBytes ≡ plan p → GivenPlan N p) → Written (reply (length w) (length marks)) w marks bytes marks′ r
+  replied : (reply : ℕ → ℕ → Outcome) → ((p : List ℕ) → reply maxReaches markBytes ≡ plan p → GivenPlan N p) → Replied (reply (length w) (length marks)) w marks bytes marks′ r
       → (n : ℕ) → pendingOf N (record { basins = n; due = d; at = 0; setting = bytes }) ≡ replyLines N left (reply maxReaches markBytes)
   replied reply given written n =
-      let at-limits : Written (reply maxReaches markBytes) w marks bytes marks′ r = rw (size, room) at written in
+      let at-limits : Replied (reply maxReaches markBytes) w marks bytes marks′ r = rw (size, room) at written in
       reply-pending N w (reply maxReaches markBytes) given left (record { basins = n; due = d; at = 0; setting = bytes }) (due ∙ ap (λ (x : Answer). dueOf x left) (at-limits .reply)) refl (at-limits .plan-left)
 
 pub first-state : (n : ℕ) (ks xs ys w marks : List ℕ) {bytes marks′ : List ℕ} {r : Answer} {d : Due} → length w ≡ maxReaches → length marks ≡ markBytes → d ≡ dueOf r maxPlans
-    → Written (firstReply (netOf n ks xs ys) (length w) (length marks)) w marks bytes marks′ r → FirstLine n ks xs ys (record { basins = n; due = d; at = 0; setting = bytes })
+    → Replied (firstReply (netOf n ks xs ys) (length w) (length marks)) w marks bytes marks′ r → FirstLine n ks xs ys (record { basins = n; due = d; at = 0; setting = bytes })
 first-state n ks xs ys w marks size room due written =
     let N = netOf n ks xs ys in
     record { basins-kept = refl; lines = replied N w marks maxPlans size room due (firstReply N) (first-gives N maxReaches markBytes) written n }
 
 pub next-state : (l : Lister) (ks xs ys marks : List ℕ) (left : ℕ) {g : ℕ} {bytes marks′ : List ℕ} {r : Answer} {d : Due} → length (l .setting) ≡ maxReaches → length marks ≡ markBytes → d ≡ dueOf r left
-    → g ≡ gatesHeld (lentNet l ks xs ys) → Written (nextReply (lentNet l ks xs ys) (take g (l .setting)) (length (l .setting)) (length marks)) (l .setting) marks bytes marks′ r
-    → LineAfter (lentNet l ks xs ys) l left (record { basins = l .basins; due = d; at = 0; setting = bytes })
+    → g ≡ gatesHeld (stateNet l ks xs ys) → Replied (nextReply (stateNet l ks xs ys) (take g (l .setting)) (length (l .setting)) (length marks)) (l .setting) marks bytes marks′ r
+    → LineAfter (stateNet l ks xs ys) l left (record { basins = l .basins; due = d; at = 0; setting = bytes })
 next-state l ks xs ys marks left {g} size room due held written =
-    let N = lentNet l ks xs ys in
+    let N = stateNet l ks xs ys in
     record {
       basins-kept = refl;
       begun = refl;

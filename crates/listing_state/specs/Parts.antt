@@ -11,7 +11,7 @@ use Rattle.lines.specs.declared.Due.the-variants as D
 use Rattle.lines.specs.Listings.{maxPlans, replyLines}
 use Rattle.lines.specs.Dues.{refusalDue}
 use Rattle.listing_state.specs.declared.Lister.{Lister}
-use Rattle.listing_state.specs.Pending.{linesAfter, planIn, restOf, pendingOf}
+use Rattle.listing_state.specs.Pending.{linesAfter, planInHand, restOf, pendingOf}
 
 -- The first line's state, and that after the line of a plan.
 pub record FirstLine (n : ℕ) (kinds a b : List ℕ) (r : Lister) : Type 0 where
@@ -21,7 +21,7 @@ pub record FirstLine (n : ℕ) (kinds a b : List ℕ) (r : Lister) : Type 0 wher
 pub record LineAfter (N : Network) (l : Lister) (left : ℕ) (r : Lister) : Type 0 where
   pub basins-kept : r .basins ≡ l .basins
   pub begun : r .at ≡ 0
-  pub lines : pendingOf N r ≡ linesAfter N (D.Plan left) (planIn N l)
+  pub lines : pendingOf N r ≡ linesAfter N (D.Plan left) (planInHand N l)
 
 -- The length of a plan's line, by its number of gated reaches.
 abbrev pub planLength : ℕ → ℕ

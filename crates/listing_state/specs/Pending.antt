@@ -34,22 +34,22 @@ linesAfter N D.End s = []
 linesAfter N (D.Refused n) s = []
 
 -- The plan in hand: the first bytes of the state's, one for each gated reach.
-abbrev pub planIn : Network → Lister → List ℕ
-planIn N l = take (gatesHeld N) (l .setting)
+abbrev pub planInHand : Network → Lister → List ℕ
+planInHand N l = take (gatesHeld N) (l .setting)
 
 -- What is left of the line, and the lines after it.
 unfoldable pub restOf : Network → Lister → List ℕ
-restOf N l = drop (l .at) (lineOf (l .due) (planIn N l))
+restOf N l = drop (l .at) (lineOf (l .due) (planInHand N l))
 
 unfoldable pub pendingOf : Network → Lister → List ℕ
-pendingOf N l = restOf N l ++ linesAfter N (l .due) (planIn N l)
+pendingOf N l = restOf N l ++ linesAfter N (l .due) (planInHand N l)
 
 -- The network of a state and the rows that it is lent, and what is still to be printed.
-abbrev pub lentNet : Lister → List ℕ → List ℕ → List ℕ → Network
-lentNet l kinds a b = netOf (l .basins) kinds a b
+abbrev pub stateNet : Lister → List ℕ → List ℕ → List ℕ → Network
+stateNet l kinds a b = netOf (l .basins) kinds a b
 
 abbrev pub pending : Lister → List ℕ → List ℕ → List ℕ → List ℕ
-pending l kinds a b = pendingOf (lentNet l kinds a b) l
+pending l kinds a b = pendingOf (stateNet l kinds a b) l
 
 -- ---- the calls
 

@@ -18,7 +18,7 @@ ghost use lib.ListN.{length, take, drop};
 ghost use Rattle.network.specs.Networks.{maxReaches};
 ghost use Rattle.network.specs.Replies.{refusalNumber};
 ghost use Rattle.lines.specs.Puts.{Put};
-ghost use Rattle.listing_state.specs.Pending.{lineOf, lentNet, Starting};
+ghost use Rattle.listing_state.specs.Pending.{lineOf, stateNet, Starting};
 ghost use Rattle.tables.specs.Rows.{gatesHeld};
 ghost use Rattle.listing_state.specs.Parts.{FirstLine, LineAfter, planLength, RefusalLine};
 
@@ -76,7 +76,7 @@ fn first_line(basins: u16, kinds: &[u8], a: &[u16], b: &[u16], setting: [u8; MAX
 {
     let mut plan = setting;
     let mut marks = [0u8; MARK_BYTES];
-    let answer = planner::first_plan_rows(basins, kinds, a, b, &mut plan, &mut marks);
+    let answer = planner_rows::first_plan(basins, kinds, a, b, &mut plan, &mut marks);
     let due = due_of(answer, MAX_PLANS);
     Lister {
         basins,
@@ -88,14 +88,14 @@ fn first_line(basins: u16, kinds: &[u8], a: &[u16], b: &[u16], setting: [u8; MAX
 
 // The state after the line of a plan, after which so many plans may still be printed, by asking for the next plan. The plan in hand has g bytes.
 pub fn asked(l: Lister, left: usize, g: usize, kinds: &[u8], a: &[u16], b: &[u16]) -> Lister
-    requires { ⌜ g ≡ gatesHeld (lentNet l (now kinds) (now a) (now b)) ⌝ }
-    ensures { λ r. ⌜ LineAfter (lentNet l (now (kinds .entry)) (now (a .entry)) (now (b .entry))) l left r ⌝ }
+    requires { ⌜ g ≡ gatesHeld (stateNet l (now kinds) (now a) (now b)) ⌝ }
+    ensures { λ r. ⌜ LineAfter (stateNet l (now (kinds .entry)) (now (a .entry)) (now (b .entry))) l left r ⌝ }
 {
     let basins = l.basins;
     let setting = l.setting;
     let mut plan = l.setting;
     let mut marks = [0u8; MARK_BYTES];
-    let answer = planner::next_plan_rows(basins, kinds, a, b, &setting[..g], &mut plan, &mut marks);
+    let answer = planner_rows::next_plan(basins, kinds, a, b, &setting[..g], &mut plan, &mut marks);
     let due = due_of(answer, left);
     Lister {
         basins,
@@ -125,7 +125,7 @@ pub fn start(file: &[u8], kinds: &mut [u8], a: &mut [u16], b: &mut [u16]) -> Sta
         (now (b .exit)) ⌝ }
 {
     let n = least(file.len(), MAX_BYTES);
-    match netfile::read_network_rows(&file[..n], kinds, a, b) {
+    match netfile_rows::read_network(&file[..n], kinds, a, b) {
         ReadAnswer::Refused(r) => {
             let lister = refusal_line(r);
             Started { lister, reaches: 0 }

@@ -9,7 +9,7 @@ use mathlib.Core.List.{List, _++_, map}
 use lib.ListN.{length, getD, take, drop, set, length-set, length-map, List·getD-map}
 use lib.Seq.{take-all, drop-drop, getD-drop, paste, paste-suc}
 use Rattle.network.specs.declared.Reach.{Reach}
-use Rattle.network.specs.Lone.{noReach}
+use Rattle.network.specs.Bridges.{noReach}
 use Rattle.network.specs.Tables.{kindNumber}
 use Rattle.lists.specs.Words.{wordOf}
 use Rattle.netfile_format.specs.Files.{recordKind}

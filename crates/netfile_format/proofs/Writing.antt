@@ -8,7 +8,7 @@ use mathlib.Core.List.{List, [], _∷_, _++_}
 use lib.ListN.{length, getD, take, set}
 use lib.Seq.{sets, length-take-le, take-suc, take-all}
 use Rattle.network.specs.declared.Reach.{Reach}
-use Rattle.network.specs.Lone.{noReach}
+use Rattle.network.specs.Bridges.{noReach}
 use Rattle.network.specs.Tables.{kindOf, tableOf}
 use Rattle.tables.proofs.Laws.{reachOf, table-at}
 use Rattle.file_records.specs.Records.{twoBytes}

@@ -21,9 +21,9 @@ pub fn write_then_read(
         r (now (out .exit)) (now (kinds2 .exit)) (now (a2 .exit)) (now (b2 .exit))
         ⌝ }
 {
-    match netfile::write_network_rows(basins, kinds, a, b, out) {
+    match netfile_rows::write_network(basins, kinds, a, b, out) {
         WriteAnswer::Refused(r) => ReadAnswer::Refused(r),
-        WriteAnswer::Written(n) => netfile::read_network_rows(&out[..n], kinds2, a2, b2),
+        WriteAnswer::Written(n) => netfile_rows::read_network(&out[..n], kinds2, a2, b2),
     }
 }
 
@@ -40,10 +40,10 @@ pub fn read_then_write(
         r (now (kinds .exit)) (now (a .exit)) (now (b .exit)) (now (out .exit))
         ⌝ }
 {
-    match netfile::read_network_rows(file, kinds, a, b) {
+    match netfile_rows::read_network(file, kinds, a, b) {
         ReadAnswer::Refused(r) => WriteAnswer::Refused(r),
         ReadAnswer::Read { basins, reaches } => {
-            netfile::write_network_rows(
+            netfile_rows::write_network(
                 basins,
                 &kinds[..reaches],
                 &a[..reaches],

@@ -4,13 +4,13 @@ use mathlib.Core.Path.{refl}
 use lib.Count.{ones}
 use Rattle.network.specs.Networks.{tableFault}
 use Rattle.network.specs.Settings.{isSetting, settingFault}
-use Rattle.network.specs.Plans.{strongUnder, isPlan, passable, firstPlan, nextPlan}
-use Rattle.network.specs.Lone.{crossesAlone, isLone, lowestLone}
+use Rattle.network.specs.Plans.{stronglyConnectedUnder, isPlan, passable, firstPlan, nextPlan}
+use Rattle.network.specs.Bridges.{crossesAlone, isBridge, lowestBridge}
 use Rattle.network.specs.Marks.{marksOf}
-use Rattle.network.specs.Replies.{shutInBasin, shutInSide, loneSide, shutInFinding, loneFinding, answer, firstAnswer, nextAnswer, roomFault, firstReply, nextReply}
+use Rattle.network.specs.Replies.{shutInBasin, shutInSide, bridgeSide, shutInFinding, loneFinding, answer, firstAnswer, nextAnswer, roomFault, firstReply, nextReply}
 use Rattle.network.specs.Cases.{cases, CasesHold}
 
 pub marked-cases : CasesHold cases
-unfolding tableFault isSetting settingFault strongUnder isPlan passable firstPlan nextPlan crossesAlone isLone lowestLone marksOf ones shutInBasin shutInSide loneSide shutInFinding loneFinding answer firstAnswer nextAnswer roomFault firstReply nextReply
+unfolding tableFault isSetting settingFault stronglyConnectedUnder isPlan passable firstPlan nextPlan crossesAlone isBridge lowestBridge marksOf ones shutInBasin shutInSide bridgeSide shutInFinding loneFinding answer firstAnswer nextAnswer roomFault firstReply nextReply
 marked-cases =
     ((refl, (refl, tt)), ((refl, tt), ((refl, (refl, (refl, (refl, tt)))), ((refl, tt), ((refl, tt), ((refl, tt), ((refl, (refl, tt)), ((refl, (refl, tt)), ((refl, (refl, (refl, tt))), ((refl, tt), ((refl, tt), tt)))))))))))

@@ -15,20 +15,20 @@ use mathlib.Mathlib.Data.Bool.Basic.{bool-eq-false}
 use Rattle.lists.specs.Lists.{keep, elem}
 use Rattle.network.specs.Networks.{Network, basinsOf, Accepted}
 use Rattle.network.specs.Settings.{isGated, isSetting}
-use Rattle.network.specs.Hangings.{arc, arcsUnder, reached, unhung}
-use Rattle.network.specs.Plans.{reachesAll, strongUnder, isPlan, passable}
-use Rattle.network.specs.Lone.{reachAt, isLone, lowestLone}
+use Rattle.network.specs.Orientations.{arc, arcsUnder, reached, unoriented}
+use Rattle.network.specs.Plans.{reachesAll, stronglyConnectedUnder, isPlan, passable}
+use Rattle.network.specs.Bridges.{reachAt, isBridge, lowestBridge}
 use Rattle.network.specs.Marks.{markBytes, marksOf, marked, onesIn}
-use Rattle.network.specs.Replies.{shutIn, lone, shutInBasin, shutInSide, loneSide, shutInFinding, loneFinding}
+use Rattle.network.specs.Replies.{shutIn, lone, shutInBasin, shutInSide, bridgeSide, shutInFinding, loneFinding}
 use Rattle.lists.proofs.Bools.{clash}
 use Rattle.lists.proofs.Searches.{every-fails, find-some, find-none, find-first, keep-in, keep-same, elem-in, elem-keep}
 use Rattle.network.proofs.Marks.{marked-is, unmarked-past, marks-same, count-is}
 use Rattle.network.proofs.Cuts.{reached-on}
 use Rattle.network.proofs.Ways.{looser-within}
 use Rattle.network.proofs.Networks.{accepted, basin-in, basin-below, lowest-is-0, arcs-in-basins}
-use Rattle.network.proofs.Lone.{Alone, alone-facts, alone-same, side-basins, cut-unique, cut-blocks, lone-below, lone-gated, lone-side}
-use Rattle.network.proofs.Theorem.{plan-passable, unhung-2}
-use Rattle.network.proofs.Replies.{lowest-is-lone}
+use Rattle.network.proofs.Bridges.{Alone, alone-facts, alone-same, side-basins, cut-unique, cut-blocks, bridge-below, bridge-gated, bridge-side}
+use Rattle.network.proofs.Theorem.{plan-passable, unoriented-2}
+use Rattle.network.proofs.Replies.{lowest-is-bridge}
 use Rattle.network.proofs.Walks.{reached-refl}
 
 -- ---- marks of a set of basins
@@ -82,19 +82,19 @@ pub record ShutInShown (N : Network) (m : List ℕ) (c : ℕ) : Type 0 where
 pub record ShutInAt (N : Network) (u : ℕ) : Type 0 where
   pub is-it : shutInBasin N ≡ some u
   pub basin : List·Memᴰ u (basinsOf N)
-  pub misses : reachesAll (basinsOf N) (arcsUnder N (unhung N)) u ≡ false
-  pub lower-reach : (v : ℕ) → v < u → reachesAll (basinsOf N) (arcsUnder N (unhung N)) v ≡ true
+  pub misses : reachesAll (basinsOf N) (arcsUnder N (unoriented N)) u ≡ false
+  pub lower-reach : (v : ℕ) → v < u → reachesAll (basinsOf N) (arcsUnder N (unoriented N)) v ≡ true
 
 pub shut-in-at : (N : Network) → passable N ≡ false → (u : ℕ) × ShutInAt N u
-unfolding passable strongUnder shutInBasin
+unfolding passable stronglyConnectedUnder shutInBasin
 shut-in-at N n = go (shutInBasin N) refl
   where
     test : ℕ → Bool
-    test u = not (reachesAll (basinsOf N) (arcsUnder N (unhung N)) u)
+    test u = not (reachesAll (basinsOf N) (arcsUnder N (unoriented N)) u)
 
     go : (o : Option ℕ) → shutInBasin N ≡ o → (u : ℕ) × ShutInAt N u
     go none e =
-        let k = every-fails (reachesAll (basinsOf N) (arcsUnder N (unhung N))) (basinsOf N) n in
+        let k = every-fails (reachesAll (basinsOf N) (arcsUnder N (unoriented N))) (basinsOf N) n in
         clash (ap not (k .2)) (find-none test e (k .1))
     go (some u) e =
         let k = find-some test (basinsOf N) e in (
@@ -112,7 +112,7 @@ unfolding shutInFinding shutInSide
 shut-in-shown N ok n =
     let at = shut-in-at N n in
     let u = at .0 in
-    let A = arcsUnder N (unhung N) in
+    let A = arcsUnder N (unoriented N) in
     let side : shutInSide N ≡ keep (reached A u) (basinsOf N) = ap (λ (o : Option ℕ). keep (reached A (Option·getD o 0)) (basinsOf N)) (at .1 .is-it) in
     let S = keep (reached A u) (basinsOf N) in
     let basins : (b : ℕ) → List·Memᴰ b S → List·Memᴰ b (basinsOf N) = λ b m. (keep-in (reached A u) (basinsOf N) m) .0 in
@@ -126,7 +126,7 @@ shut-in-shown N ok n =
         outside = (miss .0, basin-below N (miss .0) (miss .1), mark (miss .0) (miss .1) ∙ miss .2);
         only-basins = λ b e. basin-below N b (marked-basin N ok S basins b e);
         closed = λ s c d hs m e.
-            let m′ = looser-within (N .reaches) s (unhung N) (λ k. inl (unhung-2 N k)) (arc c d) m in
+            let m′ = looser-within (N .reaches) s (unoriented N) (λ k. inl (unoriented-2 N k)) (arc c d) m in
             let ends = arcs-in-basins N ok _ c d m′ in
             mark d (ends .1) ∙ reached-on A u c d m′ (sym (mark c (ends .0)) ∙ e);
         count = marked-count N ok S basins;
@@ -137,7 +137,7 @@ shut-in-shown N ok n =
 -- ---- lone reach
 
 -- What the reach i, the marks m and the count c of finding 10 show.
-pub record LoneShown (N : Network) (i : ℕ) (m : List ℕ) (c : ℕ) : Type 0 where
+pub record BridgeShown (N : Network) (i : ℕ) (m : List ℕ) (c : ℕ) : Type 0 where
   pub below : i < length (N .reaches)
   pub gated : isGated ((reachAt N i) .kind) ≡ true
   -- it crosses the marked side, and no other reach does
@@ -148,17 +148,17 @@ pub record LoneShown (N : Network) (i : ℕ) (m : List ℕ) (c : ℕ) : Type 0 w
   -- the division is the only one that it crosses alone
   pub only-side : (S : ℕ → Bool) → Alone N S i → S 0 ≡ false → (b : ℕ) → b < N .basins → S b ≡ marked m b
   -- no reach with a lower number is lone
-  pub lowest : (j : ℕ) → j < i → isLone N j ≡ false
+  pub lowest : (j : ℕ) → j < i → isBridge N j ≡ false
   pub count : c ≡ length (keep (marked m) (basinsOf N))
   pub no-plan : (s : List ℕ) → isPlan N s ≡ true → ⊥
 
-pub lone-shown : (N : Network) → Accepted N → passable N ≡ true → (i : ℕ) → lowestLone N ≡ some i → (m : List ℕ) × (c : ℕ) × (loneFinding N i ≡ lone i m c) × LoneShown N i m c
-unfolding loneFinding passable lowestLone
-lone-shown N ok pass i low =
-    let is-lone = lowest-is-lone N low in
-    let l = lone-below N i is-lone in
-    let S = loneSide N i in
-    let side = lone-side N ok i is-lone in
+pub bridge-shown : (N : Network) → Accepted N → passable N ≡ true → (i : ℕ) → lowestBridge N ≡ some i → (m : List ℕ) × (c : ℕ) × (loneFinding N i ≡ lone i m c) × BridgeShown N i m c
+unfolding loneFinding passable lowestBridge
+bridge-shown N ok pass i low =
+    let is-bridge = lowest-is-bridge N low in
+    let l = bridge-below N i is-bridge in
+    let S = bridgeSide N i in
+    let side = bridge-side N ok i is-bridge in
     let basins : (b : ℕ) → List·Memᴰ b S → List·Memᴰ b (basinsOf N) = side-basins (basinsOf N) S (side .cut .side) in
     let alone : Alone N (marked (marksOf S)) i = alone-same N ok (λ b. elem b S) (marked (marksOf S)) i l (marked-in N ok S basins) (alone-facts N S i l (side .cut .alone)) in
     let zero-out : marked (marksOf S) 0 ≡ false = marked-is S 0 (omega arith) ∙ subst (λ (b : ℕ). elem b S ≡ false) (lowest-is-0 N) (side .without) in (
@@ -167,15 +167,15 @@ lone-shown N ok pass i low =
       refl,
       record {
         below = l;
-        gated = lone-gated N i is-lone;
+        gated = bridge-gated N i is-bridge;
         crossing = alone;
         without-0 = zero-out;
         only-basins = λ b e. basin-below N b (marked-basin N ok S basins b e);
         only-side = λ S′ f e b bl.
-            cut-unique N ok (unhung N) pass i S′ (marked (marksOf S)) f alone
+            cut-unique N ok (unoriented N) pass i S′ (marked (marksOf S)) f alone
             (subst⁻¹ (λ (x : ℕ). S′ x ≡ marked (marksOf S) x) (lowest-is-0 N) (e ∙ sym zero-out)) b (basin-in N b bl);
-        lowest = λ j k. find-first (isLone N) 0 (length (N .reaches)) low j (omega arith) k;
+        lowest = λ j k. find-first (isBridge N) 0 (length (N .reaches)) low j (omega arith) k;
         count = marked-count N ok S basins;
-        no-plan = cut-blocks N i S l (lone-gated N i is-lone) (side .cut);
+        no-plan = cut-blocks N i S l (bridge-gated N i is-bridge) (side .cut);
       },
     )

@@ -7,8 +7,8 @@ use mathlib.Core.Logic.{_⊎_, ⊎-elim}
 use mathlib.Core.List.{List, List·Memᴰ, Memᴰ·cast}
 use borrow.Author.Tests.{not-true}
 use mathlib.Mathlib.Data.Bool.Basic.{and-elim-left, and-elim-right, and-intro, or-inl, or-inr, bool-eq-false, eq-true-of-not-eq-false}
-use Rattle.network.specs.Hangings.{Arc, arc, Walk, reached}
-use Rattle.network.specs.Plans.{reachesAll, strong}
+use Rattle.network.specs.Orientations.{Arc, arc, Walk, reached}
+use Rattle.network.specs.Plans.{reachesAll, stronglyConnected}
 use Rattle.lists.proofs.Bools.{or-cases, clash, same-test}
 use Rattle.lists.proofs.Searches.{every-at, every-make}
 use Rattle.network.proofs.Walks.{Within, walk-trans, walk-arc, walk-along, walk-within, walk-inside, walk-reached, reached-walk, arc-from, arc-to, reached-refl}
@@ -17,13 +17,13 @@ use Rattle.network.proofs.Walks.{Within, walk-trans, walk-arc, walk-alo
 abbrev pub Strong : List ℕ → List Arc → Type 0
 Strong bs A = (u v : ℕ) → List·Memᴰ u bs → List·Memᴰ v bs → Walk A u v
 
-pub strong-walks : (bs : List ℕ) (A : List Arc) → strong bs A ≡ true → Strong bs A
+pub strong-walks : (bs : List ℕ) (A : List Arc) → stronglyConnected bs A ≡ true → Strong bs A
 strong-walks bs A e u v mu mv = reached-walk A u v (every-at (reached A u) (every-at (reachesAll bs A) e mu) mv)
 
-pub walks-strong : (bs : List ℕ) (A : List Arc) → Strong bs A → strong bs A ≡ true
+pub walks-strong : (bs : List ℕ) (A : List Arc) → Strong bs A → stronglyConnected bs A ≡ true
 walks-strong bs A f = every-make (reachesAll bs A) bs (λ u mu. every-make (reached A u) bs (λ v mv. walk-reached (f u v mu mv)))
 
-pub strong-within : (bs : List ℕ) (A B : List Arc) → Within A B → strong bs A ≡ true → strong bs B ≡ true
+pub strong-within : (bs : List ℕ) (A B : List Arc) → Within A B → stronglyConnected bs A ≡ true → stronglyConnected bs B ≡ true
 strong-within bs A B h e = walks-strong bs B (λ u v mu mv. walk-within h (strong-walks bs A e u v mu mv))
 
 -- a walk between the ends of an arc

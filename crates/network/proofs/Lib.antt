@@ -4,7 +4,7 @@ pub mod Cases
 pub mod Cuts
 pub mod Ways
 pub mod Networks
-pub mod Lone
+pub mod Bridges
 pub mod Steps
 pub mod Theorem
 pub mod Replies

@@ -20,8 +20,8 @@ use Rattle.network.specs.declared.Refusal.the-variants.{BasinCount, TooM
 use Rattle.network.specs.Networks.{Network, maxBasins, maxReaches, basinsOf, lowestBasin, goodCount, goodLength, goodEnds, tableFault, Accepted}
 use Rattle.network.specs.Tables.{kindOf}
 use Rattle.network.specs.Settings.{isGated, gatesFrom, gateCount}
-use Rattle.network.specs.Hangings.{arc, passing, arcs}
-use Rattle.network.specs.Lone.{noReach, reachAt}
+use Rattle.network.specs.Orientations.{arc, passing, arcs}
+use Rattle.network.specs.Bridges.{noReach, reachAt}
 use Rattle.lists.proofs.Ranges.{range-has, range-in, range-head}
 use Rattle.network.proofs.Ways.{arcs-in}
 use Rattle.network.proofs.Walks.{arc-from, arc-to}

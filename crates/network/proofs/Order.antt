@@ -15,7 +15,7 @@ use mathlib.Mathlib.Data.Bool.Basic.{and-elim-left, and-elim-right, and-intro, o
 use Rattle.lists.specs.Lists.{every, find}
 use Rattle.network.specs.Networks.{Network}
 use Rattle.network.specs.Settings.{gateCount, isSetting, before, settings}
-use Rattle.network.specs.Plans.{isPlan, strongUnder, firstPlan, nextPlan}
+use Rattle.network.specs.Plans.{isPlan, stronglyConnectedUnder, firstPlan, nextPlan}
 use Rattle.lists.proofs.Bools.{or-cases, decide, clash, same-test}
 use Rattle.lists.proofs.Searches.{find-some, find-none, find-same, find-append, find-map}
 
@@ -158,7 +158,7 @@ earliest-found g p {s} m h k = go (find p (settings g)) refl
 -- A plan is a setting.
 pub plan-setting : (N : Network) (s : List ℕ) → isPlan N s ≡ true → isSetting N s ≡ true
 unfolding isPlan
-plan-setting N s h = and-elim-left (isSetting N s) (strongUnder N s) h
+plan-setting N s h = and-elim-left (isSetting N s) (stronglyConnectedUnder N s) h
 
 pub plan-in : (N : Network) (s : List ℕ) → isPlan N s ≡ true → List·Memᴰ s (settings (gateCount N))
 plan-in N s h = settings-has N s (plan-setting N s h)

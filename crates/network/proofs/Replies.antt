@@ -16,13 +16,13 @@ use Rattle.lists.specs.Lists.{range}
 use Rattle.network.specs.Networks.{Network, Accepted, maxReaches}
 use Rattle.network.specs.Settings.{isSetting, before, gateCount}
 use Rattle.network.specs.Plans.{isPlan, passable, firstPlan, nextPlan}
-use Rattle.network.specs.Lone.{isLone, lowestLone}
+use Rattle.network.specs.Bridges.{isBridge, lowestBridge}
 use Rattle.network.specs.Replies.{Outcome, plan, shutIn, lone, refused, refusalNumber, number, planIn, reachIn, marksIn, countIn, SameReply, shutInFinding, loneFinding, chosen, orLone, answer, firstAnswer, nextAnswer, unless, roomFault}
 use Rattle.lists.proofs.Bools.{clash}
 use Rattle.lists.proofs.Searches.{find-some, find-none}
 use Rattle.lists.proofs.Ranges.{range-has}
 use Rattle.network.proofs.Order.{first-is-plan, first-none, next-none, next-is-plan, next-is-later, next-same}
-use Rattle.network.proofs.Lone.{lone-below, lone-blocks}
+use Rattle.network.proofs.Bridges.{bridge-below, bridge-blocks}
 use Rattle.network.proofs.Theorem.{theorem, plan-passable}
 use Rattle.network.specs.Marks.{markBytes}
 use Rattle.network.proofs.Networks.{gates-fit}
@@ -94,30 +94,30 @@ chosen-inj none (some t) e = cc
 chosen-inj none none e = refl
 
 -- a lowest lone reach is lone, and if there is none no reach is
-pub lowest-is-lone : (N : Network) {i : ℕ} → lowestLone N ≡ some i → isLone N i ≡ true
-unfolding lowestLone
-lowest-is-lone N e = (find-some (isLone N) (range 0 (length (N .reaches))) e) .1
+pub lowest-is-bridge : (N : Network) {i : ℕ} → lowestBridge N ≡ some i → isBridge N i ≡ true
+unfolding lowestBridge
+lowest-is-bridge N e = (find-some (isBridge N) (range 0 (length (N .reaches))) e) .1
 
-pub no-lowest : (N : Network) → lowestLone N ≡ none → (i : ℕ) → isLone N i ≡ false
-unfolding lowestLone
-no-lowest N e i = bool-eq-false {b = isLone N i} (λ y. clash y (find-none (isLone N) e (range-has 0 (length (N .reaches)) (omega arith) (omega (arith, lone-below N i y)))))
+pub no-lowest : (N : Network) → lowestBridge N ≡ none → (i : ℕ) → isBridge N i ≡ false
+unfolding lowestBridge
+no-lowest N e i = bool-eq-false {b = isBridge N i} (λ y. clash y (find-none (isBridge N) e (range-has 0 (length (N .reaches)) (omega arith) (omega (arith, bridge-below N i y)))))
 
 -- An accepted network has a plan and gets the plan that is asked for, or has none and gets its finding, whatever is asked for.
 pub data Verdict (N : Network) : Type 0 where
   plans : (s : List ℕ) → isPlan N s ≡ true → ((p : Option (List ℕ)) → answer N p ≡ chosen p) → Verdict N
   no-way : passable N ≡ false → ((s : List ℕ) → isPlan N s ≡ true → ⊥) → ((p : Option (List ℕ)) → answer N p ≡ shutInFinding N) → Verdict N
-  one-lone : (i : ℕ) → lowestLone N ≡ some i → passable N ≡ true → ((s : List ℕ) → isPlan N s ≡ true → ⊥) → ((p : Option (List ℕ)) → answer N p ≡ loneFinding N i) → Verdict N
+  one-bridge : (i : ℕ) → lowestBridge N ≡ some i → passable N ≡ true → ((s : List ℕ) → isPlan N s ≡ true → ⊥) → ((p : Option (List ℕ)) → answer N p ≡ loneFinding N i) → Verdict N
 
 pub verdict : (N : Network) → Accepted N → Verdict N
 unfolding answer
-verdict N ok = go (passable N) refl (lowestLone N) refl
+verdict N ok = go (passable N) refl (lowestBridge N) refl
   where
-    at : (b : Bool) (o : Option ℕ) → passable N ≡ b → lowestLone N ≡ o → (p : Option (List ℕ)) → answer N p ≡ cond b (orLone N o p) (shutInFinding N)
-    at b o e f p = ap (λ (x : Bool). cond x (orLone N (lowestLone N) p) (shutInFinding N)) e ∙ ap (λ (x : Option ℕ). cond b (orLone N x p) (shutInFinding N)) f
+    at : (b : Bool) (o : Option ℕ) → passable N ≡ b → lowestBridge N ≡ o → (p : Option (List ℕ)) → answer N p ≡ cond b (orLone N o p) (shutInFinding N)
+    at b o e f p = ap (λ (x : Bool). cond x (orLone N (lowestBridge N) p) (shutInFinding N)) e ∙ ap (λ (x : Option ℕ). cond b (orLone N x p) (shutInFinding N)) f
 
-    go : (b : Bool) → passable N ≡ b → (o : Option ℕ) → lowestLone N ≡ o → Verdict N
+    go : (b : Bool) → passable N ≡ b → (o : Option ℕ) → lowestBridge N ≡ o → Verdict N
     go false n o f = no-way n (λ s e. clash (plan-passable N s e) n) (at false o n f)
-    go true y (some i) f = one-lone i f y (λ s e. lone-blocks N i (lowest-is-lone N f) s e) (at true (some i) y f)
+    go true y (some i) f = one-bridge i f y (λ s e. bridge-blocks N i (lowest-is-bridge N f) s e) (at true (some i) y f)
     go true y none f = let p = (theorem N ok) .1 (y, no-lowest N f) in plans (p .0) (p .1) (at true none y f)
 
 -- a finding is no plan and no last plan
@@ -126,10 +126,10 @@ unfolding shutInFinding
 finding-not-chosen N (some s) e = let z : _≡_ {A = ℕ} 0 1 = cc in omega arith
 finding-not-chosen N none e = let z : _≡_ {A = ℕ} 0 1 = cc in omega arith
 
-lone-not-chosen : (N : Network) (i : ℕ) (p : Option (List ℕ)) → loneFinding N i ≡ chosen p → ⊥
+bridge-not-chosen : (N : Network) (i : ℕ) (p : Option (List ℕ)) → loneFinding N i ≡ chosen p → ⊥
 unfolding loneFinding
-lone-not-chosen N i (some s) e = let z : _≡_ {A = ℕ} 0 1 = cc in omega arith
-lone-not-chosen N i none e = let z : _≡_ {A = ℕ} 0 1 = cc in omega arith
+bridge-not-chosen N i (some s) e = let z : _≡_ {A = ℕ} 0 1 = cc in omega arith
+bridge-not-chosen N i none e = let z : _≡_ {A = ℕ} 0 1 = cc in omega arith
 
 -- What an accepted network with a plan is given; and what is given, plan or last plan, only such a network gets.
 pub given-iff : (N : Network) → Accepted N → (p q : Option (List ℕ)) → (answer N p ≡ chosen q) ↔ (((s : List ℕ) × (isPlan N s ≡ true)) × (p ≡ q))
@@ -138,7 +138,7 @@ given-iff N ok p q = go (verdict N ok)
     go : Verdict N → (answer N p ≡ chosen q) ↔ (((s : List ℕ) × (isPlan N s ≡ true)) × (p ≡ q))
     go (plans s e f) = (λ a. ((s, e), chosen-inj p q (sym (f p) ∙ a)), λ k. f p ∙ ap chosen (k .1))
     go (no-way n none-is f) = (λ a. absurd (finding-not-chosen N q (sym (f p) ∙ a)), λ k. absurd (none-is (k .0 .0) (k .0 .1)))
-    go (one-lone i e y none-is f) = (λ a. absurd (lone-not-chosen N i q (sym (f p) ∙ a)), λ k. absurd (none-is (k .0 .0) (k .0 .1)))
+    go (one-bridge i e y none-is f) = (λ a. absurd (bridge-not-chosen N i q (sym (f p) ∙ a)), λ k. absurd (none-is (k .0 .0) (k .0 .1)))
 
 module _ (N : Network) (ok : Accepted N) where
   -- First gives a plan exactly if it is the first plan, and gives one wherever there is one. It never says last plan.
@@ -195,4 +195,4 @@ module _ (N : Network) (ok : Accepted N) where
       go : Verdict N → (answer N (nextPlan N s) ≡ answer N (nextPlan N t)) ↔ ((p : List ℕ) → isPlan N p ≡ true → before s p ≡ true → before t p ≡ false → ⊥)
       go (plans q e f) = (λ a. same .0 (chosen-inj _ _ (sym (f (nextPlan N s)) ∙ a ∙ f (nextPlan N t))), λ h. ap (answer N) (same .1 h))
       go (no-way n none-is f) = (λ a p e l m. none-is p e, λ h. f (nextPlan N s) ∙ sym (f (nextPlan N t)))
-      go (one-lone i e y none-is f) = (λ a p e′ l m. none-is p e′, λ h. f (nextPlan N s) ∙ sym (f (nextPlan N t)))
+      go (one-bridge i e y none-is f) = (λ a p e′ l m. none-is p e′, λ h. f (nextPlan N s) ∙ sym (f (nextPlan N t)))

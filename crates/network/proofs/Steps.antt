@@ -10,15 +10,15 @@ use lib.ListN.{length, getD, set}
 use lib.Seq.{getD-set-other}
 use Rattle.network.specs.Networks.{Network, basinsOf, Accepted}
 use Rattle.network.specs.Settings.{isGated}
-use Rattle.network.specs.Hangings.{Arc, arc, passing, arcs, reached}
-use Rattle.network.specs.Plans.{strong}
-use Rattle.network.specs.Lone.{reachAt, isLone}
+use Rattle.network.specs.Orientations.{Arc, arc, passing, arcs, reached}
+use Rattle.network.specs.Plans.{stronglyConnected}
+use Rattle.network.specs.Bridges.{reachAt, isBridge}
 use Rattle.lists.proofs.Bools.{same-test}
 use Rattle.network.proofs.Walks.{reached-walk, reached-refl}
 use Rattle.network.proofs.Cuts.{OneMore, TwoMore, strong-walks, walks-strong, detour, came-back, bridge, other-side}
 use Rattle.network.proofs.Ways.{arcs-has, split-in, split-own, split-rest, passingAt}
 use Rattle.network.proofs.Networks.{accepted, basin-in, arcs-in-basins}
-use Rattle.network.proofs.Lone.{Alone, lone-make}
+use Rattle.network.proofs.Bridges.{Alone, bridge-make}
 
 -- a reach whose way is 0, 1 or 2 passes between its ends
 some-arc : (w a b : ℕ) → w ≤ 2 → List·Memᴰ (arc a b) (passing w a b) ⊎ List·Memᴰ (arc b a) (passing w a b)
@@ -68,20 +68,20 @@ module _ (N : Network) (ok : Accepted N) (ws : List ℕ) (i : ℕ) (below : i < 
   in-b : List·Memᴰ endB (basinsOf N)
   in-b = basin-in N endB ((accepted N ok) .end-b i below)
 
-  one-way : (x a b : ℕ) → OneMore (under 3) (under x) a b → TwoMore (under 3) (under 2) a b → List·Memᴰ a (basinsOf N) → List·Memᴰ b (basinsOf N) → strong (basinsOf N) (under 2) ≡ true → strong (basinsOf N) (under x) ≡ reached (under 3) b a
+  one-way : (x a b : ℕ) → OneMore (under 3) (under x) a b → TwoMore (under 3) (under 2) a b → List·Memᴰ a (basinsOf N) → List·Memᴰ b (basinsOf N) → stronglyConnected (basinsOf N) (under 2) ≡ true → stronglyConnected (basinsOf N) (under x) ≡ reached (under 3) b a
   one-way x a b one two ma mb str =
-      same-test (strong (basinsOf N) (under x)) (reached (under 3) b a)
+      same-test (stronglyConnected (basinsOf N) (under x)) (reached (under 3) b a)
       (λ e. came-back one (strong-walks (basinsOf N) (under x) e b a mb ma))
       (λ e. walks-strong (basinsOf N) (under x) (λ u v mu mv. detour one two (reached-walk (under 3) b a e) (strong-walks (basinsOf N) (under 2) str u v mu mv)))
 
   -- Hanging it as drawn loses nothing exactly if B leads to A without it; turned, exactly if A leads to B without it.
-  pub hang-drawn : strong (basinsOf N) (under 2) ≡ true → strong (basinsOf N) (under 0) ≡ reached (under 3) endB endA
-  hang-drawn str = one-way 0 endA endB drawn both in-a in-b str
+  pub orient-drawn : stronglyConnected (basinsOf N) (under 2) ≡ true → stronglyConnected (basinsOf N) (under 0) ≡ reached (under 3) endB endA
+  orient-drawn str = one-way 0 endA endB drawn both in-a in-b str
 
-  pub hang-turned : strong (basinsOf N) (under 2) ≡ true → strong (basinsOf N) (under 1) ≡ reached (under 3) endA endB
-  hang-turned str = one-way 1 endB endA turned both′ in-b in-a str
+  pub orient-turned : stronglyConnected (basinsOf N) (under 2) ≡ true → stronglyConnected (basinsOf N) (under 1) ≡ reached (under 3) endA endB
+  orient-turned str = one-way 1 endB endA turned both′ in-b in-a str
 
-  module _ (small : (j : ℕ) → j < length (N .reaches) → getD ws j 3 ≤ 2) (str : strong (basinsOf N) (under 2) ≡ true)
+  module _ (small : (j : ℕ) → j < length (N .reaches) → getD ws j 3 ≤ 2) (str : stronglyConnected (basinsOf N) (under 2) ≡ true)
       (ba : reached (under 3) endB endA ≡ false) (ab : reached (under 3) endA endB ≡ false) where
     -- Where both ways lose something, the reach alone crosses the side that B leads to without it.
     pub stuck-alone : Alone N (reached (under 3) endB) i
@@ -102,5 +102,5 @@ module _ (N : Network) (ok : Accepted N) (ws : List ℕ) (i : ℕ) (below : i < 
     pub stuck-other : (v : ℕ) → List·Memᴰ v (basinsOf N) → reached (under 3) endA v ≡ not (reached (under 3) endB v)
     stuck-other = other-side (basinsOf N) (under 3) (under 2) endA endB both (strong-walks (basinsOf N) (under 2) str) (arcs-in-basins N ok (set ws i 3)) in-a in-b ba ab
 
-    pub stuck-lone : isGated ((reachAt N i) .kind) ≡ true → isLone N i ≡ true
-    stuck-lone g = lone-make N ok i below g (reached (under 3) endB) stuck-alone
+    pub stuck-bridge : isGated ((reachAt N i) .kind) ≡ true → isBridge N i ≡ true
+    stuck-bridge g = bridge-make N ok i below g (reached (under 3) endB) stuck-alone

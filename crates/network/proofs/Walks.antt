@@ -8,7 +8,7 @@ use mathlib.Core.List.{List, [], _∷_, List·Memᴰ, List·Memᴰ·head, List·
 use lib.Dec.{eqb}
 use borrow.Author.Tests.{eqb-true, eq-eqb}
 use mathlib.Mathlib.Data.Bool.Basic.{and-elim-left, and-elim-right, and-intro, or-inl, or-inr}
-use Rattle.network.specs.Hangings.{Arc, arc, Walk, stay, step, reached}
+use Rattle.network.specs.Orientations.{Arc, arc, Walk, stay, step, reached}
 use Rattle.lists.proofs.Bools.{or-cases, same-test}
 
 -- B has every arc of A

@@ -15,8 +15,8 @@ use Rattle.network.specs.declared.Kind.{Kind}
 use Rattle.network.specs.declared.Kind.the-variants.{Gated, Flap, TwoWay}
 use Rattle.network.specs.declared.Reach.{Reach}
 use Rattle.network.specs.Settings.{isGated, gatesFrom}
-use Rattle.network.specs.Hangings.{Arc, way, after, ways, passing, arcs}
-use Rattle.network.specs.Lone.{noReach}
+use Rattle.network.specs.Orientations.{Arc, way, after, ways, passing, arcs}
+use Rattle.network.specs.Bridges.{noReach}
 use Rattle.lists.specs.Lists.{every}
 use Rattle.lists.proofs.Bools.{decide}
 use Rattle.network.proofs.Walks.{Within}
@@ -77,7 +77,7 @@ split-rest (r ∷ t) (w ∷ ws) (suc i) x y m =
     (λ there. Memᴰ·append-right (passing w (r .a) (r .b)) (rest y there))
     (List·Memᴰ·append-cases (passing w (r .a) (r .b)) m)
 
--- ---- ways and hangings
+-- ---- ways and partial orientations
 
 pub length-ways : (t : List Reach) (h : List ℕ) → length (ways t h) ≡ length t
 length-ways [] h = refl
@@ -165,7 +165,7 @@ rank-of o [] i l e = absurd (not-suc-le-zero l)
 rank-of o (r ∷ t) zero l e = rank-here (r .kind) (r .a) (r .b) o t e
 rank-of o (r ∷ t) (suc i) l e = rank-step (r .kind) (r .a) (r .b) o t i (rank-of (suc o) t i (le-of-suc-le-suc l) e)
 
--- a reach that is no gate has the way of its kind, whatever the hanging
+-- a reach that is no gate has the way of its kind, whatever the partial orientation
 plain-here : (d : Kind) (h : List ℕ) → isGated d ≡ false → way d h ≡ way d []
 plain-here Gated h e = absurd (true≢false e)
 plain-here Flap h e = refl
@@ -202,7 +202,7 @@ plain-small Gated e = absurd (true≢false e)
 plain-small Flap e = omega arith
 plain-small TwoWay e = omega arith
 
--- under a hanging each reach has a way up to 2
+-- under a partial orientation each reach has a way up to 2
 pub way-small : (t : List Reach) (h : List ℕ) (i : ℕ) → length h ≡ length (gatesFrom 0 t) → every (λ x. leb x 2) h ≡ true → i < length t → getD (ways t h) i 3 ≤ 2
 way-small t h i e all l = ⊎-elim gated plain (decide (isGated ((getD t i noReach) .kind)))
   where
@@ -220,7 +220,7 @@ gate-small t s i e all l y =
     let g = gate-way t s i l y in
     rw (g .byte) (leb-true (getD s (g .place) 2) 1 (every-getD (λ x. leb x 1) s (g .place) 2 all (omega (arith, g .below, e))))
 
--- ---- looser hangings
+-- ---- looser partial orientations
 
 -- h′ leaves a gate as h has it, or either
 abbrev pub Looser : List ℕ → List ℕ → Type 0

@@ -2,9 +2,9 @@
 pub mod Networks
 pub mod Tables
 pub mod Settings
-pub mod Hangings
+pub mod Orientations
 pub mod Plans
-pub mod Lone
+pub mod Bridges
 pub mod Marks
 pub mod Replies
 pub mod Cases

@@ -7,27 +7,27 @@ use mathlib.Core.Option.{Option}
 use Rattle.lists.specs.Lists.{every, find}
 use Rattle.network.specs.Networks.{Network, basinsOf}
 use Rattle.network.specs.Settings.{gateCount, isSetting, before, settings}
-use Rattle.network.specs.Hangings.{Arc, arcsUnder, reached, unhung}
+use Rattle.network.specs.Orientations.{Arc, arcsUnder, reached, unoriented}
 
 -- Basin u reaches every basin of bs along A.
 abbrev pub reachesAll : List ℕ → List Arc → ℕ → Bool
 reachesAll bs A u = every (reached A u) bs
 
 -- "Every basin reaches every other along reaches taken the way they pass."
-abbrev pub strong : List ℕ → List Arc → Bool
-strong bs A = every (reachesAll bs A) bs
+abbrev pub stronglyConnected : List ℕ → List Arc → Bool
+stronglyConnected bs A = every (reachesAll bs A) bs
 
--- The same of a network under a hanging.
-unfoldable pub strongUnder : Network → List ℕ → Bool
-strongUnder N h = strong (basinsOf N) (arcsUnder N h)
+-- The same of a network under a partial orientation.
+unfoldable pub stronglyConnectedUnder : Network → List ℕ → Bool
+stronglyConnectedUnder N h = stronglyConnected (basinsOf N) (arcsUnder N h)
 
 -- "A plan is a setting under which every basin reaches every other."
 unfoldable pub isPlan : Network → List ℕ → Bool
-isPlan N s = isSetting N s && strongUnder N s
+isPlan N s = isSetting N s && stronglyConnectedUnder N s
 
 -- "Passable means the same with every gated reach usable either way."
 unfoldable pub passable : Network → Bool
-passable N = strongUnder N (unhung N)
+passable N = stronglyConnectedUnder N (unoriented N)
 
 -- "The first plan is the earliest in this order."
 unfoldable pub firstPlan : Network → Option (List ℕ)

@@ -12,9 +12,9 @@ use Rattle.network.specs.declared.Refusal.the-variants.{BasinCount, TooM
 use Rattle.lists.specs.Lists.{find, keep, elem}
 use Rattle.network.specs.Networks.{Network, basinsOf, lowestBasin, tableFault}
 use Rattle.network.specs.Settings.{gateCount, settingFault}
-use Rattle.network.specs.Hangings.{arcsUnder, reached, unhung}
+use Rattle.network.specs.Orientations.{arcsUnder, reached, unoriented}
 use Rattle.network.specs.Plans.{reachesAll, passable, firstPlan, nextPlan}
-use Rattle.network.specs.Lone.{sides, divides, crossesAlone, lowestLone}
+use Rattle.network.specs.Bridges.{sides, isCut, crossesAlone, lowestBridge}
 use Rattle.network.specs.Marks.{markBytes, marksOf, onesIn}
 
 -- The number of a refusal that returns the number only.
@@ -79,21 +79,21 @@ pub record SameReply (r s : Outcome) : Type 0 where
 
 -- For 9: "the basins reached, itself among them, from the lowest-numbered basin that doesn't reach all, gates usable either way".
 unfoldable pub shutInBasin : Network → Option ℕ
-shutInBasin N = find (λ u. not (reachesAll (basinsOf N) (arcsUnder N (unhung N)) u)) (basinsOf N)
+shutInBasin N = find (λ u. not (reachesAll (basinsOf N) (arcsUnder N (unoriented N)) u)) (basinsOf N)
 
 unfoldable pub shutInSide : Network → List ℕ
-shutInSide N = keep (reached (arcsUnder N (unhung N)) (Option·getD (shutInBasin N) 0)) (basinsOf N)
+shutInSide N = keep (reached (arcsUnder N (unoriented N)) (Option·getD (shutInBasin N) 0)) (basinsOf N)
 
 -- For 10: "the side of it without basin 0".
-unfoldable pub loneSide : Network → ℕ → List ℕ
-loneSide N i = Option·getD (find (λ S. not (elem (lowestBasin N) S) && (divides (basinsOf N) S && crossesAlone N S i)) (sides (basinsOf N))) []
+unfoldable pub bridgeSide : Network → ℕ → List ℕ
+bridgeSide N i = Option·getD (find (λ S. not (elem (lowestBasin N) S) && (isCut (basinsOf N) S && crossesAlone N S i)) (sides (basinsOf N))) []
 
 -- The two findings. "Both replies also hold a count: the count of marked basins."
 unfoldable pub shutInFinding : Network → Outcome
 shutInFinding N = let m = marksOf (shutInSide N) in shutIn m (onesIn m)
 
 unfoldable pub loneFinding : Network → ℕ → Outcome
-loneFinding N i = let m = marksOf (loneSide N i) in lone i m (onesIn m)
+loneFinding N i = let m = marksOf (bridgeSide N i) in lone i m (onesIn m)
 
 -- 9 "the network is not passable", 10 "it is passable and has a lone reach", else the plan that is asked for, or 11 if there is none.
 abbrev pub chosen : Option (List ℕ) → Outcome
@@ -105,7 +105,7 @@ orLone N (some i) p = loneFinding N i
 orLone N none p = chosen p
 
 unfoldable pub answer : Network → Option (List ℕ) → Outcome
-answer N p = cond (passable N) (orLone N (lowestLone N) p) (shutInFinding N)
+answer N p = cond (passable N) (orLone N (lowestBridge N) p) (shutInFinding N)
 
 -- What first and next reply on an accepted network, next of one of its settings, with lent buffers long enough.
 unfoldable pub firstAnswer : Network → Outcome

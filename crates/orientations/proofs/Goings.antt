@@ -15,16 +15,16 @@ use mathlib.Mathlib.Data.Bool.Basic.{bool-eq-false}
 use Rattle.lists.specs.Lists.{keep}
 use Rattle.network.specs.Networks.{Network, basinsOf, Accepted}
 use Rattle.network.specs.Settings.{isGated}
-use Rattle.network.specs.Hangings.{way, arcs, reached}
-use Rattle.network.specs.Plans.{strong}
-use Rattle.network.specs.Lone.{reachAt, crossesAlone, isLone}
+use Rattle.network.specs.Orientations.{way, arcs, reached}
+use Rattle.network.specs.Plans.{stronglyConnected}
+use Rattle.network.specs.Bridges.{reachAt, crossesAlone, isBridge}
 use Rattle.network.specs.Marks.{bit}
 use Rattle.lists.proofs.Bools.{decide, clash}
 use Rattle.lists.proofs.Searches.{keep-same}
 use Rattle.network.proofs.Ways.{plain-small}
 use Rattle.network.proofs.Networks.{basin-below}
-use Rattle.network.proofs.Lone.{Alone, alone-rest, alone-same, cut-of, lone-gated, lone-parts}
-use Rattle.network.proofs.Steps.{hang-drawn, hang-turned, stuck-alone, stuck-other, stuck-lone}
+use Rattle.network.proofs.Bridges.{Alone, alone-rest, alone-same, cut-of, bridge-gated, bridge-parts}
+use Rattle.network.proofs.Steps.{orient-drawn, orient-turned, stuck-alone, stuck-other, stuck-bridge}
 use Rattle.tables.specs.Partial.{bytesOf}
 use Rattle.orientations.specs.Least.{LeastPlan, Decided, Open, Shaped}
 use Rattle.orientations.specs.Partials.{Begun}
@@ -34,7 +34,7 @@ use Rattle.orientations.proofs.Least.{least-drawn, least-turned, least-
 pub record Going (N : Network) (ws₀ : List ℕ) (from : ℕ) (ws : List ℕ) (i : ℕ) : Type 0 where
   pub begun : Begun N ws i
   pub onward : (s : List ℕ) → LeastPlan N ws s → LeastPlan N ws₀ s
-  pub clear : (j : ℕ) → from ≤ j → j < i → isLone N j ≡ false
+  pub clear : (j : ℕ) → from ≤ j → j < i → isBridge N j ≡ false
 
 pub starts : {N : Network} {ws : List ℕ} {i : ℕ} → Begun N ws i → Going N ws i ws i
 starts b = record { begun = b; onward = λ s m. m; clear = λ j l k. absurd (omega arith) }
@@ -62,10 +62,10 @@ module _ (N : Network) (ok : Accepted N) (ws : List ℕ) (i : ℕ) (below : i < 
     free = b .undecided i (omega arith) below g
 
     -- it is usable either way so far
-    either : strong (basinsOf N) (arcs (N .reaches) (set ws i 2)) ≡ true
-    either = subst⁻¹ (λ (v : List ℕ). strong (basinsOf N) (arcs (N .reaches) v) ≡ true) (ap (λ (x : ℕ). set ws i x) (sym free) ∙ set-getD ws i 3) (b .connected)
+    either : stronglyConnected (basinsOf N) (arcs (N .reaches) (set ws i 2)) ≡ true
+    either = subst⁻¹ (λ (v : List ℕ). stronglyConnected (basinsOf N) (arcs (N .reaches) v) ≡ true) (ap (λ (x : ℕ). set ws i x) (sym free) ∙ set-getD ws i 3) (b .connected)
 
-    pub begun-oriented : (x : ℕ) → x ≤ 1 → strong (basinsOf N) (arcs (N .reaches) (set ws i x)) ≡ true → Begun N (set ws i x) (suc i)
+    pub begun-oriented : (x : ℕ) → x ≤ 1 → stronglyConnected (basinsOf N) (arcs (N .reaches) (set ws i x)) ≡ true → Begun N (set ws i x) (suc i)
     begun-oriented x small str = record { full = length-set ws i x ∙ b .full; shaped = shaped; decided = decided; undecided = undecided; connected = str }
       where
         shaped : Shaped (N .reaches) (set ws i x)
@@ -86,8 +86,8 @@ module _ (N : Network) (ok : Accepted N) (ws : List ℕ) (i : ℕ) (below : i < 
         undecided j l k h = getD-set-other ws i j x 3 (omega arith) ∙ b .undecided j (omega arith) k h
 
     -- oriented without loss, it is no bridge
-    not-bridge : (x : ℕ) → x ≤ 1 → strong (basinsOf N) (arcs (N .reaches) (set ws i x)) ≡ true → isLone N i ≡ false
-    not-bridge x small str = bool-eq-false {b = isLone N i} (λ e. lone-parts N i e (set ws i x) (rw (getD-set-same ws i x 3 room) small) str)
+    not-bridge : (x : ℕ) → x ≤ 1 → stronglyConnected (basinsOf N) (arcs (N .reaches) (set ws i x)) ≡ true → isBridge N i ≡ false
+    not-bridge x small str = bool-eq-false {b = isBridge N i} (λ e. bridge-parts N i e (set ws i x) (rw (getD-set-same ws i x 3 room) small) str)
 
     -- the ways of all reaches are 0, 1 or 2
     all-small : (j : ℕ) → j < length (N .reaches) → getD ws j 3 ≤ 2
@@ -118,31 +118,31 @@ module _ (N : Network) (ok : Accepted N) (ws : List ℕ) (i : ℕ) (below : i < 
           (λ v m. ap (λ (x : ℕ). eqb x 1) (noted v (basin-below N v m)) ∙ bit-is _))
           ((cut-of N ok i below (reached (arcs (N .reaches) (set ws i 3)) ((reachAt N i) .a)) alone-on) .alone)
 
-      pub is-bridge : isLone N i ≡ true
-      is-bridge = stuck-lone N ok ws i below (b .full) all-small either ba ab g
+      pub is-bridge : isBridge N i ≡ true
+      is-bridge = stuck-bridge N ok ws i below (b .full) all-small either ba ab g
 
 -- ---- one step of the loop
 
 module _ (N : Network) (ok : Accepted N) (ws₀ : List ℕ) (from : ℕ) (ws : List ℕ) (i : ℕ) (below : i < length (N .reaches)) (w : Going N ws₀ from ws i) where
-  clear-more : isLone N i ≡ false → (j : ℕ) → from ≤ j → j < suc i → isLone N j ≡ false
+  clear-more : isBridge N i ≡ false → (j : ℕ) → from ≤ j → j < suc i → isBridge N j ≡ false
   clear-more n j l k = go (ℕ-discrete j i)
     where
-      go : Dec (j ≡ i) → isLone N j ≡ false
+      go : Dec (j ≡ i) → isBridge N j ≡ false
       go (yes e) = rw e n
       go (no m) = w .clear j l (omega arith)
 
-  plain-not-bridge : isGated ((reachAt N i) .kind) ≡ false → isLone N i ≡ false
-  plain-not-bridge n = bool-eq-false {b = isLone N i} (λ e. clash (lone-gated N i e) n)
+  plain-not-bridge : isGated ((reachAt N i) .kind) ≡ false → isBridge N i ≡ false
+  plain-not-bridge n = bool-eq-false {b = isBridge N i} (λ e. clash (bridge-gated N i e) n)
 
   pub going-plain : isGated ((reachAt N i) .kind) ≡ false → Going N ws₀ from ws (suc i)
   going-plain n = record { begun = begun-plain N ok ws i below (w .begun) n; onward = w .onward; clear = clear-more (plain-not-bridge n) }
 
   module _ (g : isGated ((reachAt N i) .kind) ≡ true) where
-    as-drawn : strong (basinsOf N) (arcs (N .reaches) (set ws i 0)) ≡ reached (arcs (N .reaches) (set ws i 3)) ((reachAt N i) .b) ((reachAt N i) .a)
-    as-drawn = hang-drawn N ok ws i below (w .begun .full) (either N ok ws i below (w .begun) g)
+    as-drawn : stronglyConnected (basinsOf N) (arcs (N .reaches) (set ws i 0)) ≡ reached (arcs (N .reaches) (set ws i 3)) ((reachAt N i) .b) ((reachAt N i) .a)
+    as-drawn = orient-drawn N ok ws i below (w .begun .full) (either N ok ws i below (w .begun) g)
 
-    as-turned : strong (basinsOf N) (arcs (N .reaches) (set ws i 1)) ≡ reached (arcs (N .reaches) (set ws i 3)) ((reachAt N i) .a) ((reachAt N i) .b)
-    as-turned = hang-turned N ok ws i below (w .begun .full) (either N ok ws i below (w .begun) g)
+    as-turned : stronglyConnected (basinsOf N) (arcs (N .reaches) (set ws i 1)) ≡ reached (arcs (N .reaches) (set ws i 3)) ((reachAt N i) .a) ((reachAt N i) .b)
+    as-turned = orient-turned N ok ws i below (w .begun .full) (either N ok ws i below (w .begun) g)
 
     pub going-drawn : reached (arcs (N .reaches) (set ws i 3)) ((reachAt N i) .b) ((reachAt N i) .a) ≡ true → Going N ws₀ from (set ws i 0) (suc i)
     going-drawn e =

@@ -20,15 +20,15 @@ use Rattle.network.specs.declared.Reach.{Reach}
 use Rattle.lists.specs.Lists.{every}
 use Rattle.network.specs.Networks.{Network, basinsOf}
 use Rattle.network.specs.Settings.{isGated, gatesFrom, gateCount, isSetting, before}
-use Rattle.network.specs.Hangings.{way, ways, arcs}
-use Rattle.network.specs.Plans.{strong, strongUnder, isPlan, firstPlan}
-use Rattle.network.specs.Lone.{noReach, reachAt}
+use Rattle.network.specs.Orientations.{way, ways, arcs}
+use Rattle.network.specs.Plans.{stronglyConnected, stronglyConnectedUnder, isPlan, firstPlan}
+use Rattle.network.specs.Bridges.{noReach, reachAt}
 use Rattle.lists.proofs.Bools.{decide, clash}
 use Rattle.network.proofs.Cuts.{strong-within}
 use Rattle.network.proofs.Walks.{Within}
 use Rattle.network.proofs.Ways.{passingAt, arcs-in, arcs-has, passing-either, length-ways, plain-way, gate-way}
 use Rattle.network.proofs.Order.{before-irrefl, before-asym, setting-length, plan-setting, first-unique}
-use Rattle.network.proofs.Lone.{plan-gate-small}
+use Rattle.network.proofs.Bridges.{plan-gate-small}
 use Rattle.network.proofs.Theorem.{plan-reaches}
 use Rattle.orientations.specs.Least.{Fits, LeastPlan, Decided, Shaped}
 use Rattle.tables.specs.Partial.{bytesOf}
@@ -102,7 +102,7 @@ module _ (N : Network) where
   t = N .reaches
 
   -- ways that leave each reach as it is, or either way, reach no less
-  pub looser-strong : (us ws : List ℕ) → ((j : ℕ) → j < length t → (getD ws j 3 ≡ 2) ⊎ (getD ws j 3 ≡ getD us j 3)) → strong (basinsOf N) (arcs t us) ≡ true → strong (basinsOf N) (arcs t ws) ≡ true
+  pub looser-strong : (us ws : List ℕ) → ((j : ℕ) → j < length t → (getD ws j 3 ≡ 2) ⊎ (getD ws j 3 ≡ getD us j 3)) → stronglyConnected (basinsOf N) (arcs t us) ≡ true → stronglyConnected (basinsOf N) (arcs t ws) ≡ true
   looser-strong us ws f = strong-within (basinsOf N) (arcs t us) (arcs t ws) within
     where
       within : Within (arcs t us) (arcs t ws)
@@ -115,8 +115,8 @@ module _ (N : Network) where
           (f (s .reach) (s .below)))
 
   -- a plan that fits reaches no more than ws does
-  pub fits-strong : (q ws : List ℕ) → isPlan N q ≡ true → Fits N q ws → strong (basinsOf N) (arcs t ws) ≡ true
-  unfolding strongUnder
+  pub fits-strong : (q ws : List ℕ) → isPlan N q ≡ true → Fits N q ws → stronglyConnected (basinsOf N) (arcs t ws) ≡ true
+  unfolding stronglyConnectedUnder
   fits-strong q ws e f = looser-strong (ways t q) ws f (plan-reaches N q e)
 
   pub plan-order : (p q : List ℕ) → isPlan N p ≡ true → isPlan N q ≡ true → before (ways t p) (ways t q) ≡ before p q
@@ -191,7 +191,7 @@ module _ (N : Network) where
             (way-of q e)
 
     -- Where none can have it as drawn, the least one has it turned.
-    pub least-turned : strong (basinsOf N) (arcs t (set ws i 0)) ≡ false → (s : List ℕ) → LeastPlan N (set ws i 1) s → LeastPlan N ws s
+    pub least-turned : stronglyConnected (basinsOf N) (arcs t (set ws i 0)) ≡ false → (s : List ℕ) → LeastPlan N (set ws i 1) s → LeastPlan N ws s
     least-turned lost s m =
         record {
           is-plan = m .is-plan;
@@ -238,8 +238,8 @@ bytes-small (r ∷ t) (w ∷ ws) f = go (r .kind) (r .a) (r .b) (f 0 (omega arit
 
 module _ (N : Network) where
   -- With all gates decided, and everything reaching everything, the bytes are the one plan that fits.
-  pub least-end : (ws : List ℕ) → length ws ≡ length (N .reaches) → Shaped (N .reaches) ws → Decided N ws (length (N .reaches)) → strong (basinsOf N) (arcs (N .reaches) ws) ≡ true → LeastPlan N ws (bytesOf (N .reaches) ws)
-  unfolding isPlan isSetting strongUnder
+  pub least-end : (ws : List ℕ) → length ws ≡ length (N .reaches) → Shaped (N .reaches) ws → Decided N ws (length (N .reaches)) → stronglyConnected (basinsOf N) (arcs (N .reaches) ws) ≡ true → LeastPlan N ws (bytesOf (N .reaches) ws)
+  unfolding isPlan isSetting stronglyConnectedUnder
   least-end ws full shaped d str = record { is-plan = is-plan; fits = fits; least = least }
     where
       s : List ℕ
@@ -252,7 +252,7 @@ module _ (N : Network) where
       is-plan =
           and-intro
           (and-intro (eq-eqb (length s) (gateCount N) (bytes-length 0 (N .reaches) ws full)) (bytes-small (N .reaches) ws d))
-          (subst⁻¹ (λ (v : List ℕ). strong (basinsOf N) (arcs (N .reaches) v) ≡ true) same str)
+          (subst⁻¹ (λ (v : List ℕ). stronglyConnected (basinsOf N) (arcs (N .reaches) v) ≡ true) same str)
 
       fits : Fits N s ws
       fits j l = inr (ap (λ (v : List ℕ). getD v j 3) (sym same))

@@ -12,8 +12,8 @@ use lib.ListN.{length, getD, set}
 use lib.Seq.{getD-set-other, set-getD, set-set}
 use Rattle.network.specs.Networks.{Network, Accepted}
 use Rattle.network.specs.Settings.{isGated, isSetting}
-use Rattle.network.specs.Hangings.{ways}
-use Rattle.network.specs.Lone.{reachAt}
+use Rattle.network.specs.Orientations.{ways}
+use Rattle.network.specs.Bridges.{reachAt}
 use Rattle.lists.proofs.Bools.{decide}
 use Rattle.network.proofs.Ways.{length-ways, plain-way, gate-way}
 use Rattle.orientations.specs.Least.{NoneFrom}

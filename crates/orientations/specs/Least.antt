@@ -9,9 +9,9 @@ use lib.ListN.{length, getD}
 use Rattle.network.specs.declared.Reach.{Reach}
 use Rattle.network.specs.Networks.{Network}
 use Rattle.network.specs.Settings.{isGated, before}
-use Rattle.network.specs.Hangings.{way, ways}
+use Rattle.network.specs.Orientations.{way, ways}
 use Rattle.network.specs.Plans.{isPlan}
-use Rattle.network.specs.Lone.{noReach, reachAt}
+use Rattle.network.specs.Bridges.{noReach, reachAt}
 
 -- The setting p has the way of each reach that ws decides.
 abbrev pub Fits : Network → List ℕ → List ℕ → Type 0

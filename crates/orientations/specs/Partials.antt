@@ -7,17 +7,17 @@ use mathlib.Core.List.{List, [], _++_}
 use lib.ListN.{length, getD, set, take, drop}
 use Rattle.network.specs.Networks.{Network, basinsOf}
 use Rattle.network.specs.Settings.{isGated, isSetting}
-use Rattle.network.specs.Hangings.{ways, arcs}
-use Rattle.network.specs.Plans.{strong}
-use Rattle.network.specs.Lone.{reachAt, isLone}
+use Rattle.network.specs.Orientations.{ways, arcs}
+use Rattle.network.specs.Plans.{stronglyConnected}
+use Rattle.network.specs.Bridges.{reachAt, isBridge}
 use Rattle.orientations.specs.Least.{Decided, Open, Shaped}
 
 -- Everything reaches everything if the reaches have the ways ws.
 abbrev pub StronglyConnected : Network → List ℕ → Type 0
-StronglyConnected N ws = strong (basinsOf N) (arcs (N .reaches) ws) ≡ true
+StronglyConnected N ws = stronglyConnected (basinsOf N) (arcs (N .reaches) ws) ≡ true
 
 abbrev pub NotStronglyConnected : Network → List ℕ → Type 0
-NotStronglyConnected N ws = strong (basinsOf N) (arcs (N .reaches) ws) ≡ false
+NotStronglyConnected N ws = stronglyConnected (basinsOf N) (arcs (N .reaches) ws) ≡ false
 
 -- The gates below i are decided, the others not, and everything reaches everything.
 pub record Begun (N : Network) (ws : List ℕ) (i : ℕ) : Type 0 where
@@ -29,7 +29,7 @@ pub record Begun (N : Network) (ws : List ℕ) (i : ℕ) : Type 0 where
 
 -- No reach is a bridge (document 01: lone).
 abbrev pub Bridgeless : Network → Type 0
-Bridgeless N = (j : ℕ) → isLone N j ≡ false
+Bridgeless N = (j : ℕ) → isBridge N j ≡ false
 
 -- ---- along a setting
 

@@ -11,7 +11,7 @@ use mathlib.Mathlib.Data.Bool.Basic.{bool-eq-false}
 use Rattle.lists.specs.Lists.{range}
 use Rattle.network.specs.Tables.{kindOf}
 use Rattle.network.specs.Settings.{isGated}
-use Rattle.network.specs.Hangings.{Arc, reached}
+use Rattle.network.specs.Orientations.{Arc, reached}
 use Rattle.network.specs.Plans.{reachesAll}
 use Rattle.network.specs.Marks.{bit}
 use Rattle.lists.proofs.Bools.{clash}

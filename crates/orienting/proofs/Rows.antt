@@ -8,8 +8,8 @@ use mathlib.Core.List.{List}
 use lib.ListN.{length, getD, set}
 use Rattle.network.specs.Tables.{kindOf, tableOf}
 use Rattle.network.specs.Settings.{isGated}
-use Rattle.network.specs.Hangings.{arcs, reached}
-use Rattle.network.specs.Lone.{reachAt}
+use Rattle.network.specs.Orientations.{arcs, reached}
+use Rattle.network.specs.Bridges.{reachAt}
 use Rattle.half_edges.specs.Ends.{arcsOf}
 use Rattle.half_edges.proofs.Laws.{arcs-ends}
 use Rattle.tables.specs.Rows.{netOf}

@@ -7,7 +7,7 @@ use mathlib.Core.List.{List}
 use lib.ListN.{length, getD}
 use Rattle.lists.specs.Lists.{range}
 use Rattle.network.specs.Networks.{maxBasins}
-use Rattle.network.specs.Hangings.{Arc, reached}
+use Rattle.network.specs.Orientations.{Arc, reached}
 use Rattle.network.specs.Plans.{reachesAll}
 use Rattle.network.specs.Marks.{bit}
 use Rattle.half_edges.specs.Chains.{Index, Table}

@@ -5,7 +5,7 @@ use mathlib.Core.Path.{_≡_}
 use mathlib.Core.Bool.{Bool, true, false}
 use mathlib.Core.List.{List}
 use lib.ListN.{getD, set}
-use Rattle.network.specs.Hangings.{Arc, reached}
+use Rattle.network.specs.Orientations.{Arc, reached}
 use Rattle.half_edges.specs.Ends.{arcsOf, pick}
 
 -- What the table passes with reach i left out.

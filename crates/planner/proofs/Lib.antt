@@ -1,2 +1,2 @@
--- The laws of the planner.
-pub mod Calls
+-- Laws of the calls over packed rows.
+pub mod Refusals

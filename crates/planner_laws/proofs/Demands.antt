@@ -15,9 +15,9 @@ use Rattle.network.specs.Replies.{Outcome, plan, shutIn, lone, refused, shutInF
 use Rattle.network.specs.Plans.{nextPlan}
 use Rattle.network.proofs.Marks.{length-marks}
 use Rattle.network.proofs.Order.{setting-length, plan-setting, next-is-plan, next-is-later, next-is-earliest}
-use Rattle.network.proofs.Replies.{Verdict, plans, no-way, one-lone, verdict, next-given, last-plan, given-if-later, demand-3}
+use Rattle.network.proofs.Replies.{Verdict, plans, no-way, one-bridge, verdict, next-given, last-plan, given-if-later, demand-3}
 use Rattle.replies.specs.declared.Answer.{Answer}
-use Rattle.replies.specs.Answers.{Written}
+use Rattle.replies.specs.Answers.{Replied}
 use Rattle.planner_laws.specs.Demands.{readReply, Asked, NextShown, DemandThree}
 
 -- a reply whose plan and marks have the lengths that the network has
@@ -28,7 +28,7 @@ data Sized (N : Network) : Outcome → Type 0 where
   sized-refused : {r : _} → Sized N (refused r)
 
 -- is read back from the buffers into which it was written
-read-back : (N : Network) (o : Outcome) {planBuffer marksBuffer plan′ marks′ : List ℕ} {r : Answer} → Sized N o → Written o planBuffer marksBuffer plan′ marks′ r → readReply N r plan′ marks′ ≡ o
+read-back : (N : Network) (o : Outcome) {planBuffer marksBuffer plan′ marks′ : List ℕ} {r : Answer} → Sized N o → Replied o planBuffer marksBuffer plan′ marks′ r → readReply N r plan′ marks′ ≡ o
 read-back N (plan s) {planBuffer} {plan′} {marks′} (sized-plan e) w =
     ap (λ (x : Answer). readReply N x plan′ marks′) (w .reply)
     ∙ ap (λ (l : List ℕ). plan (take (gateCount N) l)) (w .plan-left)
@@ -55,7 +55,7 @@ next-sized N ok s = go (verdict N ok)
     go : Verdict N → Sized N (answer N (nextPlan N s))
     go (plans q e f) = subst⁻¹ (Sized N) (f (nextPlan N s)) (pick (nextPlan N s) refl)
     go (no-way n k f) = subst⁻¹ (Sized N) (f (nextPlan N s)) (sized-shut (length-marks _))
-    go (one-lone i e y k f) = subst⁻¹ (Sized N) (f (nextPlan N s)) (sized-lone (length-marks _))
+    go (one-bridge i e y k f) = subst⁻¹ (Sized N) (f (nextPlan N s)) (sized-lone (length-marks _))
 
 -- where nothing is refused by number before the search
 next-roomy : (N : Network) (s planBuffer marksBuffer : List ℕ) → Asked N s planBuffer marksBuffer → nextReply N s (length planBuffer) (length marksBuffer) ≡ nextAnswer N s
@@ -65,10 +65,10 @@ next-roomy N s planBuffer marksBuffer a =
 
 -- what a caller of next reads is the reply of the definition
 pub next-read : (N : Network) (s planBuffer marksBuffer : List ℕ) {plan′ marks′ : List ℕ} {r : Answer} → Asked N s planBuffer marksBuffer
-    → Written (nextReply N s (length planBuffer) (length marksBuffer)) planBuffer marksBuffer plan′ marks′ r → readReply N r plan′ marks′ ≡ nextAnswer N s
+    → Replied (nextReply N s (length planBuffer) (length marksBuffer)) planBuffer marksBuffer plan′ marks′ r → readReply N r plan′ marks′ ≡ nextAnswer N s
 next-read N s planBuffer marksBuffer {plan′} {marks′} {r} a w =
     read-back N (nextAnswer N s) (next-sized N (a .accepted) s)
-    (subst (λ (o : Outcome). Written o planBuffer marksBuffer plan′ marks′ r) (next-roomy N s planBuffer marksBuffer a) w)
+    (subst (λ (o : Outcome). Replied o planBuffer marksBuffer plan′ marks′ r) (next-roomy N s planBuffer marksBuffer a) w)
 
 next-shown : (N : Network) → Accepted N → (s : List ℕ) → NextShown N s (nextAnswer N s)
 next-shown N ok s =

@@ -1,5 +1,5 @@
 // Demand 3 over the running call.
-use planner::next_plan_rows;
+use planner_rows::next_plan;
 use replies::Answer;
 ghost use Rattle.tables.specs.Rows.{netOf};
 ghost use Rattle.planner_laws.specs.Demands.{DemandOver};
@@ -27,7 +27,7 @@ pub fn next_of_two(
         (now (plan1 .entry)) (now (marks1 .entry)) (now (plan2 .entry)) (now (marks2 .entry)) (now (plan1 .exit)) (now (marks1 .exit)) (now (plan2 .exit)) (now (marks2 .exit))
         (r .first) (r .second) ⌝ }
 {
-    let first = next_plan_rows(basins, kinds, a, b, s, plan1, marks1);
-    let second = next_plan_rows(basins, kinds, a, b, t, plan2, marks2);
+    let first = next_plan(basins, kinds, a, b, s, plan1, marks1);
+    let second = next_plan(basins, kinds, a, b, t, plan2, marks2);
     Both { first, second }
 }

@@ -9,7 +9,7 @@ use lib.Seq.{length-take-le}
 use Rattle.network.specs.Networks.{Network, maxReaches, Accepted}
 use Rattle.network.specs.Tables.{tableOf}
 use Rattle.network.specs.Marks.{onesIn}
-use Rattle.network.specs.Replies.{Outcome, refused, shutInSide, loneSide, shutInFinding, loneFinding, firstAnswer, nextAnswer}
+use Rattle.network.specs.Replies.{Outcome, refused, shutInSide, bridgeSide, shutInFinding, loneFinding, firstAnswer, nextAnswer}
 use Rattle.network.proofs.Networks.{accepted}
 use Rattle.network.proofs.Marks.{length-marks}
 use Rattle.tables.specs.Rows.{netOf}
@@ -22,7 +22,7 @@ use Rattle.seeking.specs.declared.Found.{Found}
 use Rattle.seeking.specs.declared.Sought.{Sought}
 use Rattle.seeking.specs.declared.Sought.the-variants.{NoneLater, CameTo}
 use Rattle.network.specs.declared.Refusal.the-variants.{LastPlan}
-use Rattle.replies.specs.Answers.{given, Written}
+use Rattle.replies.specs.Answers.{given, Replied}
 use Rattle.seeking.specs.Levels.{Level}
 use Rattle.finder.specs.Rooms.{Room}
 use Rattle.planning.specs.Rooms.{Space}
@@ -55,7 +55,7 @@ level-room {n} {ks} {xs} {ys} {ws} l s =
 module _ (n : ℕ) (ks xs ys : List ℕ) (ea : length xs ≡ length ks) (eb : length ys ≡ length ks) where
   -- what was written down, with what was noted, is the reply
   pub written : {ws seen : List ℕ} {f : Found} {plan marks plan′ marks′ : List ℕ} {r : Reply} → length ws ≡ length ks → SideNoted (netOf n ks xs ys) seen f → Reported n ks ws seen f plan marks plan′ marks′ r
-      → Written (outcomeOf (netOf n ks xs ys) ws f) plan marks plan′ marks′ (Given r)
+      → Replied (outcomeOf (netOf n ks xs ys) ws f) plan marks plan′ marks′ (Given r)
   unfolding shutInFinding loneFinding
   written {seen} {marks} full noted (wrote-shut m) =
       record {
@@ -67,7 +67,7 @@ module _ (n : ℕ) (ks xs ys : List ℕ) (ea : length xs ≡ length ks) (eb : le
       record {
         reply = ap (λ (c : ℕ). given (Lone (record { reach = i; count = c }))) (m .count ∙ ap onesIn noted);
         plan-left = refl;
-        marks-left = m .bytes ∙ ap₂ (λ (x : List ℕ) (k : ℕ). x ++ drop k marks) noted (sym (length-marks (loneSide (netOf n ks xs ys) i)));
+        marks-left = m .bytes ∙ ap₂ (λ (x : List ℕ) (k : ℕ). x ++ drop k marks) noted (sym (length-marks (bridgeSide (netOf n ks xs ys) i)));
       }
   written {ws} {plan} full noted (wrote-plan e) =
       record {
@@ -88,9 +88,9 @@ first-fits N ok (found-bridge p e l k) = omega (arith, (accepted N ok) .few-reac
 first-fits N ok (found-plan p e m) = omega arith
 
 pub first-written : {n : ℕ} {ks xs ys : List ℕ} → Level n ks xs ys → {ws seen : List ℕ} {f : Found} {plan marks plan′ marks′ : List ℕ} {r : Reply} → length ws ≡ length ks → FirstFound (netOf n ks xs ys) ws seen f
-    → Reported n ks ws seen f plan marks plan′ marks′ r → Written (firstAnswer (netOf n ks xs ys)) plan marks plan′ marks′ (Given r)
+    → Reported n ks ws seen f plan marks plan′ marks′ r → Replied (firstAnswer (netOf n ks xs ys)) plan marks plan′ marks′ (Given r)
 first-written {n} {ks} {xs} {ys} l {plan} {marks} {plan′} {marks′} {r} full found done =
-    subst⁻¹ (λ (o : Outcome). Written o plan marks plan′ marks′ (Given r)) (first-outcome (netOf n ks xs ys) found) (written n ks xs ys (l .ends-a) (l .ends-b) full (first-noted found) done)
+    subst⁻¹ (λ (o : Outcome). Replied o plan marks plan′ marks′ (Given r)) (first-outcome (netOf n ks xs ys) found) (written n ks xs ys (l .ends-a) (l .ends-b) full (first-noted found) done)
 
 -- ---- the next plan
 
@@ -113,6 +113,6 @@ pub next-last : {N : Network} {s ws seen : List ℕ} {q : Sought} → q ≡ None
 next-last {N} {s} {ws} {seen} e n = last-found (subst (NextFound N s ws seen) e n)
 
 pub next-written : {n : ℕ} {ks xs ys : List ℕ} → Level n ks xs ys → {s ws seen : List ℕ} {f : Found} {plan marks plan′ marks′ : List ℕ} {r : Reply} → length ws ≡ length ks → NextAt (netOf n ks xs ys) s ws seen f
-    → Reported n ks ws seen f plan marks plan′ marks′ r → Written (nextAnswer (netOf n ks xs ys) s) plan marks plan′ marks′ (Given r)
+    → Reported n ks ws seen f plan marks plan′ marks′ r → Replied (nextAnswer (netOf n ks xs ys) s) plan marks plan′ marks′ (Given r)
 next-written {n} {ks} {xs} {ys} l {plan} {marks} {plan′} {marks′} {r} full at done =
-    subst⁻¹ (λ (o : Outcome). Written o plan marks plan′ marks′ (Given r)) (at .replies) (written n ks xs ys (l .ends-a) (l .ends-b) full (at .noted) done)
+    subst⁻¹ (λ (o : Outcome). Replied o plan marks plan′ marks′ (Given r)) (at .replies) (written n ks xs ys (l .ends-a) (l .ends-b) full (at .noted) done)

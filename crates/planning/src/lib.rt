@@ -12,12 +12,12 @@ ghost use mathlib.Core.Bool.{true};
 ghost use lib.ListN.{length};
 ghost use Rattle.network.specs.Networks.{maxReaches};
 ghost use Rattle.network.specs.Settings.{isSetting};
-ghost use Rattle.network.specs.Plans.{strongUnder};
+ghost use Rattle.network.specs.Plans.{stronglyConnectedUnder};
 ghost use Rattle.network.specs.Replies.{firstAnswer, nextAnswer};
 ghost use Rattle.tables.specs.Rows.{netOf};
 ghost use Rattle.seeking.specs.Levels.{Level};
 ghost use Rattle.planning.specs.Rooms.{Lent, Space};
-ghost use Rattle.replies.specs.Answers.{Written};
+ghost use Rattle.replies.specs.Answers.{Replied};
 
 // The half-edges of the largest table.
 pub const HALF_EDGES: usize = 2048;
@@ -38,13 +38,13 @@ fn first_in(
 ) -> Reply
     requires { ⌜ Lent n (now kinds) (now a) (now b) (now plan) (now marks) ⌝ }
     requires { ⌜ Space (now ways) (now head) (now next) (now seen) (now queue) ⌝ }
-    ensures { λ r. ⌜ Written (firstAnswer (netOf n (now (kinds .entry)) (now (a .entry)) (now (b .entry)))) (now (plan .entry))
+    ensures { λ r. ⌜ Replied (firstAnswer (netOf n (now (kinds .entry)) (now (a .entry)) (now (b .entry)))) (now (plan .entry))
         (now (marks .entry)) (now (plan .exit)) (now (marks .exit)) (Answer.Given r) ⌝ }
 {
     let m = kinds.len();
-    let hung = &mut ways[..m];
-    let found = finder::find_first(n, kinds, a, b, hung, head, next, seen, queue);
-    report(found, n, kinds, hung, seen, plan, marks)
+    let oriented = &mut ways[..m];
+    let found = finder::find_first(n, kinds, a, b, oriented, head, next, seen, queue);
+    report(found, n, kinds, oriented, seen, plan, marks)
 }
 
 // The same, with working memory of its own.
@@ -57,7 +57,7 @@ pub fn first_accepted(
     marks: &mut [u8],
 ) -> Reply
     requires { ⌜ Lent n (now kinds) (now a) (now b) (now plan) (now marks) ⌝ }
-    ensures { λ r. ⌜ Written (firstAnswer (netOf n (now (kinds .entry)) (now (a .entry)) (now (b .entry)))) (now (plan .entry))
+    ensures { λ r. ⌜ Replied (firstAnswer (netOf n (now (kinds .entry)) (now (a .entry)) (now (b .entry)))) (now (plan .entry))
         (now (marks .entry)) (now (plan .exit)) (now (marks .exit)) (Answer.Given r) ⌝ }
 {
     let mut ways = [0u8; MAX_REACHES];
@@ -95,10 +95,10 @@ fn check_in(
 ) -> bool
     requires { ⌜ Level n (now kinds) (now a) (now b) ⌝ }
     requires { ⌜ Space (now ways) (now head) (now next) (now seen) (now queue) ⌝ }
-    ensures { λ r. ⌜ r ≡ strongUnder (netOf n (now (kinds .entry)) (now (a .entry)) (now (b .entry))) (now (setting .entry)) ⌝ }
+    ensures { λ r. ⌜ r ≡ stronglyConnectedUnder (netOf n (now (kinds .entry)) (now (a .entry)) (now (b .entry))) (now (setting .entry)) ⌝ }
 {
     let m = kinds.len();
-    finder::strong_under(
+    finder::strongly_connected_under(
         n,
         kinds,
         a,
@@ -115,7 +115,7 @@ fn check_in(
 // The same, with working memory of its own.
 pub fn check_accepted(n: usize, kinds: &[u8], a: &[u16], b: &[u16], setting: &[u8]) -> bool
     requires { ⌜ Level n (now kinds) (now a) (now b) ⌝ }
-    ensures { λ r. ⌜ r ≡ strongUnder (netOf n (now (kinds .entry)) (now (a .entry)) (now (b .entry))) (now (setting .entry)) ⌝ }
+    ensures { λ r. ⌜ r ≡ stronglyConnectedUnder (netOf n (now (kinds .entry)) (now (a .entry)) (now (b .entry))) (now (setting .entry)) ⌝ }
 {
     let mut ways = [0u8; MAX_REACHES];
     let mut head = [0u16; MAX_BASINS];
@@ -157,11 +157,11 @@ fn next_in(
     requires { ⌜ isSetting (netOf n (now kinds) (now a) (now b)) (now setting) ≡ true ⌝ }
     requires { ⌜ Space (now ways) (now head) (now next) (now seen) (now queue) ⌝ }
     requires { ⌜ length (now under) ≡ maxReaches ⌝ }
-    ensures { λ r. ⌜ Written (nextAnswer (netOf n (now (kinds .entry)) (now (a .entry)) (now (b .entry))) (now (setting .entry)))
+    ensures { λ r. ⌜ Replied (nextAnswer (netOf n (now (kinds .entry)) (now (a .entry)) (now (b .entry))) (now (setting .entry)))
         (now (plan .entry)) (now (marks .entry)) (now (plan .exit)) (now (marks .exit)) r ⌝ }
 {
     let m = kinds.len();
-    let hung = &mut ways[..m];
+    let oriented = &mut ways[..m];
     let sought = finder::find_next(
         n,
         kinds,
@@ -169,7 +169,7 @@ fn next_in(
         b,
         setting,
         &mut under[..m],
-        hung,
+        oriented,
         head,
         next,
         seen,
@@ -177,7 +177,7 @@ fn next_in(
     );
     match sought {
         Sought::NoneLater => Answer::Refused(Refusal::LastPlan),
-        Sought::CameTo(found) => Answer::Given(report(found, n, kinds, hung, seen, plan, marks)),
+        Sought::CameTo(found) => Answer::Given(report(found, n, kinds, oriented, seen, plan, marks)),
     }
 }
 
@@ -193,7 +193,7 @@ pub fn next_accepted(
 ) -> Answer
     requires { ⌜ Lent n (now kinds) (now a) (now b) (now plan) (now marks) ⌝ }
     requires { ⌜ isSetting (netOf n (now kinds) (now a) (now b)) (now setting) ≡ true ⌝ }
-    ensures { λ r. ⌜ Written (nextAnswer (netOf n (now (kinds .entry)) (now (a .entry)) (now (b .entry))) (now (setting .entry)))
+    ensures { λ r. ⌜ Replied (nextAnswer (netOf n (now (kinds .entry)) (now (a .entry)) (now (b .entry))) (now (setting .entry)))
         (now (plan .entry)) (now (marks .entry)) (now (plan .exit)) (now (marks .exit)) r ⌝ }
 {
     let mut under = [0u8; MAX_REACHES];

@@ -9,15 +9,15 @@ use Rattle.network.specs.declared.Refusal.{Refusal}
 use Rattle.network.specs.declared.Refusal.the-variants.{ShortBuffer, BadSetting}
 use Rattle.network.specs.Networks.{Network, tableFault, Accepted}
 use Rattle.network.specs.Settings.{isSetting, settingFault}
-use Rattle.network.specs.Plans.{strongUnder, isPlan}
+use Rattle.network.specs.Plans.{stronglyConnectedUnder, isPlan}
 use Rattle.network.specs.Replies.{Outcome, refused, firstAnswer, nextAnswer, roomFault, firstReply, nextReply}
 use Rattle.replies.specs.declared.Answer.the-variants as A
 use Rattle.replies.specs.declared.CheckAnswer.the-variants as C
-use Rattle.replies.specs.Answers.{Written, yesOr, checkOf}
+use Rattle.replies.specs.Answers.{Replied, yesOr, checkOf}
 
 -- a refusal by number writes nothing
-pub refused-written : {o : Outcome} {r : Refusal} {plan marks : List ℕ} → o ≡ refused r → Written o plan marks plan marks (A.Refused r)
-refused-written {r} {plan} {marks} e = subst⁻¹ (λ (x : Outcome). Written x plan marks plan marks (A.Refused r)) e (record { reply = refl; plan-left = refl; marks-left = refl })
+pub refused-written : {o : Outcome} {r : Refusal} {plan marks : List ℕ} → o ≡ refused r → Replied o plan marks plan marks (A.Refused r)
+refused-written {r} {plan} {marks} e = subst⁻¹ (λ (x : Outcome). Replied x plan marks plan marks (A.Refused r)) e (record { reply = refl; plan-left = refl; marks-left = refl })
 
 pub first-faulty : (N : Network) (r : Refusal) (p q : ℕ) → tableFault N ≡ some r → firstReply N p q ≡ refused r
 unfolding firstReply
@@ -39,7 +39,7 @@ pub check-misfit : (N : Network) (s : List ℕ) → Accepted N → isSetting N s
 unfolding checkOf settingFault
 check-misfit N s ok e = rw (ok, e)
 
-pub check-fitting : (N : Network) (s : List ℕ) (b : Bool) → Accepted N → isSetting N s ≡ true → b ≡ strongUnder N s → yesOr b ≡ checkOf N s
+pub check-fitting : (N : Network) (s : List ℕ) (b : Bool) → Accepted N → isSetting N s ≡ true → b ≡ stronglyConnectedUnder N s → yesOr b ≡ checkOf N s
 unfolding checkOf settingFault isPlan
 check-fitting N s b ok e f = rw (ok, e, f)
 

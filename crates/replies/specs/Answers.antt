@@ -30,7 +30,7 @@ answerOf (lone i m c) = given (Lone (record { reach = i; count = c }))
 answerOf (refused r) = A.Refused r
 
 -- The reply o was given: the answer says it, its plan and its marks stand in the first bytes of the lent buffers, and all else is untouched.
-pub record Written (o : Outcome) (plan marks plan′ marks′ : List ℕ) (r : Answer) : Type 0 where
+pub record Replied (o : Outcome) (plan marks plan′ marks′ : List ℕ) (r : Answer) : Type 0 where
   pub reply : r ≡ answerOf o
   pub plan-left : plan′ ≡ planAfter o plan
   pub marks-left : marks′ ≡ marksAfter o marks
@@ -53,7 +53,7 @@ abbrev pub CheckCall : Network → List ℕ → CheckAnswer → Type 0
 CheckCall N s r = r ≡ checkOf N s
 
 abbrev pub FirstCall : Network → List ℕ → List ℕ → Answer → List ℕ → List ℕ → Type 0
-FirstCall N p m r p′ m′ = Written (firstReply N (length p) (length m)) p m p′ m′ r
+FirstCall N p m r p′ m′ = Replied (firstReply N (length p) (length m)) p m p′ m′ r
 
 abbrev pub NextCall : Network → List ℕ → List ℕ → List ℕ → Answer → List ℕ → List ℕ → Type 0
-NextCall N s p m r p′ m′ = Written (nextReply N s (length p) (length m)) p m p′ m′ r
+NextCall N s p m r p′ m′ = Replied (nextReply N s (length p) (length m)) p m p′ m′ r

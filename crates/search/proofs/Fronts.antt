@@ -11,7 +11,7 @@ use borrow.Author.Count.{below-more}
 use lib.ListN.{length, getD, set, drop, replicate, length-append, length-drop, length-replicate, getD-replicate, List·getD-append}
 use lib.Seq.{getD-set-same, getD-set-other}
 use Rattle.network.proofs.Marks.{bit-0}
-use Rattle.network.specs.Hangings.{Arc, Walk, stay, step, reached}
+use Rattle.network.specs.Orientations.{Arc, Walk, stay, step, reached}
 use Rattle.network.specs.Marks.{bit}
 use Rattle.lists.proofs.Bools.{clash}
 use Rattle.network.proofs.Walks.{walk-trans, walk-arc, walk-reached, reached-walk}

@@ -5,7 +5,7 @@ use mathlib.Core.Path.{_≡_}
 use mathlib.Core.Bool.{Bool, true, false}
 use mathlib.Core.List.{List, [], _∷_}
 use lib.ListN.{length, getD, set}
-use Rattle.network.specs.Hangings.{Arc, reached}
+use Rattle.network.specs.Orientations.{Arc, reached}
 use Rattle.network.specs.Marks.{bit}
 use Rattle.half_edges.specs.Ends.{Next}
 use Rattle.half_edges.specs.Chains.{Index, Table}

@@ -9,21 +9,21 @@ use lib.ListN.{length}
 use Rattle.network.specs.Networks.{Network, basinsOf}
 use Rattle.network.specs.Tables.{tableOf}
 use Rattle.network.specs.Settings.{gateCount, isSetting}
-use Rattle.network.specs.Hangings.{ways, arcs}
-use Rattle.network.specs.Plans.{strong, strongUnder, passable}
+use Rattle.network.specs.Orientations.{ways, arcs}
+use Rattle.network.specs.Plans.{stronglyConnected, stronglyConnectedUnder, passable}
 use Rattle.network.proofs.Networks.{accepted}
 use Rattle.half_edges.specs.Ends.{arcsOf}
 use Rattle.half_edges.specs.Chains.{Table}
 use Rattle.tables.specs.Rows.{netOf, waysRow}
-use Rattle.tables.proofs.Laws.{row-length, row-a, row-b, row-ways, ways-unhung}
+use Rattle.tables.proofs.Laws.{row-length, row-a, row-b, row-ways, ways-unoriented}
 use Rattle.orientations.specs.Partials.{Under}
 use Rattle.orienting.proofs.Rows.{row-arcs, row-below}
 use Rattle.seeking.specs.Levels.{Level}
 
 -- passable is said of the ways with no gate decided
-pub passable-open : (N : Network) → passable N ≡ strong (basinsOf N) (arcs (N .reaches) (ways (N .reaches) []))
-unfolding passable strongUnder
-passable-open N = ap (λ (v : List ℕ). strong (basinsOf N) (arcs (N .reaches) v)) (ways-unhung (N .reaches) (gateCount N))
+pub passable-open : (N : Network) → passable N ≡ stronglyConnected (basinsOf N) (arcs (N .reaches) (ways (N .reaches) []))
+unfolding passable stronglyConnectedUnder
+passable-open N = ap (λ (v : List ℕ). stronglyConnected (basinsOf N) (arcs (N .reaches) v)) (ways-unoriented (N .reaches) (gateCount N))
 
 module _ {n : ℕ} {ks xs ys : List ℕ} (v : Level n ks xs ys) where
   pub level-length : length ((netOf n ks xs ys) .reaches) ≡ length xs
@@ -45,10 +45,10 @@ module _ {n : ℕ} {ks xs ys : List ℕ} (v : Level n ks xs ys) where
       }
 
   -- what the rows pass is what the network passes
-  pub level-under : (h : List ℕ) → strongUnder (netOf n ks xs ys) h ≡ strong (basinsOf (netOf n ks xs ys)) (arcsOf xs ys (waysRow ks h))
-  unfolding strongUnder
+  pub level-under : (h : List ℕ) → stronglyConnectedUnder (netOf n ks xs ys) h ≡ stronglyConnected (basinsOf (netOf n ks xs ys)) (arcsOf xs ys (waysRow ks h))
+  unfolding stronglyConnectedUnder
   level-under h =
-      ap (strong (basinsOf (netOf n ks xs ys)))
+      ap (stronglyConnected (basinsOf (netOf n ks xs ys)))
       (row-arcs n ks xs ys (v .ends-a) (v .ends-b) (ways (tableOf ks xs ys) h) ∙ ap (arcsOf xs ys) (row-ways ks xs ys (v .ends-a) (v .ends-b) h))
 
   -- the ways of a row are those of the network

@@ -6,7 +6,7 @@ use mathlib.Core.Path.{_≡_, sym, ap, subst, subst⁻¹, _∙_}
 use mathlib.Core.List.{List, []}
 use lib.ListN.{length}
 use Rattle.network.specs.Networks.{Network}
-use Rattle.network.specs.Hangings.{Arc, ways, arcs}
+use Rattle.network.specs.Orientations.{Arc, ways, arcs}
 use Rattle.half_edges.specs.Ends.{arcsOf}
 use Rattle.tables.specs.Rows.{netOf, waysRow}
 use Rattle.orientations.specs.Partials.{Begun}

@@ -13,15 +13,15 @@ use borrow.Author.Tests.{eq-eqb, ne-eqb}
 use mathlib.Mathlib.Data.Bool.Basic.{and-intro, bool-eq-false}
 use Rattle.network.specs.Networks.{Network, Accepted}
 use Rattle.network.specs.Settings.{isSetting}
-use Rattle.network.specs.Hangings.{ways}
-use Rattle.network.specs.Plans.{strongUnder, isPlan, nextPlan}
-use Rattle.network.specs.Lone.{isLone}
+use Rattle.network.specs.Orientations.{ways}
+use Rattle.network.specs.Plans.{stronglyConnectedUnder, isPlan, nextPlan}
+use Rattle.network.specs.Bridges.{isBridge}
 use Rattle.network.specs.declared.Refusal.the-variants.{LastPlan}
 use Rattle.network.specs.Replies.{plan, refused, answer, nextAnswer}
 use Rattle.lists.proofs.Bools.{clash}
 use Rattle.network.proofs.Networks.{accepted}
 use Rattle.network.proofs.Order.{plan-setting}
-use Rattle.network.proofs.Lone.{lone-blocks}
+use Rattle.network.proofs.Bridges.{bridge-blocks}
 use Rattle.network.proofs.Theorem.{plan-reaches, plan-passable}
 use Rattle.network.proofs.Replies.{given-iff, next-given}
 use Rattle.half_edges.specs.Ends.{arcsOf}
@@ -91,7 +91,7 @@ module _ (N : Network) where
 
   -- no reach is a bridge, since there is a plan
   pub bridgeless : SomePlan N → Bridgeless N
-  bridgeless p j = bool-eq-false {b = isLone N j} (λ y. lone-blocks N j y (p .plan) (p .is-plan))
+  bridgeless p j = bool-eq-false {b = isBridge N j} (λ y. bridge-blocks N j y (p .plan) (p .is-plan))
 
   module _ (ok : Accepted N) {us : List ℕ} {to r : ℕ} (b : to ≤ length (N .reaches)) where
     -- it is left at r: the gates after r can be decided
@@ -180,7 +180,7 @@ module _ (n : ℕ) (ks xs ys : List ℕ) where
     all = up-all N s us is
 
     connected : StronglyConnected N (upTo N us (length (N .reaches)))
-    unfolding strongUnder
+    unfolding stronglyConnectedUnder
     connected = subst⁻¹ (λ (v : List ℕ). StronglyConnected N v) (all ∙ is) (plan-reaches N s (p .is-plan))
 
     pub plan-partable : Partable n ks xs ys us ws (length xs)
@@ -274,20 +274,20 @@ module _ (n : ℕ) (ks xs ys : List ℕ) where
 
   -- the setting is a plan if with its ways all basins reach all
   module _ {s us ws : List ℕ} {r : ℕ} (p : AtSetting n ks xs ys s us ws) (w : ShutInBasin (arcsOf xs ys us) n r) where
-    strong : eqb r n ≡ strongUnder N s
-    strong = under-basin (p .level) s (p .oriented) w
+    stronglyConnected : eqb r n ≡ stronglyConnectedUnder N s
+    stronglyConnected = under-basin (p .level) s (p .oriented) w
 
     pub seek-plan : r ≡ n → AtPlan n ks xs ys s us
     unfolding isPlan
-    seek-plan same = record { level = p .level; is-plan = and-intro (p .fits) (sym strong ∙ eq-eqb r n same); oriented = p .oriented }
+    seek-plan same = record { level = p .level; is-plan = and-intro (p .fits) (sym stronglyConnected ∙ eq-eqb r n same); oriented = p .oriented }
 
     pub seek-other : (r ≡ n → ⊥) → OtherThanPlan n ks xs ys us ws
-    unfolding strongUnder
+    unfolding stronglyConnectedUnder
     seek-other differ =
         record {
           seeking = record { level = p .level; under = row-under (p .level) s (p .fits) (p .oriented) };
           ways-room = p .ways-room;
-          lost = subst⁻¹ (λ (v : List ℕ). NotStronglyConnected N v) (under-row (p .level) s (p .oriented)) (sym strong ∙ ne-eqb r n differ);
+          lost = subst⁻¹ (λ (v : List ℕ). NotStronglyConnected N v) (under-row (p .level) s (p .oriented)) (sym stronglyConnected ∙ ne-eqb r n differ);
         }
 
     pub seek-found : {ws′ seen′ : List ℕ} {q : Sought} → NextAfter N us ws′ seen′ q → NextFound N s ws′ seen′ q

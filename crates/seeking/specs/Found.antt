@@ -7,11 +7,11 @@ use mathlib.Core.Option.{none, some}
 use mathlib.Core.List.{List, []}
 use lib.ListN.{length, getD}
 use Rattle.network.specs.Networks.{Network}
-use Rattle.network.specs.Hangings.{ways}
+use Rattle.network.specs.Orientations.{ways}
 use Rattle.network.specs.Plans.{passable}
-use Rattle.network.specs.Lone.{lowestLone}
+use Rattle.network.specs.Bridges.{lowestBridge}
 use Rattle.network.specs.Marks.{marksOf}
-use Rattle.network.specs.Replies.{Outcome, plan, refused, shutInSide, loneSide, shutInFinding, loneFinding, nextAnswer}
+use Rattle.network.specs.Replies.{Outcome, plan, refused, shutInSide, bridgeSide, shutInFinding, loneFinding, nextAnswer}
 use Rattle.tables.specs.Partial.{bytesOf}
 use Rattle.marks.specs.Sets.{markedSet}
 use Rattle.orientations.specs.Least.{LeastPlan}
@@ -42,14 +42,14 @@ reachFound Oriented = 0
 -- those with the other byte than basin 0.
 abbrev pub SideNoted : Network → List ℕ → Found → Type 0
 SideNoted N seen Closed = marksOf (markedSet (N .basins) seen 1) ≡ marksOf (shutInSide N)
-SideNoted N seen (Bridge r) = marksOf (markedSet (N .basins) seen (otherThan (getD seen 0 0))) ≡ marksOf (loneSide N r)
+SideNoted N seen (Bridge r) = marksOf (markedSet (N .basins) seen (otherThan (getD seen 0 0))) ≡ marksOf (bridgeSide N r)
 SideNoted N seen Oriented = Unit {0}
 
 -- What the search for the first plan finds: the closed set of a network that is shut in, or the lowest bridge, or the ways of the first plan.
 pub data FirstFound (N : Network) : List ℕ → List ℕ → Found → Type 0 where
   found-closed : {ws seen : List ℕ} → passable N ≡ false → SideNoted N seen Closed → FirstFound N ws seen Closed
-  found-bridge : {ws seen : List ℕ} {r : ℕ} → passable N ≡ true → lowestLone N ≡ some r → r < length (N .reaches) → SideNoted N seen (Bridge r) → FirstFound N ws seen (Bridge r)
-  found-plan : {ws seen : List ℕ} → passable N ≡ true → lowestLone N ≡ none → LeastPlan N (ways (N .reaches) []) (bytesOf (N .reaches) ws) → FirstFound N ws seen Oriented
+  found-bridge : {ws seen : List ℕ} {r : ℕ} → passable N ≡ true → lowestBridge N ≡ some r → r < length (N .reaches) → SideNoted N seen (Bridge r) → FirstFound N ws seen (Bridge r)
+  found-plan : {ws seen : List ℕ} → passable N ≡ true → lowestBridge N ≡ none → LeastPlan N (ways (N .reaches) []) (bytesOf (N .reaches) ws) → FirstFound N ws seen Oriented
 
 -- ---- the next plan
 

@@ -7,9 +7,9 @@ use mathlib.Core.List.{List}
 use lib.ListN.{length, getD, set}
 use Rattle.network.specs.Networks.{Network}
 use Rattle.network.specs.Settings.{isGated, isSetting}
-use Rattle.network.specs.Hangings.{ways}
+use Rattle.network.specs.Orientations.{ways}
 use Rattle.network.specs.Plans.{isPlan}
-use Rattle.network.specs.Lone.{reachAt}
+use Rattle.network.specs.Bridges.{reachAt}
 use Rattle.tables.specs.Rows.{netOf, waysRow}
 use Rattle.orientations.specs.Least.{NoneFrom}
 use Rattle.orientations.specs.Partials.{NotStronglyConnected, Under, upTo, StronglyConnectedBelow, NoPart}

@@ -142,7 +142,7 @@ fn next_of_plan(
     ensures { λ r. ⌜ NextFound (netOf n (now (kinds .entry)) (now (a .entry)) (now (b .entry))) (now (setting .entry))
         (now (ways .exit)) (now (seen .exit)) r ⌝ }
 {
-    tables::hang(kinds, setting, ways);
+    tables::orient(kinds, setting, ways);
     let m = a.len();
     part_from(n, kinds, a, b, under, ways, head, next, m, seen, queue)
 }
@@ -166,7 +166,7 @@ fn follow_and_part(
     ensures { λ r. ⌜ NextAfter (netOf n (now (kinds .entry)) (now (a .entry)) (now (b .entry))) (now (under .entry))
         (now (ways .exit)) (now (seen .exit)) r ⌝ }
 {
-    tables::hang(kinds, &[], ways);
+    tables::orient(kinds, &[], ways);
     let r = branching::follow(n, kinds, a, b, under, ways, head, next, seen, queue);
     ways[r] = under[r];
     part_from(n, kinds, a, b, under, ways, head, next, r + 1, seen, queue)
@@ -190,7 +190,7 @@ fn next_of_other(
     ensures { λ r. ⌜ NextAfter (netOf n (now (kinds .entry)) (now (a .entry)) (now (b .entry))) (now (under .entry))
         (now (ways .exit)) (now (seen .exit)) r ⌝ }
 {
-    tables::hang(kinds, &[], ways);
+    tables::orient(kinds, &[], ways);
     match first_from(n, kinds, a, b, ways, head, next, seen, queue) {
         Found::Closed => Sought::CameTo(Found::Closed),
         Found::Bridge(r) => Sought::CameTo(Found::Bridge(r)),

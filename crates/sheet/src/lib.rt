@@ -1,94 +1,64 @@
-// Plan sheets and finding sheets: their reader, their writer, and the writer of a network's reply. The reach table is lent as three rows of
-// numbers, kinds, ends A and ends B, as the crate `tables` has them. What is a plan, and what a network gets, only the planner's promises say.
+// Plan sheets and the reply's sheet over a reach table lent as a slice of records. Each call promises of the lent table what the call over rows
+// promises of its numbers.
+// The borrow checker does not cover a slice of structs. So each public call is one line, proved by a walk of its code, by hand: it has the table
+// packed into rows and hands these to a covered call, whose promise holds of every table that the rows are the packing of.
 use file_records::WriteAnswer;
-use marks::MARK_BYTES;
-use network::MAX_REACHES;
-use network::Refusal;
-use replies::CheckAnswer;
-use sheetfile::SheetAnswer;
-use tables::TableAnswer;
-ghost use mathlib.Core.Path.{_≡_};
-ghost use lib.ListN.{length};
-ghost use Rattle.network.specs.Networks.{maxReaches};
-ghost use Rattle.tables.specs.Rows.{netOf};
-ghost use Rattle.sheetfile.specs.Answers.{SheetRead, SheetWritten, ReplyWritten};
+use packing::Packed;
+use packing::held;
+use packing::pack;
+use network::Reach;
+use sheet_format::SheetAnswer;
+ghost use Rattle.packing.specs.Tables.{lentNet, OfTable};
+ghost use Rattle.sheet_format.specs.Answers.{SheetRead, SheetWritten, ReplyWritten};
+
+// The call over rows, for each public call. The rows of an over-full table are over-full too, and refused as such.
+fn read_sheet_packed(basins: u16, p: Packed, sheet: &[u8], setting: &mut [u8]) -> SheetAnswer
+    ensures { λ r. ⌜ OfTable basins p (λ N. SheetRead N (now (sheet .entry)) (now (setting .entry)) r (now (setting .exit))) ⌝ }
+{
+    let n = held(p.n);
+    let kinds = p.kinds;
+    let a = p.a;
+    let b = p.b;
+    sheet_rows::read_sheet(basins, &kinds[..n], &a[..n], &b[..n], sheet, setting)
+}
+
+fn write_sheet_packed(basins: u16, p: Packed, setting: &[u8], out: &mut [u8]) -> WriteAnswer
+    ensures { λ r. ⌜ OfTable basins p (λ N. SheetWritten N (now (setting .entry)) (now (out .entry)) r (now (out .exit))) ⌝ }
+{
+    let n = held(p.n);
+    let kinds = p.kinds;
+    let a = p.a;
+    let b = p.b;
+    sheet_rows::write_sheet(basins, &kinds[..n], &a[..n], &b[..n], setting, out)
+}
+
+fn write_reply_packed(basins: u16, p: Packed, out: &mut [u8]) -> WriteAnswer
+    ensures { λ r. ⌜ OfTable basins p (λ N. ReplyWritten N (now (out .entry)) r (now (out .exit))) ⌝ }
+{
+    let n = held(p.n);
+    let kinds = p.kinds;
+    let a = p.a;
+    let b = p.b;
+    sheet_rows::write_reply(basins, &kinds[..n], &a[..n], &b[..n], out)
+}
+
+// The setting of a plan sheet goes to the first bytes of the buffer. Refuses 1, 2, 3, 5, 4, 8, 6 and 7.
+pub fn read_sheet(basins: u16, table: &[Reach], sheet: &[u8], setting: &mut [u8]) -> SheetAnswer
+    ensures { λ r. ⌜ SheetRead (lentNet basins (now (table .entry))) (now (sheet .entry)) (now (setting .entry)) r (now (setting .exit)) ⌝ }
+{
+    read_sheet_packed(basins, pack(table), sheet, setting)
+}
 
 // The sheet of a plan goes to the first bytes of the buffer. Refuses 1, 2, 3, 8 and 7.
-pub fn write_sheet_rows(
-    basins: u16,
-    kinds: &[u8],
-    a: &[u16],
-    b: &[u16],
-    setting: &[u8],
-    out: &mut [u8],
-) -> WriteAnswer
-    ensures { λ r. ⌜
-        SheetWritten (netOf basins (now (kinds .entry)) (now (a .entry)) (now (b .entry))) (now (setting .entry)) (now (out .entry))
-        r (now (out .exit))
-        ⌝ }
+pub fn write_sheet(basins: u16, table: &[Reach], setting: &[u8], out: &mut [u8]) -> WriteAnswer
+    ensures { λ r. ⌜ SheetWritten (lentNet basins (now (table .entry))) (now (setting .entry)) (now (out .entry)) r (now (out .exit)) ⌝ }
 {
-    match planner::check_rows(basins, kinds, a, b, setting) {
-        CheckAnswer::Refused(r) => WriteAnswer::Refused(r),
-        CheckAnswer::No => WriteAnswer::Refused(Refusal::BadSetting),
-        CheckAnswer::Yes => sheet_writing::write_fitting(kinds, a, b, setting, out),
-    }
+    write_sheet_packed(basins, pack(table), setting, out)
 }
 
 // The network's first plan, or the finding that shows why there is none, goes to the first bytes of the buffer as a sheet. Refuses 1, 2, 3 and 7.
-pub fn write_reply_rows(
-    basins: u16,
-    kinds: &[u8],
-    a: &[u16],
-    b: &[u16],
-    out: &mut [u8],
-) -> WriteAnswer
-    ensures { λ r. ⌜ ReplyWritten (netOf basins (now (kinds .entry)) (now (a .entry)) (now (b .entry))) (now (out .entry)) r (now (out .exit)) ⌝ }
+pub fn write_reply(basins: u16, table: &[Reach], out: &mut [u8]) -> WriteAnswer
+    ensures { λ r. ⌜ ReplyWritten (lentNet basins (now (table .entry))) (now (out .entry)) r (now (out .exit)) ⌝ }
 {
-    let mut plan = [0u8; MAX_REACHES];
-    let mut marks = [0u8; MARK_BYTES];
-    sheet_plans::write_reply_in(basins, kinds, a, b, &mut plan, &mut marks, out)
-}
-
-// The reader, with lent working memory.
-fn read_sheet_in(
-    basins: u16,
-    kinds: &[u8],
-    a: &[u16],
-    b: &[u16],
-    sheet: &[u8],
-    held: &mut [u8],
-    setting: &mut [u8],
-) -> SheetAnswer
-    requires { ⌜ length (now held) ≡ maxReaches ⌝ }
-    ensures { λ r. ⌜
-        SheetRead (netOf basins (now (kinds .entry)) (now (a .entry)) (now (b .entry))) (now (sheet .entry)) (now (setting .entry))
-        r (now (setting .exit))
-        ⌝ }
-{
-    if let TableAnswer::Refused(r) = tables::table_fault(basins, kinds, a, b) {
-        return SheetAnswer::Refused(r);
-    }
-    let m = tables::row_count(kinds, a, b);
-    match sheet_reading::read_records(&kinds[..m], sheet, held) {
-        SheetAnswer::Refused(r) => SheetAnswer::Refused(r),
-        SheetAnswer::Read(n) => sheet_plans::keep_plan(basins, kinds, a, b, &held[..n], setting),
-    }
-}
-
-// The setting of a plan sheet goes to the first bytes of the buffer. Refuses 1 to 8. The whole sheet is judged before anything is written.
-pub fn read_sheet_rows(
-    basins: u16,
-    kinds: &[u8],
-    a: &[u16],
-    b: &[u16],
-    sheet: &[u8],
-    setting: &mut [u8],
-) -> SheetAnswer
-    ensures { λ r. ⌜
-        SheetRead (netOf basins (now (kinds .entry)) (now (a .entry)) (now (b .entry))) (now (sheet .entry)) (now (setting .entry))
-        r (now (setting .exit))
-        ⌝ }
-{
-    let mut held = [0u8; MAX_REACHES];
-    read_sheet_in(basins, kinds, a, b, sheet, &mut held, setting)
+    write_reply_packed(basins, pack(table), out)
 }

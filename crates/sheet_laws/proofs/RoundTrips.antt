@@ -15,11 +15,11 @@ use Rattle.network.specs.Networks.{Network, tableFault, Accepted}
 use Rattle.network.specs.Settings.{settingFault}
 use Rattle.network.specs.Plans.{isPlan}
 use Rattle.network.specs.Marks.{marksOf}
-use Rattle.network.specs.Replies.{Outcome, lone, loneSide, firstAnswer, firstOf}
+use Rattle.network.specs.Replies.{Outcome, lone, bridgeSide, firstAnswer, firstOf}
 use Rattle.lists.proofs.Bools.{clash}
-use Rattle.network.proofs.Lone.{lone-blocks}
+use Rattle.network.proofs.Bridges.{bridge-blocks}
 use Rattle.network.proofs.Order.{plan-setting, first-is-plan}
-use Rattle.network.proofs.Replies.{lowest-is-lone}
+use Rattle.network.proofs.Replies.{lowest-is-bridge}
 use Rattle.network.proofs.Theorem.{plan-passable}
 use Rattle.file_records.specs.declared.WriteAnswer.{WriteAnswer}
 use Rattle.file_records.specs.declared.WriteAnswer.the-variants.{Refused as Unwritten, Written}
@@ -28,17 +28,17 @@ use Rattle.file_records.specs.Puts.{Wrote, roomFor, WroteWhole}
 use Rattle.replies.specs.declared.CheckAnswer.{CheckAnswer}
 use Rattle.replies.specs.declared.CheckAnswer.the-variants as C
 use Rattle.replies.specs.Answers.{checkOf}
-use Rattle.sheetfile.specs.declared.SheetAnswer.{SheetAnswer}
-use Rattle.sheetfile.specs.declared.SheetAnswer.the-variants.{Refused, Read}
-use Rattle.sheetfile.specs.Sheets.{sheetOf, outcomeSheet, replySheet}
-use Rattle.sheetfile.specs.Readings.{SheetReading, sheetRefused, sheetSays, unlessFault, readRecords, readSheet, sheetWithRoom}
-use Rattle.sheetfile.specs.Answers.{sheetAnswer, settingRead, Got, planFault, sheetFault, replyFault, SheetWritten, ReplyWritten}
+use Rattle.sheet_format.specs.declared.SheetAnswer.{SheetAnswer}
+use Rattle.sheet_format.specs.declared.SheetAnswer.the-variants.{Refused, Read}
+use Rattle.sheet_format.specs.Sheets.{sheetOf, outcomeSheet, replySheet}
+use Rattle.sheet_format.specs.Readings.{SheetReading, sheetRefused, sheetSays, unlessFault, readRecords, readSheet, sheetWithRoom}
+use Rattle.sheet_format.specs.Answers.{sheetAnswer, settingRead, Got, planFault, sheetFault, replyFault, SheetWritten, ReplyWritten}
 use Rattle.sheet_laws.specs.Laws.{SheetWriteRead, sheetAgain, SheetReadWrite, checkedBack, SheetReadCheck, replyRead, ReplyWriteRead, Replies, says-plan, says-shut-in, says-lone}
-use Rattle.sheetfile.proofs.Sheets.{read-write, write-read, was-read}
+use Rattle.sheet_format.proofs.Sheets.{read-write, write-read, was-read}
 use Rattle.file_records.proofs.Puts.{first-assoc, first-of-none, put-refused, unwritten, written, written-front}
 use Rattle.sheet_plans.proofs.Calls.{Plan, no-fault}
 use Rattle.sheet_plans.proofs.Getting.{got-refused, refused-is}
-use Rattle.sheet_plans.proofs.Replies.{First, is-plan, is-shut, is-lone, first-cases}
+use Rattle.sheet_plans.proofs.Replies.{First, is-plan, is-shut, is-bridge, first-cases}
 
 -- ---- written, then read
 
@@ -165,7 +165,7 @@ module _ (N : Network) (f setting setting′ : List ℕ) where
 says : (N : Network) → Accepted N → {o : Outcome} → First N o → Replies N (outcomeSheet N o)
 says N ok (is-plan s e) = says-plan s e (read-write N s ok (first-is-plan N e))
 says N ok (is-shut n) = says-shut-in n refl
-says N ok (is-lone i y e) = says-lone i y e refl
+says N ok (is-bridge i y e) = says-lone i y e refl
 
 -- The reply sheet of an accepted network says what the network gets,
 pub reply-says : (N : Network) → Accepted N → Replies N (replySheet N)
@@ -186,20 +186,20 @@ reply-only N f ok b q = go (first-cases N ok) q
     go : {o : Outcome} → First N o → Replies N f → f ≡ outcomeSheet N o
     go (is-plan s e) (says-plan t d r) = write-read N f t b r ∙ ap (sheetOf N) (same-plan (sym d ∙ e))
     go (is-plan s e) (says-shut-in n r) = clash (plan-passable N s (first-is-plan N e)) n
-    go (is-plan s e) (says-lone i y l r) = absurd (lone-blocks N i (lowest-is-lone N l) s (first-is-plan N e))
+    go (is-plan s e) (says-lone i y l r) = absurd (bridge-blocks N i (lowest-is-bridge N l) s (first-is-plan N e))
     go (is-shut n) (says-plan t d r) = clash (plan-passable N t (first-is-plan N d)) n
     go (is-shut n) (says-shut-in m r) = r
     go (is-shut n) (says-lone i y l r) = clash y n
-    go (is-lone i y l) (says-plan t d r) = absurd (lone-blocks N i (lowest-is-lone N l) t (first-is-plan N d))
-    go (is-lone i y l) (says-shut-in n r) = clash y n
-    go (is-lone i y l) (says-lone j z m r) = r ∙ ap (λ k. outcomeSheet N (lone k (marksOf (loneSide N k)) 0)) (one (sym m ∙ l))
+    go (is-bridge i y l) (says-plan t d r) = absurd (bridge-blocks N i (lowest-is-bridge N l) t (first-is-plan N d))
+    go (is-bridge i y l) (says-shut-in n r) = clash y n
+    go (is-bridge i y l) (says-lone j z m r) = r ∙ ap (λ k. outcomeSheet N (lone k (marksOf (bridgeSide N k)) 0)) (one (sym m ∙ l))
 
 -- its reading as a plan sheet is the first plan, where there is one
 read-outcome : (N : Network) → Accepted N → {o : Outcome} → First N o → readSheet N (outcomeSheet N o) ≡ replyRead o
 unfolding readSheet readRecords
 read-outcome N ok (is-plan s e) = read-write N s ok (first-is-plan N e)
 read-outcome N ok (is-shut n) = rw ok
-read-outcome N ok (is-lone i y e) = rw ok
+read-outcome N ok (is-bridge i y e) = rw ok
 
 pub read-reply : (N : Network) → Accepted N → readSheet N (replySheet N) ≡ replyRead (firstAnswer N)
 unfolding replySheet

@@ -10,16 +10,16 @@ use Rattle.network.specs.declared.Refusal.{Refusal}
 use Rattle.network.specs.declared.Refusal.the-variants.{UnknownKind}
 use Rattle.network.specs.Networks.{Network}
 use Rattle.network.specs.Plans.{passable, firstPlan}
-use Rattle.network.specs.Lone.{lowestLone}
+use Rattle.network.specs.Bridges.{lowestBridge}
 use Rattle.network.specs.Marks.{marksOf}
-use Rattle.network.specs.Replies.{Outcome, plan, shutIn, lone, refused as told, firstAnswer, shutInSide, loneSide}
+use Rattle.network.specs.Replies.{Outcome, plan, shutIn, lone, refused as told, firstAnswer, shutInSide, bridgeSide}
 use Rattle.file_records.specs.declared.WriteAnswer.{WriteAnswer}
 use Rattle.replies.specs.declared.CheckAnswer.{CheckAnswer}
 use Rattle.replies.specs.declared.CheckAnswer.the-variants as C
-use Rattle.sheetfile.specs.declared.SheetAnswer.{SheetAnswer}
-use Rattle.sheetfile.specs.Sheets.{sheetOf, shutInSheet, loneSheet, replySheet}
-use Rattle.sheetfile.specs.Readings.{SheetReading, sheetRefused, sheetSays, unlessFault, readSheet, sheetWithRoom}
-use Rattle.sheetfile.specs.Answers.{settingRead, Got, sheetFault, replyFault}
+use Rattle.sheet_format.specs.declared.SheetAnswer.{SheetAnswer}
+use Rattle.sheet_format.specs.Sheets.{sheetOf, shutInSheet, loneSheet, replySheet}
+use Rattle.sheet_format.specs.Readings.{SheetReading, sheetRefused, sheetSays, unlessFault, readSheet, sheetWithRoom}
+use Rattle.sheet_format.specs.Answers.{settingRead, Got, sheetFault, replyFault}
 use Rattle.file_records.specs.Puts.{bytesWritten, Wrote, roomFor}
 
 -- What the sheet of a setting is read as that was written: refused where the writer refuses, else the setting itself.
@@ -64,4 +64,4 @@ pub record ReplyWriteRead (N : Network) (out setting : List ℕ) (r : SheetAnswe
 pub data Replies (N : Network) (f : List ℕ) : Type 0 where
   says-plan : (s : List ℕ) → firstPlan N ≡ some s → readSheet N f ≡ sheetSays s → Replies N f
   says-shut-in : passable N ≡ false → f ≡ shutInSheet (marksOf (shutInSide N)) → Replies N f
-  says-lone : (i : ℕ) → passable N ≡ true → lowestLone N ≡ some i → f ≡ loneSheet i (marksOf (loneSide N i)) → Replies N f
+  says-lone : (i : ℕ) → passable N ≡ true → lowestBridge N ≡ some i → f ≡ loneSheet i (marksOf (bridgeSide N i)) → Replies N f

@@ -1,7 +1,7 @@
 // The laws of the sheets over the running calls. Their proofs cite only what the calls promise.
 use file_records::WriteAnswer;
 use replies::CheckAnswer;
-use sheetfile::SheetAnswer;
+use sheet_format::SheetAnswer;
 ghost use Rattle.tables.specs.Rows.{netOf};
 ghost use Rattle.sheet_laws.specs.Laws.{SheetWriteRead, SheetReadWrite, SheetReadCheck, ReplyWriteRead};
 
@@ -20,9 +20,9 @@ pub fn write_then_read(
         r (now (out .exit)) (now (again .exit))
         ⌝ }
 {
-    match sheet::write_sheet_rows(basins, kinds, a, b, setting, out) {
+    match sheet_rows::write_sheet(basins, kinds, a, b, setting, out) {
         WriteAnswer::Refused(r) => SheetAnswer::Refused(r),
-        WriteAnswer::Written(n) => sheet::read_sheet_rows(basins, kinds, a, b, &out[..n], again),
+        WriteAnswer::Written(n) => sheet_rows::read_sheet(basins, kinds, a, b, &out[..n], again),
     }
 }
 
@@ -41,9 +41,9 @@ pub fn read_then_write(
         r (now (setting .exit)) (now (out .exit))
         ⌝ }
 {
-    match sheet::read_sheet_rows(basins, kinds, a, b, sheet, setting) {
+    match sheet_rows::read_sheet(basins, kinds, a, b, sheet, setting) {
         SheetAnswer::Refused(r) => WriteAnswer::Refused(r),
-        SheetAnswer::Read(n) => sheet::write_sheet_rows(basins, kinds, a, b, &setting[..n], out),
+        SheetAnswer::Read(n) => sheet_rows::write_sheet(basins, kinds, a, b, &setting[..n], out),
     }
 }
 
@@ -61,9 +61,9 @@ pub fn read_then_check(
         r (now (setting .exit))
         ⌝ }
 {
-    match sheet::read_sheet_rows(basins, kinds, a, b, sheet, setting) {
+    match sheet_rows::read_sheet(basins, kinds, a, b, sheet, setting) {
         SheetAnswer::Refused(r) => CheckAnswer::Refused(r),
-        SheetAnswer::Read(n) => planner::check_rows(basins, kinds, a, b, &setting[..n]),
+        SheetAnswer::Read(n) => planner_rows::check(basins, kinds, a, b, &setting[..n]),
     }
 }
 
@@ -81,8 +81,8 @@ pub fn reply_then_read(
         r (now (out .exit)) (now (setting .exit))
         ⌝ }
 {
-    match sheet::write_reply_rows(basins, kinds, a, b, out) {
+    match sheet_rows::write_reply(basins, kinds, a, b, out) {
         WriteAnswer::Refused(r) => SheetAnswer::Refused(r),
-        WriteAnswer::Written(n) => sheet::read_sheet_rows(basins, kinds, a, b, &out[..n], setting),
+        WriteAnswer::Written(n) => sheet_rows::read_sheet(basins, kinds, a, b, &out[..n], setting),
     }
 }

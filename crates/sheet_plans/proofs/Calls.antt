@@ -10,7 +10,7 @@ use Rattle.network.specs.declared.Refusal.{Refusal}
 use Rattle.network.specs.declared.Refusal.the-variants.{BadSetting}
 use Rattle.network.specs.Networks.{Network, tableFault, Accepted}
 use Rattle.network.specs.Settings.{isSetting, settingFault}
-use Rattle.network.specs.Plans.{strongUnder, isPlan}
+use Rattle.network.specs.Plans.{stronglyConnectedUnder, isPlan}
 use Rattle.network.proofs.Networks.{accepted}
 use Rattle.file_records.specs.declared.WriteAnswer.{WriteAnswer}
 use Rattle.file_records.specs.declared.WriteAnswer.the-variants.{Refused as Unwritten}
@@ -19,10 +19,10 @@ use Rattle.network.specs.Replies.{firstOf}
 use Rattle.replies.specs.declared.CheckAnswer.{CheckAnswer}
 use Rattle.replies.specs.declared.CheckAnswer.the-variants as C
 use Rattle.replies.specs.Answers.{yesOr, unlessRefused, checkOf}
-use Rattle.sheetfile.specs.Sheets.{sheetOf}
-use Rattle.sheetfile.specs.Rows.{Fitting}
-use Rattle.sheetfile.specs.Answers.{planFault, sheetFault, SheetWritten}
-use Rattle.sheetfile.proofs.Sheets.{plan-long}
+use Rattle.sheet_format.specs.Sheets.{sheetOf}
+use Rattle.sheet_format.specs.Rows.{Fitting}
+use Rattle.sheet_format.specs.Answers.{planFault, sheetFault, SheetWritten}
+use Rattle.sheet_format.proofs.Sheets.{plan-long}
 use Rattle.file_records.proofs.Puts.{first-assoc, put-refused}
 
 -- the refusal that the answer of the check stands for
@@ -42,7 +42,7 @@ check-cases none false c = refl
 -- 1, 2 and 3, and then 8 where the setting is no plan
 pub check-fault : (N : Network) (s : List ℕ) → checkFault (checkOf N s) ≡ firstOf (tableFault N) (planFault N s)
 unfolding checkOf settingFault isPlan
-check-fault N s = check-cases (tableFault N) (isSetting N s) (strongUnder N s)
+check-fault N s = check-cases (tableFault N) (isSetting N s) (stronglyConnectedUnder N s)
 
 module _ (N : Network) (s : List ℕ) (v : CheckAnswer) (e : checkOf N s ≡ v) where
   pub judged : firstOf (tableFault N) (planFault N s) ≡ checkFault v

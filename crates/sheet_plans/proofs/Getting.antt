@@ -18,10 +18,10 @@ use Rattle.network.specs.Plans.{isPlan}
 use Rattle.network.specs.Replies.{firstOf}
 use Rattle.replies.specs.declared.CheckAnswer.{CheckAnswer}
 use Rattle.replies.specs.Answers.{checkOf}
-use Rattle.sheetfile.specs.declared.SheetAnswer.{SheetAnswer}
-use Rattle.sheetfile.specs.declared.SheetAnswer.the-variants.{Refused, Read}
-use Rattle.sheetfile.specs.Readings.{SheetReading, sheetRefused, sheetSays, readRecords, ifPlan, unlessFault, readSheet, sheetWithRoom}
-use Rattle.sheetfile.specs.Answers.{sheetAnswer, settingRead, Got, Held}
+use Rattle.sheet_format.specs.declared.SheetAnswer.{SheetAnswer}
+use Rattle.sheet_format.specs.declared.SheetAnswer.the-variants.{Refused, Read}
+use Rattle.sheet_format.specs.Readings.{SheetReading, sheetRefused, sheetSays, readRecords, ifPlan, unlessFault, readSheet, sheetWithRoom}
+use Rattle.sheet_format.specs.Answers.{sheetAnswer, settingRead, Got, Held}
 use Rattle.sheet_plans.proofs.Calls.{checkFault, judged}
 
 -- ---- what is left in the buffer

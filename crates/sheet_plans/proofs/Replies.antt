@@ -13,13 +13,13 @@ use Rattle.network.specs.declared.Refusal.{Refusal}
 use Rattle.network.specs.Networks.{Network, tableFault, Accepted, maxReaches}
 use Rattle.network.specs.Settings.{gateCount}
 use Rattle.network.specs.Plans.{isPlan, passable, firstPlan}
-use Rattle.network.specs.Lone.{lowestLone}
+use Rattle.network.specs.Bridges.{lowestBridge}
 use Rattle.network.specs.Marks.{markBytes, marksOf, onesIn}
-use Rattle.network.specs.Replies.{Outcome, plan, shutIn, lone, shutInSide, loneSide, shutInFinding, loneFinding, chosen, answer, firstAnswer, unless, roomFault, firstReply, firstOf}
+use Rattle.network.specs.Replies.{Outcome, plan, shutIn, lone, shutInSide, bridgeSide, shutInFinding, loneFinding, chosen, answer, firstAnswer, unless, roomFault, firstReply, firstOf}
 use Rattle.network.proofs.Networks.{accepted, gates-below}
 use Rattle.network.proofs.Marks.{length-marks}
 use Rattle.network.proofs.Order.{first-is-plan, first-none}
-use Rattle.network.proofs.Replies.{Verdict, plans, no-way, one-lone, verdict}
+use Rattle.network.proofs.Replies.{Verdict, plans, no-way, one-bridge, verdict}
 use Rattle.file_records.specs.declared.WriteAnswer.{WriteAnswer}
 use Rattle.file_records.specs.declared.WriteAnswer.the-variants.{Refused as Unwritten}
 use Rattle.file_records.specs.Puts.{Wrote, roomFor, WroteWhole}
@@ -27,11 +27,11 @@ use Rattle.replies.specs.declared.Verdict.{Verdict as PlannerVerdict}
 use Rattle.replies.specs.declared.Verdict.the-variants.{Plan, ShutIn, Lone}
 use Rattle.replies.specs.declared.Answer.{Answer}
 use Rattle.replies.specs.declared.Answer.the-variants as A
-use Rattle.replies.specs.Answers.{given, answerOf, Written}
-use Rattle.sheetfile.specs.Sheets.{sheetOf, shutInSheet, loneSheet, outcomeSheet, replySheet}
-use Rattle.sheetfile.specs.Rows.{Roomy, firstBytesSheet}
-use Rattle.sheetfile.specs.Answers.{ReplyWritten}
-use Rattle.sheetfile.proofs.Sheets.{plan-long}
+use Rattle.replies.specs.Answers.{given, answerOf, Replied}
+use Rattle.sheet_format.specs.Sheets.{sheetOf, shutInSheet, loneSheet, outcomeSheet, replySheet}
+use Rattle.sheet_format.specs.Rows.{Roomy, firstBytesSheet}
+use Rattle.sheet_format.specs.Answers.{ReplyWritten}
+use Rattle.sheet_format.proofs.Sheets.{plan-long}
 use Rattle.file_records.proofs.Puts.{put-refused}
 
 -- ---- what an accepted network gets: a plan or one of two findings
@@ -39,7 +39,7 @@ use Rattle.file_records.proofs.Puts.{put-refused}
 pub data First (N : Network) : Outcome → Type 0 where
   is-plan : (s : List ℕ) → firstPlan N ≡ some s → First N (plan s)
   is-shut : passable N ≡ false → First N (shutIn (marksOf (shutInSide N)) (onesIn (marksOf (shutInSide N))))
-  is-lone : (i : ℕ) → passable N ≡ true → lowestLone N ≡ some i → First N (lone i (marksOf (loneSide N i)) (onesIn (marksOf (loneSide N i))))
+  is-bridge : (i : ℕ) → passable N ≡ true → lowestBridge N ≡ some i → First N (lone i (marksOf (bridgeSide N i)) (onesIn (marksOf (bridgeSide N i))))
 
 pub first-cases : (N : Network) → Accepted N → First N (firstAnswer N)
 unfolding firstAnswer shutInFinding loneFinding
@@ -52,13 +52,13 @@ first-cases N ok = go (verdict N ok)
     go : Verdict N → First N (answer N (firstPlan N))
     go (plans s p f) = subst⁻¹ (First N) (f (firstPlan N)) (pick s p (firstPlan N) refl)
     go (no-way n k f) = subst⁻¹ (First N) (f (firstPlan N)) (is-shut n)
-    go (one-lone i e y k f) = subst⁻¹ (First N) (f (firstPlan N)) (is-lone i y e)
+    go (one-bridge i e y k f) = subst⁻¹ (First N) (f (firstPlan N)) (is-bridge i y e)
 
 -- it is no refusal
 never : {N : Network} {o : Outcome} → First N o → (r : Refusal) → answerOf o ≡ A.Refused r → ⊥
 never (is-plan s e) r h = true≢false (cc)
 never (is-shut e) r h = true≢false (cc)
-never (is-lone i e f) r h = true≢false (cc)
+never (is-bridge i e f) r h = true≢false (cc)
 
 -- the sheet of a verdict, from the buffers that its plan and its marks stand in
 abbrev pub verdictSheet : Network → PlannerVerdict → List ℕ → List ℕ → List ℕ
@@ -94,7 +94,7 @@ module _ (N : Network) (p m : List ℕ) (lp : length p ≡ maxReaches) (lm : len
   replied none t = rw (t, roomy t)
   replied (some r) t = rw t
 
-  module _ (p′ m′ : List ℕ) (a : Answer) (w : Written (firstReply N (length p) (length m)) p m p′ m′ a) where
+  module _ (p′ m′ : List ℕ) (a : Answer) (w : Replied (firstReply N (length p) (length m)) p m p′ m′ a) where
     answered : (o : Option Refusal) → tableFault N ≡ o → a ≡ answerOf (unless o (firstAnswer N))
     answered o t = w .reply ∙ ap answerOf (replied o t)
 
@@ -118,14 +118,14 @@ module _ (N : Network) (p m : List ℕ) (lp : length p ≡ maxReaches) (lm : len
       marks-whole : (k : List ℕ) → length k ≡ markBytes → m′ ≡ k ++ drop (length k) m → k ≡ m′
       marks-whole k l q = sym (q ∙ rw (drop-of-length-le m {i = length k} (omega arith), append-nil))
 
-      says : (o : Outcome) → First N o → Written o p m p′ m′ a → outcomeSheet N o ≡ verdictSheet N v p′ m′
+      says : (o : Outcome) → First N o → Replied o p m p′ m′ a → outcomeSheet N o ≡ verdictSheet N v p′ m′
       says (plan s) (is-plan _ f) x =
           ap (sheetOf N) (sym (ap (take (gateCount N)) (x .plan-left) ∙ take-at s (drop (length s) p) (gateCount N) (plan-long N s (first-is-plan N f))))
           ∙ ap (λ u. verdictSheet N u p′ m′) (given-inj (sym (x .reply) ∙ e))
       says (shutIn k c) (is-shut f) x =
           ap shutInSheet (marks-whole k (length-marks (shutInSide N)) (x .marks-left)) ∙ ap (λ u. verdictSheet N u p′ m′) (given-inj (sym (x .reply) ∙ e))
-      says (lone i k c) (is-lone _ f g) x =
-          ap (loneSheet i) (marks-whole k (length-marks (loneSide N i)) (x .marks-left)) ∙ ap (λ u. verdictSheet N u p′ m′) (given-inj (sym (x .reply) ∙ e))
+      says (lone i k c) (is-bridge _ f g) x =
+          ap (loneSheet i) (marks-whole k (length-marks (bridgeSide N i)) (x .marks-left)) ∙ ap (λ u. verdictSheet N u p′ m′) (given-inj (sym (x .reply) ∙ e))
 
       -- the sheet of what was given is the network's
       pub reply-put :
@@ -134,7 +134,7 @@ module _ (N : Network) (p m : List ℕ) (lp : length p ≡ maxReaches) (lm : len
       unfolding replySheet
       reply-put out r out′ x =
           subst (λ f. Wrote (firstOf (tableFault N) (roomFor f (length out))) f out r out′)
-          (sym (says (firstAnswer N) (first-cases N reply-accepted) (subst (λ o. Written o p m p′ m′ a) (replied none reply-accepted) w)))
+          (sym (says (firstAnswer N) (first-cases N reply-accepted) (subst (λ o. Replied o p m p′ m′ a) (replied none reply-accepted) w)))
           (subst (λ o. Wrote (firstOf o (roomFor (verdictSheet N v p′ m′) (length out))) (verdictSheet N v p′ m′) out r out′) (sym reply-accepted) x)
 
       pub reply-roomy : length p′ ≡ length p → Roomy (N .reaches) p′

@@ -5,13 +5,13 @@ use network::Refusal;
 use replies::Answer;
 use replies::CheckAnswer;
 use replies::Verdict;
-use sheetfile::SheetAnswer;
+use sheet_format::SheetAnswer;
 ghost use mathlib.Core.Path.{_≡_};
 ghost use lib.ListN.{length};
 ghost use Rattle.network.specs.Networks.{maxReaches};
 ghost use Rattle.network.specs.Marks.{markBytes};
 ghost use Rattle.tables.specs.Rows.{netOf};
-ghost use Rattle.sheetfile.specs.Answers.{PlanKept, ReplyWritten};
+ghost use Rattle.sheet_format.specs.Answers.{PlanKept, ReplyWritten};
 
 // The bytes that a sheet says, if they are a plan of the network, go to the first bytes of the setting's buffer. Refuses 8, then 7.
 pub fn keep_plan(
@@ -27,7 +27,7 @@ pub fn keep_plan(
         r (now (setting .exit))
         ⌝ }
 {
-    match planner::check_rows(basins, kinds, a, b, bytes) {
+    match planner_rows::check(basins, kinds, a, b, bytes) {
         CheckAnswer::Refused(r) => SheetAnswer::Refused(r),
         CheckAnswer::No => SheetAnswer::Refused(Refusal::BadSetting),
         CheckAnswer::Yes => {
@@ -54,7 +54,7 @@ pub fn write_reply_in(
     requires { ⌜ length (now marks) ≡ markBytes ⌝ }
     ensures { λ r. ⌜ ReplyWritten (netOf basins (now (kinds .entry)) (now (a .entry)) (now (b .entry))) (now (out .entry)) r (now (out .exit)) ⌝ }
 {
-    match planner::first_plan_rows(basins, kinds, a, b, plan, marks) {
+    match planner_rows::first_plan(basins, kinds, a, b, plan, marks) {
         Answer::Refused(r) => WriteAnswer::Refused(r),
         Answer::Given(reply) => {
             let verdict = reply.verdict;

@@ -5,17 +5,17 @@ use file_records::Taken;
 use file_records::take_record;
 use file_records::word_at;
 use network::Refusal;
-use sheetfile::AS_DRAWN;
-use sheetfile::GATE_DUE;
-use sheetfile::PLAN_HEAD_DUE;
-use sheetfile::SheetAnswer;
+use sheet_format::AS_DRAWN;
+use sheet_format::GATE_DUE;
+use sheet_format::PLAN_HEAD_DUE;
+use sheet_format::SheetAnswer;
 ghost use mathlib.Core.Path.{_≡_};
 ghost use Prim.Native.Nat.{_≤_};
 ghost use lib.ListN.{length, drop};
 ghost use Rattle.file_records.specs.Records.{takeRecord, takenAnswer};
-ghost use Rattle.sheetfile.specs.Readings.{gateDue, byteIn, readGates, readRecords};
-ghost use Rattle.sheetfile.specs.Rows.{gatesRow};
-ghost use Rattle.sheetfile.specs.Answers.{Held};
+ghost use Rattle.sheet_format.specs.Readings.{gateDue, byteIn, readGates, readRecords};
+ghost use Rattle.sheet_format.specs.Rows.{gatesRow};
+ghost use Rattle.sheet_format.specs.Answers.{Held};
 
 // The record at a position after the head, that of a gated reach or the end.
 fn gate_or_end(sheet: &[u8], at: usize) -> Taken
@@ -45,7 +45,7 @@ fn read_gates(kinds: &[u8], sheet: &[u8], held: &mut [u8]) -> SheetAnswer
             Taken::Broken(r) => return SheetAnswer::Refused(r),
             Taken::Whole(kind) => kind,
         };
-        i = sheetfile::next_gate(kinds, i);
+        i = sheet_format::next_gate(kinds, i);
         if kind == END {
             if i < kinds.len() {
                 return SheetAnswer::Refused(Refusal::BadSetting);

@@ -5,11 +5,11 @@ use file_records::WriteAnswer;
 use file_records::put_bytes;
 use file_records::put_word;
 use network::Refusal;
-use sheetfile::AS_DRAWN;
-use sheetfile::LONE;
-use sheetfile::PLAN;
-use sheetfile::SHUT_IN;
-use sheetfile::TURNED;
+use sheet_format::AS_DRAWN;
+use sheet_format::LONE;
+use sheet_format::PLAN;
+use sheet_format::SHUT_IN;
+use sheet_format::TURNED;
 ghost use mathlib.Core.Path.{_≡_};
 ghost use Prim.Native.Nat.{_+_, _*_, _<_};
 ghost use lib.ListN.{length};
@@ -17,12 +17,12 @@ ghost use lib.Seq.{sets};
 ghost use Rattle.network.specs.Tables.{tableOf};
 ghost use Rattle.network.specs.Marks.{markBytes};
 ghost use Rattle.file_records.specs.Puts.{WroteWhole};
-ghost use Rattle.sheetfile.specs.Sheets.{hungKind, gateRecord, sheetRecords, planSheet, shutInSheet, loneSheet};
-ghost use Rattle.sheetfile.specs.Rows.{gatesRow, Records, Fitting, Roomy, tableSheet, firstBytesSheet};
+ghost use Rattle.sheet_format.specs.Sheets.{gateKind, gateRecord, sheetRecords, planSheet, shutInSheet, loneSheet};
+ghost use Rattle.sheet_format.specs.Rows.{gatesRow, Records, Fitting, Roomy, tableSheet, firstBytesSheet};
 
 // The kind byte of a gated reach, by its byte in the setting.
-fn hung_kind(byte: u8) -> u8
-    ensures { λ r. ⌜ r ≡ hungKind byte ⌝ }
+fn gate_kind(byte: u8) -> u8
+    ensures { λ r. ⌜ r ≡ gateKind byte ⌝ }
 {
     if byte == 0 { AS_DRAWN } else { TURNED }
 }
@@ -32,7 +32,7 @@ fn put_gate(out: &mut [u8], at: usize, reach: u16, byte: u8)
     requires { ⌜ at + 2 < length (now out) ⌝ }
     ensures { λ _. ⌜ now (out .exit) ≡ sets (now (out .entry)) at (gateRecord reach byte) ⌝ }
 {
-    out[at] = hung_kind(byte);
+    out[at] = gate_kind(byte);
     put_word(out, at + 1, reach);
 }
 
@@ -45,7 +45,7 @@ fn put_records(kinds: &[u8], setting: &[u8], out: &mut [u8])
     let mut i: usize = 0;
     let mut k: usize = 0;
     while k < setting.len() {
-        i = sheetfile::next_gate(kinds, i);
+        i = sheet_format::next_gate(kinds, i);
         put_gate(out, 3 * k, i as u16, setting[k]);
         i += 1;
         k += 1;

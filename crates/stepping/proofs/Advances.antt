@@ -11,9 +11,9 @@ use lib.Seq.{getD-set-other}
 use Rattle.network.specs.Networks.{Network}
 use Rattle.network.specs.Tables.{kindOf}
 use Rattle.network.specs.Settings.{isGated, isSetting}
-use Rattle.network.specs.Hangings.{ways}
+use Rattle.network.specs.Orientations.{ways}
 use Rattle.network.specs.Plans.{isPlan}
-use Rattle.network.specs.Lone.{reachAt}
+use Rattle.network.specs.Bridges.{reachAt}
 use Rattle.network.specs.Replies.{plan}
 use Rattle.lists.proofs.Bools.{decide}
 use Rattle.network.proofs.Order.{setting-length, plan-setting}

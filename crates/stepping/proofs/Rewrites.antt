@@ -13,7 +13,7 @@ use Rattle.network.specs.declared.Kind.{Kind}
 use Rattle.network.specs.declared.Kind.the-variants.{Gated, Flap, TwoWay}
 use Rattle.network.specs.Tables.{kindOf}
 use Rattle.network.specs.Settings.{isGated}
-use Rattle.network.specs.Hangings.{way, after}
+use Rattle.network.specs.Orientations.{way, after}
 use Rattle.tables.specs.Rows.{gatesIn, waysRow, bytesRow}
 use Rattle.stepping.specs.Advances.{gatesBefore}
 

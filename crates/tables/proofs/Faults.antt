@@ -13,10 +13,10 @@ use Rattle.network.specs.declared.Refusal.{Refusal}
 use Rattle.network.specs.declared.Refusal.the-variants.{BasinCount, TooManyReaches, EndOutOfRange}
 use Rattle.network.specs.Networks.{Network, maxBasins, goodCount, goodLength, goodEnds, tableFault}
 use Rattle.network.specs.Tables.{tableOf}
-use Rattle.network.specs.Lone.{noReach}
+use Rattle.network.specs.Bridges.{noReach}
 use Rattle.network.proofs.Networks.{endsBelow}
 use Rattle.tables.specs.declared.TableAnswer.the-variants as T
-use Rattle.tables.specs.Answers.{answerOf}
+use Rattle.tables.specs.Answers.{tableAnswer}
 use Rattle.tables.proofs.Laws.{table-at}
 
 module _ (N : Network) where
@@ -57,10 +57,10 @@ module _ (n i : ℕ) (ks xs ys : List ℕ) (l : i < length (tableOf ks xs ys)) w
       rw (table-at i ks xs ys l) (bool-eq-false {b = below && ltb (getD ys i 0) n} (λ e. f (ltb-true (getD xs i 0) n (and-elim-left below _ e)) (ltb-true (getD ys i 0) n (and-elim-right below _ e))))
 
 -- what the answer says of the fault
-pub answer-refused : (o : Option Refusal) (r : Refusal) → answerOf o ≡ T.Refused r → o ≡ some r
+pub answer-refused : (o : Option Refusal) (r : Refusal) → tableAnswer o ≡ T.Refused r → o ≡ some r
 answer-refused none r e = cc
 answer-refused (some x) r e = cc
 
-pub answer-accepted : (o : Option Refusal) → answerOf o ≡ T.Accepted → o ≡ none
+pub answer-accepted : (o : Option Refusal) → tableAnswer o ≡ T.Accepted → o ≡ none
 answer-accepted none e = refl
 answer-accepted (some x) e = cc

@@ -7,7 +7,7 @@ use native.Mathlib.Omega.{arith}
 use lib.ListN.{length, getD, take, drop, set, length-set, drop-of-length-le}
 use lib.Seq.{take-all, drop-drop}
 use Rattle.network.specs.Tables.{kindOf}
-use Rattle.network.specs.Hangings.{way, after}
+use Rattle.network.specs.Orientations.{way, after}
 use Rattle.tables.specs.Rows.{waysRow}
 use Rattle.lists.proofs.Lists.{drop-one, take-stored}
 use Rattle.network.proofs.Networks.{kind-other}
@@ -19,8 +19,8 @@ pub record Hung (ks s ws₀ ws : List ℕ) (k i : ℕ) : Type 0 where
   pub below : i ≤ length ks
   pub kept : length ws ≡ length ws₀
 
-pub hung-none : (ks s ws : List ℕ) → Hung ks s ws ws 0 0
-hung-none ks s ws = record { whole = refl; gates = omega arith; below = omega arith; kept = refl }
+pub oriented-none : (ks s ws : List ℕ) → Hung ks s ws ws 0 0
+oriented-none ks s ws = record { whole = refl; gates = omega arith; below = omega arith; kept = refl }
 
 -- the way of a gate with a byte, of a gate without one, and of a two-way reach
 pub way-byte : (d k : ℕ) (s : List ℕ) → d ≡ 0 → k < length s → getD s k 0 ≡ way (kindOf d) (drop k s)
@@ -43,8 +43,8 @@ after-other (suc (suc d)) h n = refl
 
 module _ (ks s ws₀ ws : List ℕ) (k i : ℕ) (room : length ws₀ ≡ length ks) (h : Hung ks s ws₀ ws k i) where
   -- one more way: of the reach i, with the byte k if it is a gate
-  pub hung-more : (w k′ : ℕ) → i < length ks → k′ ≤ k + 1 → w ≡ way (kindOf (getD ks i 0)) (drop k s) → after (kindOf (getD ks i 0)) (drop k s) ≡ drop k′ s → Hung ks s ws₀ (set ws i w) k′ (i + 1)
-  hung-more w k′ l g e f =
+  pub oriented-more : (w k′ : ℕ) → i < length ks → k′ ≤ k + 1 → w ≡ way (kindOf (getD ks i 0)) (drop k s) → after (kindOf (getD ks i 0)) (drop k s) ≡ drop k′ s → Hung ks s ws₀ (set ws i w) k′ (i + 1)
+  oriented-more w k′ l g e f =
       let m : i < length ws = omega (arith, h .kept) in
       record {
         whole = rw (take-stored ws i w _ m, e, ← f) (rw (drop-one ks i 0 l) at (h .whole));
@@ -54,5 +54,5 @@ module _ (ks s ws₀ ws : List ℕ) (k i : ℕ) (room : length ws₀ ≡ length 
       }
 
   -- at the end the ways are all written
-  pub hung-all : length ks ≤ i → ws ≡ waysRow ks s
-  hung-all l = rw (drop-of-length-le ks l, take-all i ws (omega (arith, h .kept)), append-nil) at (h .whole)
+  pub oriented-all : length ks ≤ i → ws ≡ waysRow ks s
+  oriented-all l = rw (drop-of-length-le ks l, take-all i ws (omega (arith, h .kept)), append-nil) at (h .whole)

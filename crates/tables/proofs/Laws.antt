@@ -15,8 +15,8 @@ use Rattle.network.specs.declared.Reach.{Reach}
 use Rattle.lists.specs.Lists.{every}
 use Rattle.network.specs.Tables.{kindOf, kindNumber, tableOf}
 use Rattle.network.specs.Settings.{isGated, gatesFrom, isSetting}
-use Rattle.network.specs.Hangings.{way, after, ways}
-use Rattle.network.specs.Lone.{noReach}
+use Rattle.network.specs.Orientations.{way, after, ways}
+use Rattle.network.specs.Bridges.{noReach}
 use Rattle.tables.specs.Rows.{netOf, gatesIn, waysRow, bytesRow}
 use Rattle.tables.specs.Partial.{bytesOf}
 
@@ -114,17 +114,17 @@ module _ (ks xs ys : List ℕ) (e : length xs ≡ length ks) (f : length ys ≡ 
 
 -- ---- a table's ways
 
-after-unhung : (d : Kind) (t : List Reach) → ((g : ℕ) → ways t (replicate g 2) ≡ ways t []) → (g : ℕ)
+after-unoriented : (d : Kind) (t : List Reach) → ((g : ℕ) → ways t (replicate g 2) ≡ ways t []) → (g : ℕ)
     → way d (replicate g 2) ∷ ways t (after d (replicate g 2)) ≡ way d [] ∷ ways t (after d [])
-after-unhung Gated t rest zero = refl
-after-unhung Gated t rest (suc g) = ap (λ ws. 2 ∷ ws) (rest g)
-after-unhung Flap t rest g = ap (λ ws. 0 ∷ ws) (rest g)
-after-unhung TwoWay t rest g = ap (λ ws. 2 ∷ ws) (rest g)
+after-unoriented Gated t rest zero = refl
+after-unoriented Gated t rest (suc g) = ap (λ ws. 2 ∷ ws) (rest g)
+after-unoriented Flap t rest g = ap (λ ws. 0 ∷ ws) (rest g)
+after-unoriented TwoWay t rest g = ap (λ ws. 2 ∷ ws) (rest g)
 
 -- gates that are all hung either way are as gates without a byte
-pub ways-unhung : (t : List Reach) (g : ℕ) → ways t (replicate g 2) ≡ ways t []
-ways-unhung [] g = refl
-ways-unhung (r ∷ t) g = after-unhung (r .kind) t (ways-unhung t) g
+pub ways-unoriented : (t : List Reach) (g : ℕ) → ways t (replicate g 2) ≡ ways t []
+ways-unoriented [] g = refl
+ways-unoriented (r ∷ t) g = after-unoriented (r .kind) t (ways-unoriented t) g
 
 -- ---- the table of a table's own numbers
 kind-of-number : (k : Kind) → kindOf (kindNumber k) ≡ k

@@ -6,6 +6,6 @@ use Rattle.tables.specs.declared.TableAnswer.{TableAnswer}
 use Rattle.tables.specs.declared.TableAnswer.the-variants.{Accepted, Refused}
 
 -- A table is refused for its fault, and accepted if it has none.
-abbrev pub answerOf : Option Refusal → TableAnswer
-answerOf none = Accepted
-answerOf (some r) = Refused r
+abbrev pub tableAnswer : Option Refusal → TableAnswer
+tableAnswer none = Accepted
+tableAnswer (some r) = Refused r

@@ -6,7 +6,7 @@ use mathlib.Core.List.{List, [], _∷_}
 use Rattle.network.specs.Networks.{Network, maxReaches}
 use Rattle.network.specs.Tables.{kindOf, tableOf}
 use Rattle.network.specs.Settings.{isGated, gateCount}
-use Rattle.network.specs.Hangings.{way, after}
+use Rattle.network.specs.Orientations.{way, after}
 
 -- The network of a basin count and three rows: kinds, ends A, ends B.
 abbrev pub netOf : ℕ → List ℕ → List ℕ → List ℕ → Network
@@ -17,7 +17,7 @@ abbrev pub gatesIn : List ℕ → ℕ
 gatesIn [] = 0
 gatesIn (k ∷ ks) = cond (isGated (kindOf k)) (suc (gatesIn ks)) (gatesIn ks)
 
--- The ways of the reaches under a hanging, by their kinds.
+-- The ways of the reaches under a partial orientation, by their kinds.
 abbrev pub waysRow : List ℕ → List ℕ → List ℕ
 waysRow [] h = []
 waysRow (k ∷ ks) h = way (kindOf k) h ∷ waysRow ks (after (kindOf k) h)

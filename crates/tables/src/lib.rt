@@ -12,9 +12,9 @@ ghost use lib.Dec.{leb, eqb};
 ghost use Rattle.lists.specs.Lists.{every};
 ghost use Rattle.network.specs.Networks.{goodEnds, tableFault};
 ghost use Rattle.network.specs.Tables.{kindOf, tableOf};
-ghost use Rattle.network.specs.Hangings.{way};
+ghost use Rattle.network.specs.Orientations.{way};
 ghost use Rattle.tables.specs.Rows.{netOf, gatesIn, gatesHeld, waysRow, bytesRow};
-ghost use Rattle.tables.specs.Answers.{answerOf};
+ghost use Rattle.tables.specs.Answers.{tableAnswer};
 
 // The kinds that have a number of their own.
 const GATED: u8 = 0;
@@ -60,8 +60,8 @@ fn good_ends(basins: u16, kinds: &[u8], a: &[u16], b: &[u16]) -> bool
 }
 
 // What the table gets, in the order of document 01: the basin count, the number of reaches, the ends.
-pub fn table_fault(basins: u16, kinds: &[u8], a: &[u16], b: &[u16]) -> TableAnswer
-    ensures { λ r. ⌜ r ≡ answerOf (tableFault (netOf basins (now (kinds .entry)) (now (a .entry)) (now (b .entry)))) ⌝ }
+pub fn table_check(basins: u16, kinds: &[u8], a: &[u16], b: &[u16]) -> TableAnswer
+    ensures { λ r. ⌜ r ≡ tableAnswer (tableFault (netOf basins (now (kinds .entry)) (now (a .entry)) (now (b .entry)))) ⌝ }
 {
     if basins == 0 || basins as usize > MAX_BASINS {
         return TableAnswer::Refused(Refusal::BasinCount);
@@ -126,7 +126,7 @@ fn way_of(kind: u8, setting: &[u8], k: usize) -> u8
 }
 
 // The ways of all reaches under a setting, or under the first bytes of one.
-pub fn hang(kinds: &[u8], setting: &[u8], ways: &mut [u8])
+pub fn orient(kinds: &[u8], setting: &[u8], ways: &mut [u8])
     requires { ⌜ length (now ways) ≡ length (now kinds) ⌝ }
     ensures { λ _. ⌜ now (ways .exit) ≡ waysRow (now (kinds .entry)) (now (setting .entry)) ⌝ }
 {

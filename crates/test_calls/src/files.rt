@@ -12,7 +12,7 @@ use crate::show::Out;
 use crate::table_rows::ROOM;
 use netfile_format::ReadAnswer;
 use file_records::WriteAnswer;
-use sheetfile::SheetAnswer;
+use sheet_format::SheetAnswer;
 
 // The lengths of the rows that are lent.
 pub struct Lengths {
@@ -36,7 +36,7 @@ pub fn read(file: &[u8], n: Lengths) -> Reading {
     let k = within(&kinds, n.kinds);
     let x = within_words(&a, n.a);
     let y = within_words(&b, n.b);
-    let answer = netfile::read_network_rows(file, &mut kinds[..k], &mut a[..x], &mut b[..y]);
+    let answer = netfile_rows::read_network(file, &mut kinds[..k], &mut a[..x], &mut b[..y]);
     Reading {
         answer,
         kinds,
@@ -126,10 +126,10 @@ fn fill(
     out: &mut [u8],
 ) -> Size {
     match call {
-        WRITE_NETWORK => written(netfile::write_network_rows(basins, kinds, a, b, out)),
-        READ_SHEET => sheet_read(sheet::read_sheet_rows(basins, kinds, a, b, s, out)),
-        WRITE_SHEET => written(sheet::write_sheet_rows(basins, kinds, a, b, s, out)),
-        WRITE_REPLY => written(sheet::write_reply_rows(basins, kinds, a, b, out)),
+        WRITE_NETWORK => written(netfile_rows::write_network(basins, kinds, a, b, out)),
+        READ_SHEET => sheet_read(sheet_rows::read_sheet(basins, kinds, a, b, s, out)),
+        WRITE_SHEET => written(sheet_rows::write_sheet(basins, kinds, a, b, s, out)),
+        WRITE_REPLY => written(sheet_rows::write_reply(basins, kinds, a, b, out)),
         _ => Size {
             number: 0,
             length: listing::laws::list(s, out),

@@ -31,14 +31,14 @@ pub fn number(r: Refusal) -> u8 {
 
 // What the table gets, and the check of a setting.
 pub fn table_number(basins: u16, kinds: &[u8], a: &[u16], b: &[u16]) -> u8 {
-    match tables::table_fault(basins, kinds, a, b) {
+    match tables::table_check(basins, kinds, a, b) {
         TableAnswer::Refused(r) => number(r),
         TableAnswer::Accepted => 0,
     }
 }
 
 pub fn check_number(basins: u16, kinds: &[u8], a: &[u16], b: &[u16], setting: &[u8]) -> u8 {
-    match planner::check_rows(basins, kinds, a, b, setting) {
+    match planner_rows::check(basins, kinds, a, b, setting) {
         CheckAnswer::Refused(r) => number(r),
         CheckAnswer::Yes => show::YES,
         CheckAnswer::No => show::NO,
@@ -84,7 +84,7 @@ fn first(basins: u16, kinds: &[u8], a: &[u16], b: &[u16], room: Room) -> Got {
     let mut marks = [OLD; 40];
     let p = within(&plan, room.plan);
     let m = within(&marks, room.marks);
-    let answer = planner::first_plan_rows(basins, kinds, a, b, &mut plan[..p], &mut marks[..m]);
+    let answer = planner_rows::first_plan(basins, kinds, a, b, &mut plan[..p], &mut marks[..m]);
     Got {
         answer,
         plan,
@@ -97,7 +97,7 @@ pub fn next(basins: u16, kinds: &[u8], a: &[u16], b: &[u16], setting: &[u8], roo
     let mut marks = [OLD; 40];
     let p = within(&plan, room.plan);
     let m = within(&marks, room.marks);
-    let answer = planner::next_plan_rows(
+    let answer = planner_rows::next_plan(
         basins,
         kinds,
         a,

@@ -16,7 +16,7 @@ use Rattle.network.specs.Plans.{isPlan}
 use Rattle.network.proofs.Networks.{gates-fit}
 use Rattle.network.proofs.Order.{setting-length}
 use Rattle.replies.specs.Answers.{yesOr, unlessRefused, checkOf}
-use Rattle.lent.proofs.Packings.{ByTable}
+use Rattle.packing.proofs.Packings.{ByTable}
 use Rattle.walker.specs.declared.MakeAnswer.{MakeAnswer}
 use Rattle.walker.specs.declared.MakeAnswer.the-variants as M
 use Rattle.walker.specs.declared.Walker.{Walker}

@@ -20,9 +20,9 @@ use Rattle.replies.specs.declared.Verdict.the-variants.{Plan}
 use Rattle.replies.specs.declared.Reply.{Reply}
 use Rattle.replies.specs.declared.Answer.{Answer}
 use Rattle.replies.specs.declared.Answer.the-variants as A
-use Rattle.replies.specs.Answers.{Written}
+use Rattle.replies.specs.Answers.{Replied}
 use Rattle.replies.proofs.Refusals.{next-faulty}
-use Rattle.lent.proofs.Packings.{ByTable}
+use Rattle.packing.proofs.Packings.{ByTable}
 use Rattle.walker.specs.declared.Walker.{Walker}
 use Rattle.walker.specs.declared.Stepped.{Stepped}
 use Rattle.walker.specs.Walkers.{settingIn, stepReply, advancedBy, Stepping}
@@ -41,7 +41,7 @@ module _ (g : ℕ) (buffer w : List ℕ) {r : Answer} {y : Reply} (e : r ≡ A.G
   advanced-short l = rw (e, v, lt-leb g (length buffer) l)
 
 -- a reply whose plans have g bytes, once written down, moves the walker to its plan
-walk-on : (o : Outcome) (w : List ℕ) {g : ℕ} {buffer marks buffer′ marks′ : List ℕ} {r : Answer} → ((p : List ℕ) → o ≡ plan p → length p ≡ g) → Written o buffer marks buffer′ marks′ r → advancedBy r g buffer′ w ≡ planAfter o w
+walk-on : (o : Outcome) (w : List ℕ) {g : ℕ} {buffer marks buffer′ marks′ : List ℕ} {r : Answer} → ((p : List ℕ) → o ≡ plan p → length p ≡ g) → Replied o buffer marks buffer′ marks′ r → advancedBy r g buffer′ w ≡ planAfter o w
 walk-on (plan p) w {g} {buffer} {buffer′} sized e =
     let n = sized p refl in
     let there : take g buffer′ ≡ p = ap (take g) (e .plan-left) ∙ take-at p (drop (length p) buffer) g n in
@@ -80,17 +80,17 @@ module _ (N : Network) where
 
   module _ (w : List ℕ) {buffer marks buffer′ marks′ : List ℕ} {r : Answer} where
     -- the walker advanced by the answer has what the reply leaves
-    pub step-walk : Written (stepReply N w (length buffer) (length marks)) buffer marks buffer′ marks′ r → advancedBy r (gatesHeld N) buffer′ w ≡ planAfter (stepReply N w (length buffer) (length marks)) w
+    pub step-walk : Replied (stepReply N w (length buffer) (length marks)) buffer marks buffer′ marks′ r → advancedBy r (gatesHeld N) buffer′ w ≡ planAfter (stepReply N w (length buffer) (length marks)) w
     step-walk = walk-on (stepReply N w (length buffer) (length marks)) w (λ p e. let given = step-given w (length buffer) (length marks) e in given .1 ∙ sym (all-held (given .0)))
 
     -- a call of next with the bytes held, and the walker advanced by its answer, are a step
-    pub step-made : {g : ℕ} {v : Walker} → g ≡ gatesHeld N → Written (nextReply N (take g w) (length buffer) (length marks)) buffer marks buffer′ marks′ r → v .setting ≡ advancedBy r g buffer′ w → Stepping N w buffer marks buffer′ marks′ (record { answer = r; walker = v })
+    pub step-made : {g : ℕ} {v : Walker} → g ≡ gatesHeld N → Replied (nextReply N (take g w) (length buffer) (length marks)) buffer marks buffer′ marks′ r → v .setting ≡ advancedBy r g buffer′ w → Stepping N w buffer marks buffer′ marks′ (record { answer = r; walker = v })
     step-made {g} {v} held next walked = record { replied = replied; walked = walked ∙ ap (λ (k : ℕ). advancedBy r k buffer′ w) held ∙ step-walk replied }
       where
-        replied : Written (stepReply N w (length buffer) (length marks)) buffer marks buffer′ marks′ r
+        replied : Replied (stepReply N w (length buffer) (length marks)) buffer marks buffer′ marks′ r
         replied =
             subst
-            (λ (o : Outcome). Written o buffer marks buffer′ marks′ r)
+            (λ (o : Outcome). Replied o buffer marks buffer′ marks′ r)
             (ap (λ (k : ℕ). nextReply N (take k w) (length buffer) (length marks)) held ∙ step-same w (length buffer) (length marks))
             next
 
@@ -126,4 +126,4 @@ step-alike w {buffer} {marks} {buffer′} {marks′} {r} N N′ x e e′ h =
     let p = length buffer in
     let q = length marks in
     let same : stepReply N w p q ≡ stepReply N′ w p q = next-faulty N (settingIn N w) x p q e ∙ sym (next-faulty N′ (settingIn N′ w) x p q e′) in
-    record { replied = subst (λ (o : Outcome). Written o buffer marks buffer′ marks′ (r .answer)) same (h .replied); walked = h .walked ∙ ap (λ (o : Outcome). planAfter o w) same }
+    record { replied = subst (λ (o : Outcome). Replied o buffer marks buffer′ marks′ (r .answer)) same (h .replied); walked = h .walked ∙ ap (λ (o : Outcome). planAfter o w) same }

@@ -15,7 +15,7 @@ use Rattle.replies.specs.declared.Verdict.{Verdict}
 use Rattle.replies.specs.declared.Verdict.the-variants.{Plan, ShutIn, Lone}
 use Rattle.replies.specs.declared.Answer.{Answer}
 use Rattle.replies.specs.declared.Answer.the-variants as A
-use Rattle.replies.specs.Answers.{Written}
+use Rattle.replies.specs.Answers.{Replied}
 use Rattle.walker.specs.declared.MakeAnswer.{MakeAnswer}
 use Rattle.walker.specs.declared.MakeAnswer.the-variants as M
 use Rattle.walker.specs.declared.Made.{Made}
@@ -52,7 +52,7 @@ unfoldable pub stepReply : Network → List ℕ → ℕ → ℕ → Outcome
 stepReply N w planLength marksLength = nextReply N (settingIn N w) planLength marksLength
 
 pub record Stepping (N : Network) (w plan marks plan′ marks′ : List ℕ) (r : Stepped) : Type 0 where
-  pub replied : Written (stepReply N w (length plan) (length marks)) plan marks plan′ marks′ (r .answer)
+  pub replied : Replied (stepReply N w (length plan) (length marks)) plan marks plan′ marks′ (r .answer)
   pub walked : (r .walker) .setting ≡ planAfter (stepReply N w (length plan) (length marks)) w
 
 -- ---- the parts of a making and of a step

@@ -8,11 +8,11 @@ ghost use Prim.Native.Nat.{_≤_};
 ghost use lib.ListN.{length, take, drop};
 ghost use Rattle.network.specs.Networks.{maxReaches};
 ghost use Rattle.tables.specs.Rows.{netOf};
-ghost use Rattle.lent.specs.Tables.{lentNet, OfTable};
+ghost use Rattle.packing.specs.Tables.{lentNet, OfTable};
 ghost use Rattle.walker.specs.Walkers.{walkerOf, makeFault, makeOf, keptOf, Making, advancedBy, Stepping};
-use lent::Packed;
-use lent::held;
-use lent::pack;
+use packing::Packed;
+use packing::held;
+use packing::pack;
 use network::MAX_REACHES;
 use network::Reach;
 use network::Refusal;
@@ -99,7 +99,7 @@ fn advanced(answer: Answer, walker: Walker, plan: &[u8], g: usize) -> Walker
 fn make_answer(basins: u16, kinds: &[u8], a: &[u16], b: &[u16], setting: &[u8]) -> MakeAnswer
     ensures { λ r. ⌜ r ≡ makeOf (makeFault (netOf basins (now (kinds .entry)) (now (a .entry)) (now (b .entry))) (now (setting .entry))) ⌝ }
 {
-    if let TableAnswer::Refused(r) = tables::table_fault(basins, kinds, a, b) {
+    if let TableAnswer::Refused(r) = tables::table_check(basins, kinds, a, b) {
         return MakeAnswer::Refused(r);
     }
     let m = tables::row_count(kinds, a, b);
@@ -168,7 +168,7 @@ impl Walker {
     {
         let setting = self.setting;
         let g = gates_held(kinds, a, b);
-        let answer = planner::next_plan_rows(basins, kinds, a, b, &setting[..g], plan, marks);
+        let answer = planner_rows::next_plan(basins, kinds, a, b, &setting[..g], plan, marks);
         let walker = advanced(answer, self, plan, g);
         Stepped { answer, walker }
     }

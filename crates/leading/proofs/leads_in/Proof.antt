@@ -5,7 +5,7 @@ use mathlib.Core.Path.{_≡_, refl, sym, _∙_}
 use mathlib.Core.List.{List, map}
 use native.Mathlib.Omega.{arith}
 use lib.ListN.{length}
-use Rattle.network.specs.Hangings.{Arc, reached}
+use Rattle.network.specs.Orientations.{Arc, reached}
 use Rattle.half_edges.specs.Ends.{arcsOf, flipWay}
 use Rattle.half_edges.proofs.Laws.{reached-flipped}
 use Rattle.search.proofs.Fronts.{cleared, begins, begins-grew, newly-apart, unmet, joins}

@@ -19,13 +19,13 @@ cut : (m : ℕ) (xs : List ℕ) → length xs ≡ maxReaches → m ≤ maxReache
 cut m xs e h = length-take-le m xs (omega arith)
 
 -- the working memory where the ways are cut
-abbrev start : tie.After-hung → tie.Start
+abbrev start : tie.After-oriented → tie.Start
 start c = c .before .before .before .before .before .before .before .before .before .before .before .before .before .before
 
-few : (c : tie.After-hung) → c .before .before .least .result ≤ maxReaches
+few : (c : tie.After-oriented) → c .before .before .least .result ≤ maxReaches
 few c = omega (arith, c .before .before .least .ensures)
 
-spare : (c : tie.After-hung) → let s = start c .args in Spare (s .kinds .now) (take (c .before .before .least .result) (s .ways .now)) (s .head .now) (s .next .now)
+spare : (c : tie.After-oriented) → let s = start c .args in Spare (s .kinds .now) (take (c .before .before .least .result) (s .ways .now)) (s .head .now) (s .next .now)
 spare c =
     let s = start c in
     record {
@@ -40,11 +40,11 @@ gates-held-requires c κs = search needs
 least-requires : tie.Need-least-requires
 least-requires c κs = search needs
 
-slice-relend-prefix-hung : tie.Need-slice-relend-prefix-hung
-slice-relend-prefix-hung c = omega (arith, c .before .least .ensures, c .before .before .before .before .before .before .before .before .before .before .before .before .before .pre .0 .ways-space)
+slice-relend-prefix-oriented : tie.Need-slice-relend-prefix-oriented
+slice-relend-prefix-oriented c = omega (arith, c .before .least .ensures, c .before .before .before .before .before .before .before .before .before .before .before .before .before .pre .0 .ways-space)
 
-slice-aggregate-hung : tie.Need-slice-aggregate-hung
-slice-aggregate-hung c = let s = start c in sym (cut (c .before .before .least .result) (s .args .ways .now) (s .pre .0 .ways-space) (few c))
+slice-aggregate-oriented : tie.Need-slice-aggregate-oriented
+slice-aggregate-oriented c = let s = start c in sym (cut (c .before .before .least .result) (s .args .ways .now) (s .pre .0 .ways-space) (few c))
 
 array-share-prefix-setting : tie.Need-array-share-prefix-setting
 array-share-prefix-setting c = let s = start c in omega (arith, c .before .before .before .gates-held .ensures, lister-size (s .args .l) (s .good .0))
@@ -102,8 +102,8 @@ fill-in-spec =
     (tie.spec
     gates-held-requires
     least-requires
-    slice-relend-prefix-hung
-    slice-aggregate-hung
+    slice-relend-prefix-oriented
+    slice-aggregate-oriented
     array-share-prefix-setting
     slice-aggregate-prime
     prime-requires

@@ -17,7 +17,7 @@ start c = c .before .before .before .before .before .before .before .before .bef
 level : (c : tie.After-enum-told3) → let s = start c .args in Level (s .basins) (s .kinds .now) (s .a .now) (s .b .now)
 level c = let s = start c .args in
     record {
-      accepted = yes-plan (netOf (s .basins) (s .kinds .now) (s .a .now) (s .b .now)) (s .setting .now) (sym (c .before .before .check-rows .ensures) ∙ c .enum-told3 .given .1) .0;
+      accepted = yes-plan (netOf (s .basins) (s .kinds .now) (s .a .now) (s .b .now)) (s .setting .now) (sym (c .before .before .check .ensures) ∙ c .enum-told3 .given .1) .0;
       ends-a = omega (arith, c .before .before .before .before .if1 .left);
       ends-b = omega (arith, c .before .before .before .if2 .left);
     }
@@ -28,8 +28,8 @@ returns c = elsewhere refl
 returns-2 : tie.Need-returns-2
 returns-2 c = elsewhere refl
 
-check-rows-requires : tie.Need-check-rows-requires
-check-rows-requires c κs = search needs
+check-requires : tie.Need-check-requires
+check-requires c κs = search needs
 
 enum-told : tie.Need-enum-told
 enum-told c = search needs
@@ -40,8 +40,8 @@ enum-told-2 c = search needs
 enum-told-3 : tie.Need-enum-told-3
 enum-told-3 c = search needs
 
-hang-requires : tie.Need-hang-requires
-hang-requires c κs = spare-ways (level (c .before)) (start (c .before) .pre)
+orient-requires : tie.Need-orient-requires
+orient-requires c κs = spare-ways (level (c .before)) (start (c .before) .pre)
 
 index-requires : tie.Need-index-requires
 index-requires c κs = let k = c .before .before .before .before .before .before in spare-index (level k) (start k .pre) refl refl
@@ -68,8 +68,8 @@ returns-5 c =
     at-plan refl
     record {
       level = level k;
-      is-plan = yes-plan (netOf (s .basins) (s .kinds .now) (s .a .now) (s .b .now)) (s .setting .now) (sym (k .before .before .check-rows .ensures) ∙ k .enum-told3 .given .1) .1;
-      oriented = c .before .before .before .before .before .before .before .before .before .hang .ensures;
+      is-plan = yes-plan (netOf (s .basins) (s .kinds .now) (s .a .now) (s .b .now)) (s .setting .now) (sym (k .before .before .check .ensures) ∙ k .enum-told3 .given .1) .1;
+      oriented = c .before .before .before .before .before .before .before .before .before .orient .ensures;
     }
     (c .before .before .before .before .index .ensures)
 
@@ -79,11 +79,11 @@ prime-spec =
     (tie.spec
     returns
     returns-2
-    check-rows-requires
+    check-requires
     enum-told
     enum-told-2
     enum-told-3
-    hang-requires
+    orient-requires
     index-requires
     returns-3
     returns-4

@@ -82,9 +82,9 @@ returns-2 c =
     let s = c .before .before .before .before .before .before .before .before .before .before .before .before .before .before .before .before .before .before .before .before .before .before .before .before .before .before .before .before .before .before .before in
     let m = was-next (c .before .before .before .before .before .before .before .before .before .before .before .before .before .before .before .advance .ensures) (omega (arith, c .before .before .before .before .before .before .if1 .left, s .pre .1 .1 .0 .level .ends-a)) in (
       step-next (s .args .l) (s .args .kinds .now) (s .args .a .now) (s .args .b .now) (s .args .ways .now) (s .args .left) (s .args .g) (s .pre .0) (s .pre .1 .1 .0)
-          (c .due-plan .ensures) (m .is-next) (m .is-plan) (m .hung) (c .before .before .rewrite .ensures),
+          (c .due-plan .ensures) (m .is-next) (m .is-plan) (m .oriented) (c .before .before .rewrite .ensures),
       step-stands (s .args .l) (s .args .kinds .now) (s .args .a .now) (s .args .b .now) (s .args .ways .now) (s .args .left) (s .args .g) (s .pre .0) (s .pre .1 .1 .0)
-          (c .due-plan .ensures) (m .is-next) (m .is-plan) (m .hung) (c .before .before .rewrite .ensures),
+          (c .due-plan .ensures) (m .is-next) (m .is-plan) (m .oriented) (c .before .before .rewrite .ensures),
     )
 
 pub stepped-spec : {M : Type 1} → statement M

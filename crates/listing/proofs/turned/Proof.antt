@@ -4,7 +4,7 @@ use native.Mathlib.Omega.{arith}
 use mathlib.Core.Path.{ap, subst}
 use lib.ListN.{take}
 use Rattle.lines.specs.declared.Due.{Due}
-use Rattle.listing_state.specs.Pending.{linesAfter, planIn, lentNet}
+use Rattle.listing_state.specs.Pending.{linesAfter, planInHand, stateNet}
 use Rattle.listing_state.specs.Parts.{planLength}
 use Rattle.listing.specs.Keeping.{Kept}
 use Rattle.listing_state.proofs.Sizes.{lister-size}
@@ -39,7 +39,7 @@ enum-told-3 c = search needs
 returns : tie.Need-returns
 returns c =
     let s = c .before .before .before .before .before .before .before .before .before .before .before .before .before .before .before in
-    (turned-none (lentNet (s .args .l) (s .args .kinds .now) (s .args .a .now) (s .args .b .now)) (s .args .l) (lister-size (s .args .l) (s .good .0)) _ (c .before .before .before .before .due .given .1) (omega (arith, c .if1 .taken, c .before .before .plan-length .ensures, ap planLength (s .pre .0))), s .pre .1)
+    (turned-none (stateNet (s .args .l) (s .args .kinds .now) (s .args .a .now) (s .args .b .now)) (s .args .l) (lister-size (s .args .l) (s .good .0)) _ (c .before .before .before .before .due .given .1) (omega (arith, c .if1 .taken, c .before .before .plan-length .ensures, ap planLength (s .pre .0))), s .pre .1)
 
 same-length : tie.Need-same-length
 same-length c = search needs
@@ -57,19 +57,19 @@ returns-2 : tie.Need-returns-2
 returns-2 c =
     let s = c .before .before .before .before .before .before .before .before .before .before .before .before .before .before .before .before .before .before .before .before .before .before .before .before .before .before .before .before in
     let t = c .before .before .before .before .before .before .before .before .line-after in (
-      turned-next (lentNet (s .args .l) (s .args .kinds .now) (s .args .a .now) (s .args .b .now)) (s .args .l) (lister-size (s .args .l) (s .good .0)) _ (t .result) (c .before .before .before .before .before .before .before .before .before .before .before .before .before .before .before .before .before .due .given .1)
+      turned-next (stateNet (s .args .l) (s .args .kinds .now) (s .args .a .now) (s .args .b .now)) (s .args .l) (lister-size (s .args .l) (s .good .0)) _ (t .result) (c .before .before .before .before .before .before .before .before .before .before .before .before .before .before .before .before .before .due .given .1)
           (omega (arith, c .before .before .before .before .before .before .before .before .before .before .before .before .before .if1 .left, c .before .before .before .before .before .before .before .before .before .before .before .before .before .before .before .plan-length .ensures, ap planLength (s .pre .0))) (t .ensures .0),
       t .ensures .1,
     )
 
 returns-3 : tie.Need-returns-3
-returns-3 c = let s = c .before .before .before .before .before .before .before .before .before .before .before in (turned-last (lentNet (s .args .l) (s .args .kinds .now) (s .args .a .now) (s .args .b .now)) (s .args .l) (ap (λ (d : Due). linesAfter (lentNet (s .args .l) (s .args .kinds .now) (s .args .a .now) (s .args .b .now)) d (planIn (lentNet (s .args .l) (s .args .kinds .now) (s .args .a .now) (s .args .b .now)) (s .args .l))) (c .enum-told .given .1)), s .pre .1)
+returns-3 c = let s = c .before .before .before .before .before .before .before .before .before .before .before in (turned-last (stateNet (s .args .l) (s .args .kinds .now) (s .args .a .now) (s .args .b .now)) (s .args .l) (ap (λ (d : Due). linesAfter (stateNet (s .args .l) (s .args .kinds .now) (s .args .a .now) (s .args .b .now)) d (planInHand (stateNet (s .args .l) (s .args .kinds .now) (s .args .a .now) (s .args .b .now)) (s .args .l))) (c .enum-told .given .1)), s .pre .1)
 
 returns-4 : tie.Need-returns-4
-returns-4 c = let s = c .before .before .before .before .before .before .before .before .before .before .before in (turned-last (lentNet (s .args .l) (s .args .kinds .now) (s .args .a .now) (s .args .b .now)) (s .args .l) (ap (λ (d : Due). linesAfter (lentNet (s .args .l) (s .args .kinds .now) (s .args .a .now) (s .args .b .now)) d (planIn (lentNet (s .args .l) (s .args .kinds .now) (s .args .a .now) (s .args .b .now)) (s .args .l))) (c .enum-told2 .given .1)), s .pre .1)
+returns-4 c = let s = c .before .before .before .before .before .before .before .before .before .before .before in (turned-last (stateNet (s .args .l) (s .args .kinds .now) (s .args .a .now) (s .args .b .now)) (s .args .l) (ap (λ (d : Due). linesAfter (stateNet (s .args .l) (s .args .kinds .now) (s .args .a .now) (s .args .b .now)) d (planInHand (stateNet (s .args .l) (s .args .kinds .now) (s .args .a .now) (s .args .b .now)) (s .args .l))) (c .enum-told2 .given .1)), s .pre .1)
 
 returns-5 : tie.Need-returns-5
-returns-5 c = let s = c .before .before .before .before .before .before .before .before .before .before .before in (turned-last (lentNet (s .args .l) (s .args .kinds .now) (s .args .a .now) (s .args .b .now)) (s .args .l) (ap (λ (d : Due). linesAfter (lentNet (s .args .l) (s .args .kinds .now) (s .args .a .now) (s .args .b .now)) d (planIn (lentNet (s .args .l) (s .args .kinds .now) (s .args .a .now) (s .args .b .now)) (s .args .l))) (c .enum-told3 .given .1)), s .pre .1)
+returns-5 c = let s = c .before .before .before .before .before .before .before .before .before .before .before in (turned-last (stateNet (s .args .l) (s .args .kinds .now) (s .args .a .now) (s .args .b .now)) (s .args .l) (ap (λ (d : Due). linesAfter (stateNet (s .args .l) (s .args .kinds .now) (s .args .a .now) (s .args .b .now)) d (planInHand (stateNet (s .args .l) (s .args .kinds .now) (s .args .a .now) (s .args .b .now)) (s .args .l))) (c .enum-told3 .given .1)), s .pre .1)
 
 pub turned-spec : {M : Type 1} → statement M
 turned-spec =

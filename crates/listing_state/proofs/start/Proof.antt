@@ -17,34 +17,34 @@ use Rattle.listing_state.proofs.start.Statement.{statement}
 use Rattle.listing_state.proofs.start.Tie as tie
 
 -- what the reader promises of its answer r
-abbrev Got : tie.After-read-network-rows → ReadAnswer → Type 0
+abbrev Got : tie.After-read-network → ReadAnswer → Type 0
 Got c r =
     let s = c .before .before .before .before .before .before .before .before .before .before .args in
-    let rows = c .read-network-rows .last .1 in
+    let rows = c .read-network .last .1 in
     NetworkRead (take (c .before .before .before .before .before .least .result) (s .file .now)) (s .kinds .now) (s .a .now) (s .b .now) r (rows .0) (rows .1 .0) (rows .1 .1 .0)
 
 -- the counts that it has read
 was-read : (c : tie.After-basins) → Got (c .before .before .before .before .before .before .before .before) (Read (c .basins .given .0 .0) (c .basins .given .0 .1 .0))
-was-read c = subst (Got (c .before .before .before .before .before .before .before .before)) (c .basins .given .1) (c .before .before .before .before .before .before .before .before .read-network-rows .ensures)
+was-read c = subst (Got (c .before .before .before .before .before .before .before .before)) (c .basins .given .1) (c .before .before .before .before .before .before .before .before .read-network .ensures)
 
 -- the rows are as long as that
 long :
     (c : tie.After-known-told2) → let m = c .before .basins .given .0 .1 .0 in
-    let rows = c .before .before .before .before .before .before .before .before .before .read-network-rows .last .1 in
+    let rows = c .before .before .before .before .before .before .before .before .before .read-network .last .1 in
     (m ≤ length (rows .0)) × (m ≤ length (rows .1 .0)) × (m ≤ length (rows .1 .1 .0))
 long c =
     let s = c .before .before .before .before .before .before .before .before .before .before .before .before .before .before .before .before .before .before .before .args in
-    let rows = c .before .before .before .before .before .before .before .before .before .read-network-rows .last .1 in
+    let rows = c .before .before .before .before .before .before .before .before .before .read-network .last .1 in
     rows-long (take (c .before .before .before .before .before .before .before .before .before .before .before .before .before .before .least .result) (s .file .now)) (s .kinds .now) (s .a .now) (s .b .now) (rows .0) (rows .1 .0) (rows .1 .1 .0) _ _ (was-read (c .before))
 
 least-requires : tie.Need-least-requires
 least-requires c κs = search needs
 
-slice-aggregate-read-network-rows : tie.Need-slice-aggregate-read-network-rows
-slice-aggregate-read-network-rows c = sym (length-take-le _ (c .before .before .before .before .before .before .args .file .now) (omega (arith, c .before .least .ensures)))
+slice-aggregate-read-network : tie.Need-slice-aggregate-read-network
+slice-aggregate-read-network c = sym (length-take-le _ (c .before .before .before .before .before .before .args .file .now) (omega (arith, c .before .least .ensures)))
 
-read-network-rows-requires : tie.Need-read-network-rows-requires
-read-network-rows-requires c κs = search needs
+read-network-requires : tie.Need-read-network-requires
+read-network-requires c κs = search needs
 
 enum-known-r : tie.Need-enum-known-r
 enum-known-r c = search needs
@@ -89,7 +89,7 @@ same-length-3 : tie.Need-same-length-3
 same-length-3 c = search needs
 
 returns : tie.Need-returns
-returns c = let k = c .before .before .before .before .before .before .before .before .before .before in let s = k .before .before .before .before .before .before .before .before .before .before .args in let rows = k .read-network-rows .last .1 in start-refused (s .file .now) (s .kinds .now) (s .a .now) (s .b .now) (rows .0) (rows .1 .0) (rows .1 .1 .0) _ (c .refusal-line .result) (first-read (s .file .now) (k .before .before .before .before .before .least .ensures) (subst (Got k) (c .before .before .r .given .1) (k .read-network-rows .ensures))) (c .refusal-line .ensures)
+returns c = let k = c .before .before .before .before .before .before .before .before .before .before in let s = k .before .before .before .before .before .before .before .before .before .before .args in let rows = k .read-network .last .1 in start-refused (s .file .now) (s .kinds .now) (s .a .now) (s .b .now) (rows .0) (rows .1 .0) (rows .1 .1 .0) _ (c .refusal-line .result) (first-read (s .file .now) (k .before .before .before .before .before .least .ensures) (subst (Got k) (c .before .before .r .given .1) (k .read-network .ensures))) (c .refusal-line .ensures)
 
 same-length-4 : tie.Need-same-length-4
 same-length-4 c = search needs
@@ -101,15 +101,15 @@ same-length-6 : tie.Need-same-length-6
 same-length-6 c = search needs
 
 returns-2 : tie.Need-returns-2
-returns-2 c = let k = c .before .before .before .before .before .before .before .before .before .before .before .before .before .before in let s = k .before .before .before .before .before .before .before .before .before .before .args in let rows = k .read-network-rows .last .1 in start-read (s .file .now) (s .kinds .now) (s .a .now) (s .b .now) (rows .0) (rows .1 .0) (rows .1 .1 .0) _ _ (first-read (s .file .now) (k .before .before .before .before .before .least .ensures) (was-read (c .before .before .before .before .before .before))) (c .first-line .result) (bytes-first maxBytes (s .file .now) (bytes-make (s .file .now) (λ i. k .before .before .before .before .before .before .before .before .before .shared-slice-known .given i .fits))) (c .first-line .ensures)
+returns-2 c = let k = c .before .before .before .before .before .before .before .before .before .before .before .before .before .before in let s = k .before .before .before .before .before .before .before .before .before .before .args in let rows = k .read-network .last .1 in start-read (s .file .now) (s .kinds .now) (s .a .now) (s .b .now) (rows .0) (rows .1 .0) (rows .1 .1 .0) _ _ (first-read (s .file .now) (k .before .before .before .before .before .least .ensures) (was-read (c .before .before .before .before .before .before))) (c .first-line .result) (bytes-first maxBytes (s .file .now) (bytes-make (s .file .now) (λ i. k .before .before .before .before .before .before .before .before .before .shared-slice-known .given i .fits))) (c .first-line .ensures)
 
 pub start-spec : {M : Type 1} → statement M
 start-spec =
     tie.close
     (tie.spec
     least-requires
-    slice-aggregate-read-network-rows
-    read-network-rows-requires
+    slice-aggregate-read-network
+    read-network-requires
     enum-known-r
     refusal-line-requires
     enum-known-basins

@@ -15,29 +15,29 @@ use Rattle.netfile_laws.proofs.read_then_write.Statement.{statement}
 use Rattle.netfile_laws.proofs.read_then_write.Tie as tie
 
 -- what the reader promises of its answer r
-abbrev Got : tie.After-read-network-rows → ReadAnswer → Type 0
+abbrev Got : tie.After-read-network → ReadAnswer → Type 0
 Got c r =
     let s = c .before .before .before .before .before .before .before .before .before .args in
-    let rows = c .read-network-rows .last .1 in
+    let rows = c .read-network .last .1 in
     NetworkRead (s .file .now) (s .kinds .now) (s .a .now) (s .b .now) r (rows .0) (rows .1 .0) (rows .1 .1 .0)
 
 -- the counts that it has read
 was-read : (c : tie.After-basins) → Got (c .before .before .before .before .before .before .before .before) (Read (c .basins .given .0 .0) (c .basins .given .0 .1 .0))
-was-read c = subst (Got (c .before .before .before .before .before .before .before .before)) (c .basins .given .1) (c .before .before .before .before .before .before .before .before .read-network-rows .ensures)
+was-read c = subst (Got (c .before .before .before .before .before .before .before .before)) (c .basins .given .1) (c .before .before .before .before .before .before .before .before .read-network .ensures)
 
 -- the rows are as long as that
 long :
     (c : tie.After-known-told2)
     → let m = c .before .basins .given .0 .1 .0 in
-    let rows = c .before .before .before .before .before .before .before .before .before .read-network-rows .last .1 in
+    let rows = c .before .before .before .before .before .before .before .before .before .read-network .last .1 in
     (m ≤ length (rows .0)) × (m ≤ length (rows .1 .0)) × (m ≤ length (rows .1 .1 .0))
 long c =
     let s = c .before .before .before .before .before .before .before .before .before .before .before .before .before .before .before .before .before .before .args in
-    let rows = c .before .before .before .before .before .before .before .before .before .read-network-rows .last .1 in
+    let rows = c .before .before .before .before .before .before .before .before .before .read-network .last .1 in
     rows-long (s .file .now) (s .kinds .now) (s .a .now) (s .b .now) (rows .0) (rows .1 .0) (rows .1 .1 .0) _ _ (was-read (c .before))
 
-read-network-rows-requires : tie.Need-read-network-rows-requires
-read-network-rows-requires c κs = search needs
+read-network-requires : tie.Need-read-network-requires
+read-network-requires c κs = search needs
 
 enum-known-r : tie.Need-enum-known-r
 enum-known-r c = search needs
@@ -45,26 +45,26 @@ enum-known-r c = search needs
 enum-known-basins : tie.Need-enum-known-basins
 enum-known-basins c = search needs
 
-slice-reshare-prefix-write-network-rows : tie.Need-slice-reshare-prefix-write-network-rows
-slice-reshare-prefix-write-network-rows c = long c .0
+slice-reshare-prefix-write-network : tie.Need-slice-reshare-prefix-write-network
+slice-reshare-prefix-write-network c = long c .0
 
-slice-aggregate-write-network-rows : tie.Need-slice-aggregate-write-network-rows
-slice-aggregate-write-network-rows c = sym (length-take-le _ _ (long (c .before) .0))
+slice-aggregate-write-network : tie.Need-slice-aggregate-write-network
+slice-aggregate-write-network c = sym (length-take-le _ _ (long (c .before) .0))
 
-slice-reshare-prefix-write-network-rows-2 : tie.Need-slice-reshare-prefix-write-network-rows-2
-slice-reshare-prefix-write-network-rows-2 c = long (c .before) .1
+slice-reshare-prefix-write-network-2 : tie.Need-slice-reshare-prefix-write-network-2
+slice-reshare-prefix-write-network-2 c = long (c .before) .1
 
-slice-aggregate-write-network-rows-2 : tie.Need-slice-aggregate-write-network-rows-2
-slice-aggregate-write-network-rows-2 c = sym (length-take-le _ _ (long (c .before .before) .1))
+slice-aggregate-write-network-2 : tie.Need-slice-aggregate-write-network-2
+slice-aggregate-write-network-2 c = sym (length-take-le _ _ (long (c .before .before) .1))
 
-slice-reshare-prefix-write-network-rows-3 : tie.Need-slice-reshare-prefix-write-network-rows-3
-slice-reshare-prefix-write-network-rows-3 c = long (c .before .before) .2
+slice-reshare-prefix-write-network-3 : tie.Need-slice-reshare-prefix-write-network-3
+slice-reshare-prefix-write-network-3 c = long (c .before .before) .2
 
-slice-aggregate-write-network-rows-3 : tie.Need-slice-aggregate-write-network-rows-3
-slice-aggregate-write-network-rows-3 c = sym (length-take-le _ _ (long (c .before .before .before) .2))
+slice-aggregate-write-network-3 : tie.Need-slice-aggregate-write-network-3
+slice-aggregate-write-network-3 c = sym (length-take-le _ _ (long (c .before .before .before) .2))
 
-write-network-rows-requires : tie.Need-write-network-rows-requires
-write-network-rows-requires c κs = search needs
+write-network-requires : tie.Need-write-network-requires
+write-network-requires c κs = search needs
 
 same-length : tie.Need-same-length
 same-length c = search needs
@@ -79,9 +79,9 @@ returns : tie.Need-returns
 returns c =
     let s = c .before .before .before .before .before .before .before .before .before .before .before .before .before .before .before .before .before .before .args in
     let k = c .before .before .before .before .before .before .before .before .before in
-    let rows = k .read-network-rows .last .1 in
+    let rows = k .read-network .last .1 in
     trip-unread (s .file .now) (s .kinds .now) (s .a .now) (s .b .now) (rows .0) (rows .1 .0) (rows .1 .1 .0) (s .out .now) _
-    (subst (Got k) (c .before .r .given .1) (k .read-network-rows .ensures))
+    (subst (Got k) (c .before .r .given .1) (k .read-network .ensures))
 
 same-length-4 : tie.Need-same-length-4
 same-length-4 c = search needs
@@ -98,8 +98,8 @@ same-length-7 c = search needs
 returns-2 : tie.Need-returns-2
 returns-2 c =
     let s = c .before .before .before .before .before .before .before .before .before .before .before .before .before .before .before .before .before .before .before .before .before .before .before .before .before .args in
-    let rows = c .before .before .before .before .before .before .before .before .before .before .before .before .before .before .before .before .read-network-rows .last .1 in
-    let written = c .before .before .write-network-rows in
+    let rows = c .before .before .before .before .before .before .before .before .before .before .before .before .before .before .before .before .read-network .last .1 in
+    let written = c .before .before .write-network in
     trip-written (s .file .now) (s .kinds .now) (s .a .now) (s .b .now) (rows .0) (rows .1 .0) (rows .1 .1 .0) _ _ (was-read (c .before .before .before .before .before .before .before .before))
     (bytes-make (s .file .now) (λ i. c .before .before .before .before .before .before .before .before .before .before .before .before .before .before .before .before .before .before .before .before .before .before .before .before .shared-slice-known .given i .fits))
     (s .out .now) (written .result) (written .last .1 .1 .1 .1 .0) (written .ensures)
@@ -108,16 +108,16 @@ pub read-then-write-spec : {M : Type 1} → statement M
 read-then-write-spec =
     tie.close
     (tie.spec
-    read-network-rows-requires
+    read-network-requires
     enum-known-r
     enum-known-basins
-    slice-reshare-prefix-write-network-rows
-    slice-aggregate-write-network-rows
-    slice-reshare-prefix-write-network-rows-2
-    slice-aggregate-write-network-rows-2
-    slice-reshare-prefix-write-network-rows-3
-    slice-aggregate-write-network-rows-3
-    write-network-rows-requires
+    slice-reshare-prefix-write-network
+    slice-aggregate-write-network
+    slice-reshare-prefix-write-network-2
+    slice-aggregate-write-network-2
+    slice-reshare-prefix-write-network-3
+    slice-aggregate-write-network-3
+    write-network-requires
     same-length
     same-length-2
     same-length-3

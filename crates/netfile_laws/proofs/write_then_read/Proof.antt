@@ -19,22 +19,22 @@ abbrev net : tie.Start → Network
 net c = let s = c .args in netOf (s .basins) (s .kinds .now) (s .a .now) (s .b .now)
 
 -- what the writer promises of its answer r
-abbrev Wrote : tie.After-write-network-rows → WriteAnswer → Type 0
-Wrote c r = let s = c .before .before .before .before .before .before .before .before .before in NetworkWritten (net s) (s .args .out .now) r (c .write-network-rows .last .1 .1 .1 .1 .0)
+abbrev Wrote : tie.After-write-network → WriteAnswer → Type 0
+Wrote c r = let s = c .before .before .before .before .before .before .before .before .before in NetworkWritten (net s) (s .args .out .now) r (c .write-network .last .1 .1 .1 .1 .0)
 
 -- the length that it has written
 wrote : (c : tie.After-n) → Wrote (c .before .before .before .before) (Written (c .n .given .0 .0))
-wrote c = subst (Wrote (c .before .before .before .before)) (c .n .given .1) (c .before .before .before .before .write-network-rows .ensures)
+wrote c = subst (Wrote (c .before .before .before .before)) (c .n .given .1) (c .before .before .before .before .write-network .ensures)
 
 -- the buffer is as long as that
-fits : (c : tie.After-known-told2) → c .before .n .given .0 .0 ≤ length (c .before .before .before .before .before .write-network-rows .last .1 .1 .1 .1 .0)
+fits : (c : tie.After-known-told2) → c .before .n .given .0 .0 ≤ length (c .before .before .before .before .before .write-network .last .1 .1 .1 .1 .0)
 fits c =
     let s = c .before .before .before .before .before .before .before .before .before .before .before .before .before .before in
     trip-fits (net s) (s .args .out .now) (s .args .kinds2 .now) (s .args .a2 .now) (s .args .b2 .now)
-    (c .before .before .before .before .before .write-network-rows .last .1 .1 .1 .1 .0) _ (wrote (c .before))
+    (c .before .before .before .before .before .write-network .last .1 .1 .1 .1 .0) _ (wrote (c .before))
 
-write-network-rows-requires : tie.Need-write-network-rows-requires
-write-network-rows-requires c κs = search needs
+write-network-requires : tie.Need-write-network-requires
+write-network-requires c κs = search needs
 
 enum-known-r : tie.Need-enum-known-r
 enum-known-r c = search needs
@@ -42,14 +42,14 @@ enum-known-r c = search needs
 enum-known-n : tie.Need-enum-known-n
 enum-known-n c = search needs
 
-slice-reshare-prefix-read-network-rows : tie.Need-slice-reshare-prefix-read-network-rows
-slice-reshare-prefix-read-network-rows c = fits c
+slice-reshare-prefix-read-network : tie.Need-slice-reshare-prefix-read-network
+slice-reshare-prefix-read-network c = fits c
 
-slice-aggregate-read-network-rows : tie.Need-slice-aggregate-read-network-rows
-slice-aggregate-read-network-rows c = sym (length-take-le _ _ (fits (c .before)))
+slice-aggregate-read-network : tie.Need-slice-aggregate-read-network
+slice-aggregate-read-network c = sym (length-take-le _ _ (fits (c .before)))
 
-read-network-rows-requires : tie.Need-read-network-rows-requires
-read-network-rows-requires c κs = search needs
+read-network-requires : tie.Need-read-network-requires
+read-network-requires c κs = search needs
 
 same-length : tie.Need-same-length
 same-length c = search needs
@@ -58,8 +58,8 @@ returns : tie.Need-returns
 returns c =
     let s = c .before .before .before .before .before .before .before .before .before .before .before .before .before .before in
     let k = c .before .before .before .before .before in
-    trip-refused (net s) (s .args .out .now) (s .args .kinds2 .now) (s .args .a2 .now) (s .args .b2 .now) (k .write-network-rows .last .1 .1 .1 .1 .0) _
-    (subst (Wrote k) (c .before .r .given .1) (k .write-network-rows .ensures))
+    trip-refused (net s) (s .args .out .now) (s .args .kinds2 .now) (s .args .a2 .now) (s .args .b2 .now) (k .write-network .last .1 .1 .1 .1 .0) _
+    (subst (Wrote k) (c .before .r .given .1) (k .write-network .ensures))
 
 same-length-2 : tie.Need-same-length-2
 same-length-2 c = search needs
@@ -76,21 +76,21 @@ same-length-5 c = search needs
 returns-2 : tie.Need-returns-2
 returns-2 c =
     let s = c .before .before .before .before .before .before .before .before .before .before .before .before .before .before .before .before .before .before .before .before .before .before .before .before .before in
-    let again = c .before .before .before .before .before .before .read-network-rows in
+    let again = c .before .before .before .before .before .before .read-network in
     let rows = again .last .1 in
     trip-read (net s) (s .args .out .now) (s .args .kinds2 .now) (s .args .a2 .now) (s .args .b2 .now)
-    (c .before .before .before .before .before .before .before .before .before .before .before .before .before .before .before .before .write-network-rows .last .1 .1 .1 .1 .0) _ (wrote (c .before .before .before .before .before .before .before .before .before .before .before .before)) (again .result) (rows .0) (rows .1 .0) (rows .1 .1 .0) (again .ensures)
+    (c .before .before .before .before .before .before .before .before .before .before .before .before .before .before .before .before .write-network .last .1 .1 .1 .1 .0) _ (wrote (c .before .before .before .before .before .before .before .before .before .before .before .before)) (again .result) (rows .0) (rows .1 .0) (rows .1 .1 .0) (again .ensures)
 
 pub write-then-read-spec : {M : Type 1} → statement M
 write-then-read-spec =
     tie.close
     (tie.spec
-    write-network-rows-requires
+    write-network-requires
     enum-known-r
     enum-known-n
-    slice-reshare-prefix-read-network-rows
-    slice-aggregate-read-network-rows
-    read-network-rows-requires
+    slice-reshare-prefix-read-network
+    slice-aggregate-read-network
+    read-network-requires
     same-length
     returns
     same-length-2

@@ -4,7 +4,7 @@ use Prim.Native.Nat.{ℕ, _<_}
 use native.Mathlib.Omega.{arith}
 use mathlib.Core.Path.{ap₂, subst⁻¹, _∙_}
 use borrow.Author.Needs.{needs}
-use Rattle.network.specs.Hangings.{reached}
+use Rattle.network.specs.Orientations.{reached}
 use Rattle.half_edges.specs.Ends.{arcsOf}
 use Rattle.orienting.proofs.Readies.{searchable, pick-below}
 use Rattle.orienting.proofs.leads_round.Statement.{statement}

@@ -6,11 +6,11 @@ use borrow.Author.Needs.{needs}
 use Rattle.planner_laws.proofs.next_of_two.Statement.{statement}
 use Rattle.planner_laws.proofs.next_of_two.Tie as tie
 
-next-plan-rows-requires : tie.Need-next-plan-rows-requires
-next-plan-rows-requires c κs = search needs
+next-plan-requires : tie.Need-next-plan-requires
+next-plan-requires c κs = search needs
 
-next-plan-rows-requires-2 : tie.Need-next-plan-rows-requires-2
-next-plan-rows-requires-2 c κs = search needs
+next-plan-requires-2 : tie.Need-next-plan-requires-2
+next-plan-requires-2 c κs = search needs
 
 same-length : tie.Need-same-length
 same-length c = search needs
@@ -28,15 +28,15 @@ returns : tie.Need-returns
 returns c = let s = (c .before .before .before .before .before .before .before .before .before .before .before .before .before .before .before .before .before .before .before .before .before .before .before) in
     λ asked-s asked-t.
     demand-three (netOf (s .args .basins) (s .args .kinds .now) (s .args .a .now) (s .args .b .now)) (s .args .s .now) (s .args .t .now) (asked-s .accepted) (asked-s .fits) (asked-t .fits)
-    (next-read (netOf (s .args .basins) (s .args .kinds .now) (s .args .a .now) (s .args .b .now)) (s .args .s .now) (s .args .plan1 .now) (s .args .marks1 .now) asked-s ((c .before .before .before .before .before .before .before .before .before .before .before) .next-plan-rows .ensures))
-    (next-read (netOf (s .args .basins) (s .args .kinds .now) (s .args .a .now) (s .args .b .now)) (s .args .t .now) (s .args .plan2 .now) (s .args .marks2 .now) asked-t ((c .before .before .before .before) .next-plan-rows2 .ensures))
+    (next-read (netOf (s .args .basins) (s .args .kinds .now) (s .args .a .now) (s .args .b .now)) (s .args .s .now) (s .args .plan1 .now) (s .args .marks1 .now) asked-s ((c .before .before .before .before .before .before .before .before .before .before .before) .next-plan .ensures))
+    (next-read (netOf (s .args .basins) (s .args .kinds .now) (s .args .a .now) (s .args .b .now)) (s .args .t .now) (s .args .plan2 .now) (s .args .marks2 .now) asked-t ((c .before .before .before .before) .next-plan2 .ensures))
 
 pub next-of-two-spec : {M : Type 1} → statement M
 next-of-two-spec =
     tie.close
     (tie.spec
-    next-plan-rows-requires
-    next-plan-rows-requires-2
+    next-plan-requires
+    next-plan-requires-2
     same-length
     same-length-2
     same-length-3

@@ -8,14 +8,14 @@ use borrow.Author.Needs.{needs}
 use Rattle.planning.proofs.check_in.Statement.{statement}
 use Rattle.planning.proofs.check_in.Tie as tie
 
-slice-relend-prefix-strong-under : tie.Need-slice-relend-prefix-strong-under
-slice-relend-prefix-strong-under c = omega (arith, level-few ((c .before .before .before .before .before .before .before .before .before) .pre .0), (c .before .before .before .before .before .before .before .before .before) .pre .1 .ways-space)
+slice-relend-prefix-strongly-connected-under : tie.Need-slice-relend-prefix-strongly-connected-under
+slice-relend-prefix-strongly-connected-under c = omega (arith, level-few ((c .before .before .before .before .before .before .before .before .before) .pre .0), (c .before .before .before .before .before .before .before .before .before) .pre .1 .ways-space)
 
-slice-aggregate-strong-under : tie.Need-slice-aggregate-strong-under
-slice-aggregate-strong-under c = let s = (c .before .before .before .before .before .before .before .before .before .before) in sym (length-take-le _ (s .args .ways .now) (omega (arith, level-few (s .pre .0), s .pre .1 .ways-space)))
+slice-aggregate-strongly-connected-under : tie.Need-slice-aggregate-strongly-connected-under
+slice-aggregate-strongly-connected-under c = let s = (c .before .before .before .before .before .before .before .before .before .before) in sym (length-take-le _ (s .args .ways .now) (omega (arith, level-few (s .pre .0), s .pre .1 .ways-space)))
 
-strong-under-requires : tie.Need-strong-under-requires
-strong-under-requires c κs = let s = (c .before .before .before .before .before .before .before .before .before .before .before .before .before .before) in level-room (s .pre .0) (s .pre .1)
+strongly-connected-under-requires : tie.Need-strongly-connected-under-requires
+strongly-connected-under-requires c κs = let s = (c .before .before .before .before .before .before .before .before .before .before .before .before .before .before) in level-room (s .pre .0) (s .pre .1)
 
 same-length : tie.Need-same-length
 same-length c = search needs
@@ -39,9 +39,9 @@ pub check-in-spec : {M : Type 1} → statement M
 check-in-spec =
     tie.close
     (tie.spec
-    slice-relend-prefix-strong-under
-    slice-aggregate-strong-under
-    strong-under-requires
+    slice-relend-prefix-strongly-connected-under
+    slice-aggregate-strongly-connected-under
+    strongly-connected-under-requires
     same-length
     same-length-2
     same-length-3

@@ -10,11 +10,11 @@ use borrow.Author.Needs.{needs}
 use Rattle.planning.proofs.first_in.Statement.{statement}
 use Rattle.planning.proofs.first_in.Tie as tie
 
-slice-relend-prefix-hung : tie.Need-slice-relend-prefix-hung
-slice-relend-prefix-hung c = omega (arith, level-few ((c .before .before .before .before .before .before .before .before .before .before) .pre .0 .level), (c .before .before .before .before .before .before .before .before .before .before) .pre .1 .ways-space)
+slice-relend-prefix-oriented : tie.Need-slice-relend-prefix-oriented
+slice-relend-prefix-oriented c = omega (arith, level-few ((c .before .before .before .before .before .before .before .before .before .before) .pre .0 .level), (c .before .before .before .before .before .before .before .before .before .before) .pre .1 .ways-space)
 
-slice-aggregate-hung : tie.Need-slice-aggregate-hung
-slice-aggregate-hung c = let s = (c .before .before .before .before .before .before .before .before .before .before .before) in sym (length-take-le _ (s .args .ways .now) (omega (arith, level-few (s .pre .0 .level), s .pre .1 .ways-space)))
+slice-aggregate-oriented : tie.Need-slice-aggregate-oriented
+slice-aggregate-oriented c = let s = (c .before .before .before .before .before .before .before .before .before .before .before) in sym (length-take-le _ (s .args .ways .now) (omega (arith, level-few (s .pre .0 .level), s .pre .1 .ways-space)))
 
 find-first-requires : tie.Need-find-first-requires
 find-first-requires c κs = let s = (c .before .before .before .before .before .before .before .before .before .before .before .before .before .before .before .before) in level-room (s .pre .0 .level) (s .pre .1)
@@ -64,8 +64,8 @@ pub first-in-spec : {M : Type 1} → statement M
 first-in-spec =
     tie.close
     (tie.spec
-    slice-relend-prefix-hung
-    slice-aggregate-hung
+    slice-relend-prefix-oriented
+    slice-aggregate-oriented
     find-first-requires
     report-requires
     same-length

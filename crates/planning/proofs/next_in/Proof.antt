@@ -11,11 +11,11 @@ use borrow.Author.Needs.{needs}
 use Rattle.planning.proofs.next_in.Statement.{statement}
 use Rattle.planning.proofs.next_in.Tie as tie
 
-slice-relend-prefix-hung : tie.Need-slice-relend-prefix-hung
-slice-relend-prefix-hung c = let s = (c .before .before .before .before .before .before .before .before .before .before .before .before) in omega (arith, level-few (s .pre .0 .level), s .pre .1 .1 .0 .ways-space)
+slice-relend-prefix-oriented : tie.Need-slice-relend-prefix-oriented
+slice-relend-prefix-oriented c = let s = (c .before .before .before .before .before .before .before .before .before .before .before .before) in omega (arith, level-few (s .pre .0 .level), s .pre .1 .1 .0 .ways-space)
 
-slice-aggregate-hung : tie.Need-slice-aggregate-hung
-slice-aggregate-hung c = let s = (c .before .before .before .before .before .before .before .before .before .before .before .before .before) in sym (length-take-le _ (s .args .ways .now) (omega (arith, level-few (s .pre .0 .level), s .pre .1 .1 .0 .ways-space)))
+slice-aggregate-oriented : tie.Need-slice-aggregate-oriented
+slice-aggregate-oriented c = let s = (c .before .before .before .before .before .before .before .before .before .before .before .before .before) in sym (length-take-le _ (s .args .ways .now) (omega (arith, level-few (s .pre .0 .level), s .pre .1 .1 .0 .ways-space)))
 
 slice-relend-prefix-find-next : tie.Need-slice-relend-prefix-find-next
 slice-relend-prefix-find-next c = let s = (c .before .before .before .before .before .before .before .before .before .before .before .before .before) in omega (arith, level-few (s .pre .0 .level), s .pre .1 .1 .1)
@@ -106,8 +106,8 @@ pub next-in-spec : {M : Type 1} → statement M
 next-in-spec =
     tie.close
     (tie.spec
-    slice-relend-prefix-hung
-    slice-aggregate-hung
+    slice-relend-prefix-oriented
+    slice-aggregate-oriented
     slice-relend-prefix-find-next
     slice-aggregate-find-next
     find-next-requires

@@ -8,16 +8,16 @@ use Rattle.seeking.proofs.Seeks.{closed-next, bridge-next, other-follow
 use Rattle.seeking.proofs.next_of_other.Statement.{statement}
 use Rattle.seeking.proofs.next_of_other.Tie as tie
 
-slice-aggregate-hang : tie.Need-slice-aggregate-hang
-slice-aggregate-hang c = search needs
+slice-aggregate-orient : tie.Need-slice-aggregate-orient
+slice-aggregate-orient c = search needs
 
-hang-requires : tie.Need-hang-requires
-hang-requires c κs = c .before .before .before .before .before .before .before .before .before .before .before .pre .1 .ways-room
+orient-requires : tie.Need-orient-requires
+orient-requires c κs = c .before .before .before .before .before .before .before .before .before .before .before .pre .1 .ways-room
 
 first-from-requires : tie.Need-first-from-requires
 first-from-requires c κs =
     let s = c .before .before .before .before .before .before .before .before .before .before .before .before .before .before .before .before .before in
-    let h = c .before .before .before .before .before .hang in
+    let h = c .before .before .before .before .before .orient in
     (ready-ways _ (s .pre .0) (h .kept .1 .1 .0), record { level = s .pre .1 .seeking .level; unoriented = h .ensures })
 
 enum-told : tie.Need-enum-told
@@ -33,7 +33,7 @@ follow-and-part-requires : tie.Need-follow-and-part-requires
 follow-and-part-requires c κs =
     let s = c .before .before .before .before .before .before .before .before .before .before .before .before .before .before .before .before .before .before .before .before .before .before .before .before .before .before .before .before .before in
     let f = c .before .before .before .before .before .before .before .before .before .before .before .first-from in
-    let e = f .kept .1 .1 .1 .1 .0 ∙ c .before .before .before .before .before .before .before .before .before .before .before .before .before .before .before .before .before .hang .kept .1 .1 .0 in (
+    let e = f .kept .1 .1 .1 .1 .0 ∙ c .before .before .before .before .before .before .before .before .before .before .before .before .before .before .before .before .before .orient .kept .1 .1 .0 in (
       ready-notes _ _ (ready-ways _ (s .pre .0) e) (f .kept .1 .1 .1 .1 .1 .1 .1 .0) (f .kept .1 .1 .1 .1 .1 .1 .1 .1 .0),
       other-followable (s .args .n) (s .args .kinds .now) (s .args .a .now) (s .args .b .now) (s .pre .1) e (c .before .before .before .enum-told2 .given .1) (f .ensures),
     )
@@ -78,8 +78,8 @@ pub next-of-other-spec : {M : Type 1} → statement M
 next-of-other-spec =
     tie.close
     (tie.spec
-    slice-aggregate-hang
-    hang-requires
+    slice-aggregate-orient
+    orient-requires
     first-from-requires
     enum-told
     enum-known-r

@@ -6,12 +6,12 @@ use borrow.Author.Needs.{needs}
 use Rattle.seeking.proofs.next_of_plan.Statement.{statement}
 use Rattle.seeking.proofs.next_of_plan.Tie as tie
 
-hang-requires : tie.Need-hang-requires
-hang-requires c κs = search needs
+orient-requires : tie.Need-orient-requires
+orient-requires c κs = search needs
 
 part-from-requires : tie.Need-part-from-requires
 part-from-requires c κs = let s = (c .before .before .before .before .before .before .before .before .before .before .before .before .before .before .before .before .before) in
-    let h = (c .before .before .before .before .before) .hang in
+    let h = (c .before .before .before .before .before) .orient in
     (ready-ways _ (s .pre .0) (h .kept .1 .1 .0), plan-partable (s .args .n) (s .args .kinds .now) (s .args .a .now) (s .args .b .now) (s .pre .1) (h .ensures))
 
 same-length : tie.Need-same-length
@@ -25,9 +25,9 @@ same-length-3 c = search needs
 
 returns : tie.Need-returns
 returns c = let s = (c .before .before .before .before .before .before .before .before .before .before .before .before .before .before .before .before .before .before .before .before .before .before .before .before) in
-    plan-found (s .args .n) (s .args .kinds .now) (s .args .a .now) (s .args .b .now) (s .pre .1) ((c .before .before .before .before .before .before .before .before .before .before .before .before) .hang .ensures) ((c .before .before .before .before .before .before) .part-from .ensures)
+    plan-found (s .args .n) (s .args .kinds .now) (s .args .a .now) (s .args .b .now) (s .pre .1) ((c .before .before .before .before .before .before .before .before .before .before .before .before) .orient .ensures) ((c .before .before .before .before .before .before) .part-from .ensures)
 
 pub next-of-plan-spec : {M : Type 1} → statement M
 next-of-plan-spec =
     tie.close
-    (tie.spec hang-requires part-from-requires same-length same-length-2 same-length-3 returns)
+    (tie.spec orient-requires part-from-requires same-length same-length-2 same-length-3 returns)

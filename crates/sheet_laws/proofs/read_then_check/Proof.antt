@@ -5,9 +5,9 @@ use lib.Seq.{length-take-le}
 use borrow.Author.Needs.{needs}
 use Rattle.network.specs.Networks.{Network}
 use Rattle.tables.specs.Rows.{netOf}
-use Rattle.sheetfile.specs.declared.SheetAnswer.{SheetAnswer}
-use Rattle.sheetfile.specs.declared.SheetAnswer.the-variants.{Read}
-use Rattle.sheetfile.specs.Answers.{SheetRead}
+use Rattle.sheet_format.specs.declared.SheetAnswer.{SheetAnswer}
+use Rattle.sheet_format.specs.declared.SheetAnswer.the-variants.{Read}
+use Rattle.sheet_format.specs.Answers.{SheetRead}
 use Rattle.sheet_laws.proofs.RoundTrips.{read-fits, trip-unchecked, trip-checked}
 use Rattle.sheet_laws.proofs.read_then_check.Statement.{statement}
 use Rattle.sheet_laws.proofs.read_then_check.Tie as tie
@@ -17,16 +17,16 @@ abbrev net : tie.Start → Network
 net c = let s = c .args in netOf (s .basins) (s .kinds .now) (s .a .now) (s .b .now)
 
 -- what the reader promises of its answer r, and where it has read a count
-abbrev GotAs : tie.After-read-sheet-rows → SheetAnswer → Type 0
+abbrev GotAs : tie.After-read-sheet → SheetAnswer → Type 0
 GotAs c r =
     let s = c .before .before .before .before .before .before .before in
-    SheetRead (net s) (s .args .sheet .now) (s .args .setting .now) r (c .read-sheet-rows .last .1 .1 .1 .1 .1 .0)
+    SheetRead (net s) (s .args .sheet .now) (s .args .setting .now) r (c .read-sheet .last .1 .1 .1 .1 .1 .0)
 
 was-read : (c : tie.After-n) → GotAs (c .before .before .before .before) (Read (c .n .given .0 .0))
-was-read c = subst (GotAs (c .before .before .before .before)) (c .n .given .1) (c .before .before .before .before .read-sheet-rows .ensures)
+was-read c = subst (GotAs (c .before .before .before .before)) (c .n .given .1) (c .before .before .before .before .read-sheet .ensures)
 
-read-sheet-rows-requires : tie.Need-read-sheet-rows-requires
-read-sheet-rows-requires c κs = search needs
+read-sheet-requires : tie.Need-read-sheet-requires
+read-sheet-requires c κs = search needs
 
 enum-known-r : tie.Need-enum-known-r
 enum-known-r c = search needs
@@ -34,20 +34,20 @@ enum-known-r c = search needs
 enum-known-n : tie.Need-enum-known-n
 enum-known-n c = search needs
 
-slice-reshare-prefix-check-rows : tie.Need-slice-reshare-prefix-check-rows
-slice-reshare-prefix-check-rows c =
+slice-reshare-prefix-check : tie.Need-slice-reshare-prefix-check
+slice-reshare-prefix-check c =
     let s = c .before .before .before .before .before .before .before .before .before .before .before .before in
-    read-fits (net s) (s .args .sheet .now) (s .args .setting .now) (c .before .before .before .before .before .read-sheet-rows .last .1 .1 .1 .1 .1 .0) _ (was-read (c .before))
+    read-fits (net s) (s .args .sheet .now) (s .args .setting .now) (c .before .before .before .before .before .read-sheet .last .1 .1 .1 .1 .1 .0) _ (was-read (c .before))
 
-slice-aggregate-check-rows : tie.Need-slice-aggregate-check-rows
-slice-aggregate-check-rows c =
+slice-aggregate-check : tie.Need-slice-aggregate-check
+slice-aggregate-check c =
     let s = c .before .before .before .before .before .before .before .before .before .before .before .before .before in
     sym
     (length-take-le _ _
-    (read-fits (net s) (s .args .sheet .now) (s .args .setting .now) (c .before .before .before .before .before .before .read-sheet-rows .last .1 .1 .1 .1 .1 .0) _ (was-read (c .before .before))))
+    (read-fits (net s) (s .args .sheet .now) (s .args .setting .now) (c .before .before .before .before .before .before .read-sheet .last .1 .1 .1 .1 .1 .0) _ (was-read (c .before .before))))
 
-check-rows-requires : tie.Need-check-rows-requires
-check-rows-requires c κs = search needs
+check-requires : tie.Need-check-requires
+check-requires c κs = search needs
 
 same-length : tie.Need-same-length
 same-length c = search needs
@@ -56,8 +56,8 @@ returns : tie.Need-returns
 returns c =
     let s = c .before .before .before .before .before .before .before .before .before .before .before .before in
     let k = c .before .before .before .before .before in
-    trip-unchecked (net s) (s .args .sheet .now) (s .args .setting .now) (k .read-sheet-rows .last .1 .1 .1 .1 .1 .0) _
-    (subst (GotAs k) (c .before .r .given .1) (k .read-sheet-rows .ensures))
+    trip-unchecked (net s) (s .args .sheet .now) (s .args .setting .now) (k .read-sheet .last .1 .1 .1 .1 .1 .0) _
+    (subst (GotAs k) (c .before .r .given .1) (k .read-sheet .ensures))
 
 same-length-2 : tie.Need-same-length-2
 same-length-2 c = search needs
@@ -65,18 +65,18 @@ same-length-2 c = search needs
 returns-2 : tie.Need-returns-2
 returns-2 c =
     let s = c .before .before .before .before .before .before .before .before .before .before .before .before .before .before in
-    trip-checked (net s) (s .args .sheet .now) (s .args .setting .now) (c .before .before .before .before .before .before .before .read-sheet-rows .last .1 .1 .1 .1 .1 .0) _ (was-read (c .before .before .before)) (c .check-rows .result) (c .check-rows .ensures)
+    trip-checked (net s) (s .args .sheet .now) (s .args .setting .now) (c .before .before .before .before .before .before .before .read-sheet .last .1 .1 .1 .1 .1 .0) _ (was-read (c .before .before .before)) (c .check .result) (c .check .ensures)
 
 pub read-then-check-spec : {M : Type 1} → statement M
 read-then-check-spec =
     tie.close
     (tie.spec
-    read-sheet-rows-requires
+    read-sheet-requires
     enum-known-r
     enum-known-n
-    slice-reshare-prefix-check-rows
-    slice-aggregate-check-rows
-    check-rows-requires
+    slice-reshare-prefix-check
+    slice-aggregate-check
+    check-requires
     same-length
     returns
     same-length-2

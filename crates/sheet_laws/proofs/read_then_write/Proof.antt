@@ -6,9 +6,9 @@ use borrow.Author.Needs.{needs}
 use Rattle.network.specs.Networks.{Network}
 use Rattle.tables.specs.Rows.{netOf}
 use Rattle.file_records.proofs.Records.{bytes-make}
-use Rattle.sheetfile.specs.declared.SheetAnswer.{SheetAnswer}
-use Rattle.sheetfile.specs.declared.SheetAnswer.the-variants.{Read}
-use Rattle.sheetfile.specs.Answers.{SheetRead}
+use Rattle.sheet_format.specs.declared.SheetAnswer.{SheetAnswer}
+use Rattle.sheet_format.specs.declared.SheetAnswer.the-variants.{Read}
+use Rattle.sheet_format.specs.Answers.{SheetRead}
 use Rattle.sheet_laws.proofs.RoundTrips.{read-fits, trip-unread, trip-written}
 use Rattle.sheet_laws.proofs.read_then_write.Statement.{statement}
 use Rattle.sheet_laws.proofs.read_then_write.Tie as tie
@@ -18,16 +18,16 @@ abbrev net : tie.Start → Network
 net c = let s = c .args in netOf (s .basins) (s .kinds .now) (s .a .now) (s .b .now)
 
 -- what the reader promises of its answer r, and where it has read a count
-abbrev GotAs : tie.After-read-sheet-rows → SheetAnswer → Type 0
+abbrev GotAs : tie.After-read-sheet → SheetAnswer → Type 0
 GotAs c r =
     let s = c .before .before .before .before .before .before .before .before in
-    SheetRead (net s) (s .args .sheet .now) (s .args .setting .now) r (c .read-sheet-rows .last .1 .1 .1 .1 .1 .0)
+    SheetRead (net s) (s .args .sheet .now) (s .args .setting .now) r (c .read-sheet .last .1 .1 .1 .1 .1 .0)
 
 was-read : (c : tie.After-n) → GotAs (c .before .before .before .before) (Read (c .n .given .0 .0))
-was-read c = subst (GotAs (c .before .before .before .before)) (c .n .given .1) (c .before .before .before .before .read-sheet-rows .ensures)
+was-read c = subst (GotAs (c .before .before .before .before)) (c .n .given .1) (c .before .before .before .before .read-sheet .ensures)
 
-read-sheet-rows-requires : tie.Need-read-sheet-rows-requires
-read-sheet-rows-requires c κs = search needs
+read-sheet-requires : tie.Need-read-sheet-requires
+read-sheet-requires c κs = search needs
 
 enum-known-r : tie.Need-enum-known-r
 enum-known-r c = search needs
@@ -35,20 +35,20 @@ enum-known-r c = search needs
 enum-known-n : tie.Need-enum-known-n
 enum-known-n c = search needs
 
-slice-reshare-prefix-write-sheet-rows : tie.Need-slice-reshare-prefix-write-sheet-rows
-slice-reshare-prefix-write-sheet-rows c =
+slice-reshare-prefix-write-sheet : tie.Need-slice-reshare-prefix-write-sheet
+slice-reshare-prefix-write-sheet c =
     let s = c .before .before .before .before .before .before .before .before .before .before .before .before .before in
-    read-fits (net s) (s .args .sheet .now) (s .args .setting .now) (c .before .before .before .before .before .read-sheet-rows .last .1 .1 .1 .1 .1 .0) _ (was-read (c .before))
+    read-fits (net s) (s .args .sheet .now) (s .args .setting .now) (c .before .before .before .before .before .read-sheet .last .1 .1 .1 .1 .1 .0) _ (was-read (c .before))
 
-slice-aggregate-write-sheet-rows : tie.Need-slice-aggregate-write-sheet-rows
-slice-aggregate-write-sheet-rows c =
+slice-aggregate-write-sheet : tie.Need-slice-aggregate-write-sheet
+slice-aggregate-write-sheet c =
     let s = c .before .before .before .before .before .before .before .before .before .before .before .before .before .before in
     sym
     (length-take-le _ _
-    (read-fits (net s) (s .args .sheet .now) (s .args .setting .now) (c .before .before .before .before .before .before .read-sheet-rows .last .1 .1 .1 .1 .1 .0) _ (was-read (c .before .before))))
+    (read-fits (net s) (s .args .sheet .now) (s .args .setting .now) (c .before .before .before .before .before .before .read-sheet .last .1 .1 .1 .1 .1 .0) _ (was-read (c .before .before))))
 
-write-sheet-rows-requires : tie.Need-write-sheet-rows-requires
-write-sheet-rows-requires c κs = search needs
+write-sheet-requires : tie.Need-write-sheet-requires
+write-sheet-requires c κs = search needs
 
 same-length : tie.Need-same-length
 same-length c = search needs
@@ -57,8 +57,8 @@ returns : tie.Need-returns
 returns c =
     let s = c .before .before .before .before .before .before .before .before .before .before .before .before .before in
     let k = c .before .before .before .before .before in
-    trip-unread (net s) (s .args .sheet .now) (s .args .setting .now) (k .read-sheet-rows .last .1 .1 .1 .1 .1 .0) (s .args .out .now) _
-    (subst (GotAs k) (c .before .r .given .1) (k .read-sheet-rows .ensures))
+    trip-unread (net s) (s .args .sheet .now) (s .args .setting .now) (k .read-sheet .last .1 .1 .1 .1 .1 .0) (s .args .out .now) _
+    (subst (GotAs k) (c .before .r .given .1) (k .read-sheet .ensures))
 
 same-length-2 : tie.Need-same-length-2
 same-length-2 c = search needs
@@ -69,20 +69,20 @@ same-length-3 c = search needs
 returns-2 : tie.Need-returns-2
 returns-2 c =
     let s = c .before .before .before .before .before .before .before .before .before .before .before .before .before .before .before .before .before .before in
-    let wrote = c .before .before .write-sheet-rows in
-    trip-written (net s) (s .args .sheet .now) (s .args .setting .now) (c .before .before .before .before .before .before .before .before .before .before .read-sheet-rows .last .1 .1 .1 .1 .1 .0) _ (was-read (c .before .before .before .before .before .before))
+    let wrote = c .before .before .write-sheet in
+    trip-written (net s) (s .args .sheet .now) (s .args .setting .now) (c .before .before .before .before .before .before .before .before .before .before .read-sheet .last .1 .1 .1 .1 .1 .0) _ (was-read (c .before .before .before .before .before .before))
     (bytes-make (s .args .sheet .now) (λ i. c .before .before .before .before .before .before .before .before .before .before .before .before .before .before .shared-slice-known4 .given i .fits)) (s .args .out .now) (wrote .result) (wrote .last .1 .1 .1 .1 .1 .0) (wrote .ensures)
 
 pub read-then-write-spec : {M : Type 1} → statement M
 read-then-write-spec =
     tie.close
     (tie.spec
-    read-sheet-rows-requires
+    read-sheet-requires
     enum-known-r
     enum-known-n
-    slice-reshare-prefix-write-sheet-rows
-    slice-aggregate-write-sheet-rows
-    write-sheet-rows-requires
+    slice-reshare-prefix-write-sheet
+    slice-aggregate-write-sheet
+    write-sheet-requires
     same-length
     returns
     same-length-2

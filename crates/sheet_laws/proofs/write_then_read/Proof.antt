@@ -7,7 +7,7 @@ use Rattle.network.specs.Networks.{Network}
 use Rattle.tables.specs.Rows.{netOf}
 use Rattle.file_records.specs.declared.WriteAnswer.{WriteAnswer}
 use Rattle.file_records.specs.declared.WriteAnswer.the-variants.{Written}
-use Rattle.sheetfile.specs.Answers.{SheetWritten}
+use Rattle.sheet_format.specs.Answers.{SheetWritten}
 use Rattle.file_records.proofs.Puts.{written-fits}
 use Rattle.sheet_laws.proofs.RoundTrips.{trip-refused, trip-read}
 use Rattle.sheet_laws.proofs.write_then_read.Statement.{statement}
@@ -18,16 +18,16 @@ abbrev net : tie.Start → Network
 net c = let s = c .args in netOf (s .basins) (s .kinds .now) (s .a .now) (s .b .now)
 
 -- what the writer promises of its answer r, and where it has written a length
-abbrev Wrote : tie.After-write-sheet-rows → WriteAnswer → Type 0
+abbrev Wrote : tie.After-write-sheet → WriteAnswer → Type 0
 Wrote c r =
     let s = c .before .before .before .before .before .before .before .before in
-    SheetWritten (net s) (s .args .setting .now) (s .args .out .now) r (c .write-sheet-rows .last .1 .1 .1 .1 .1 .0)
+    SheetWritten (net s) (s .args .setting .now) (s .args .out .now) r (c .write-sheet .last .1 .1 .1 .1 .1 .0)
 
 wrote : (c : tie.After-n) → Wrote (c .before .before .before .before) (Written (c .n .given .0 .0))
-wrote c = subst (Wrote (c .before .before .before .before)) (c .n .given .1) (c .before .before .before .before .write-sheet-rows .ensures)
+wrote c = subst (Wrote (c .before .before .before .before)) (c .n .given .1) (c .before .before .before .before .write-sheet .ensures)
 
-write-sheet-rows-requires : tie.Need-write-sheet-rows-requires
-write-sheet-rows-requires c κs = search needs
+write-sheet-requires : tie.Need-write-sheet-requires
+write-sheet-requires c κs = search needs
 
 enum-known-r : tie.Need-enum-known-r
 enum-known-r c = search needs
@@ -35,14 +35,14 @@ enum-known-r c = search needs
 enum-known-n : tie.Need-enum-known-n
 enum-known-n c = search needs
 
-slice-reshare-prefix-read-sheet-rows : tie.Need-slice-reshare-prefix-read-sheet-rows
-slice-reshare-prefix-read-sheet-rows c = written-fits _ _ _ _ _ (wrote (c .before))
+slice-reshare-prefix-read-sheet : tie.Need-slice-reshare-prefix-read-sheet
+slice-reshare-prefix-read-sheet c = written-fits _ _ _ _ _ (wrote (c .before))
 
-slice-aggregate-read-sheet-rows : tie.Need-slice-aggregate-read-sheet-rows
-slice-aggregate-read-sheet-rows c = sym (length-take-le _ _ (written-fits _ _ _ _ _ (wrote (c .before .before))))
+slice-aggregate-read-sheet : tie.Need-slice-aggregate-read-sheet
+slice-aggregate-read-sheet c = sym (length-take-le _ _ (written-fits _ _ _ _ _ (wrote (c .before .before))))
 
-read-sheet-rows-requires : tie.Need-read-sheet-rows-requires
-read-sheet-rows-requires c κs = search needs
+read-sheet-requires : tie.Need-read-sheet-requires
+read-sheet-requires c κs = search needs
 
 same-length : tie.Need-same-length
 same-length c = search needs
@@ -51,8 +51,8 @@ returns : tie.Need-returns
 returns c =
     let s = c .before .before .before .before .before .before .before .before .before .before .before .before .before in
     let k = c .before .before .before .before .before in
-    trip-refused (net s) (s .args .setting .now) (s .args .out .now) (s .args .again .now) (k .write-sheet-rows .last .1 .1 .1 .1 .1 .0) _
-    (subst (Wrote k) (c .before .r .given .1) (k .write-sheet-rows .ensures))
+    trip-refused (net s) (s .args .setting .now) (s .args .out .now) (s .args .again .now) (k .write-sheet .last .1 .1 .1 .1 .1 .0) _
+    (subst (Wrote k) (c .before .r .given .1) (k .write-sheet .ensures))
 
 same-length-2 : tie.Need-same-length-2
 same-length-2 c = search needs
@@ -63,20 +63,20 @@ same-length-3 c = search needs
 returns-2 : tie.Need-returns-2
 returns-2 c =
     let s = c .before .before .before .before .before .before .before .before .before .before .before .before .before .before .before .before .before .before in
-    let again = c .before .before .read-sheet-rows in
-    trip-read (net s) (s .args .setting .now) (s .args .out .now) (s .args .again .now) (c .before .before .before .before .before .before .before .before .before .before .write-sheet-rows .last .1 .1 .1 .1 .1 .0) _ (wrote (c .before .before .before .before .before .before))
+    let again = c .before .before .read-sheet in
+    trip-read (net s) (s .args .setting .now) (s .args .out .now) (s .args .again .now) (c .before .before .before .before .before .before .before .before .before .before .write-sheet .last .1 .1 .1 .1 .1 .0) _ (wrote (c .before .before .before .before .before .before))
     (again .result) (again .last .1 .1 .1 .1 .1 .0) (again .ensures)
 
 pub write-then-read-spec : {M : Type 1} → statement M
 write-then-read-spec =
     tie.close
     (tie.spec
-    write-sheet-rows-requires
+    write-sheet-requires
     enum-known-r
     enum-known-n
-    slice-reshare-prefix-read-sheet-rows
-    slice-aggregate-read-sheet-rows
-    read-sheet-rows-requires
+    slice-reshare-prefix-read-sheet
+    slice-aggregate-read-sheet
+    read-sheet-requires
     same-length
     returns
     same-length-2

@@ -14,8 +14,8 @@ use Rattle.sheet_plans.proofs.write_reply_in.Tie as tie
 abbrev net : tie.Start → Network
 net c = let s = c .args in netOf (s .basins) (s .kinds .now) (s .a .now) (s .b .now)
 
-first-plan-rows-requires : tie.Need-first-plan-rows-requires
-first-plan-rows-requires c κs = search needs
+first-plan-requires : tie.Need-first-plan-requires
+first-plan-requires c κs = search needs
 
 enum-known-r : tie.Need-enum-known-r
 enum-known-r c = search needs
@@ -29,7 +29,7 @@ enum-told c = search needs
 write-first-requires : tie.Need-write-first-requires
 write-first-requires c κs =
     let s = c .before .before .before .before .before .before .before .before .before .before .before .before .before .before .before .before .before .before .before .before in
-    let first = c .before .before .before .before .before .before .before .before .before .before .before .first-plan-rows in
+    let first = c .before .before .before .before .before .before .before .before .before .before .before .first-plan in
     reply-roomy (net s) (s .args .plan .now) (s .args .marks .now) (s .pre .0) (s .pre .1) (first .last .1 .1 .1 .1 .0) (first .last .1 .1 .1 .1 .1 .0) (first .result) (first .ensures) Plan
     (c .before .before .before .before .before .reply .given .1 ∙ ap (λ v. Given (record { verdict = v })) (c .before .before .enum-told .given .1)) (first .kept .1 .1 .1 .1 .0)
 
@@ -54,7 +54,7 @@ same-length-2 c = search needs
 returns : tie.Need-returns
 returns c =
     let s = c .before .before .before .before .before .before .before .before .before .before .before .before .before .before .before .before in
-    let first = c .before .before .before .before .before .before .before .first-plan-rows in
+    let first = c .before .before .before .before .before .before .before .first-plan in
     reply-refused (net s) (s .args .plan .now) (s .args .marks .now) (s .pre .0) (s .pre .1) (first .last .1 .1 .1 .1 .0) (first .last .1 .1 .1 .1 .1 .0) (first .result) (first .ensures) (s .args .out .now) _
     (c .before .r .given .1)
 
@@ -70,7 +70,7 @@ same-length-5 c = search needs
 returns-2 : tie.Need-returns-2
 returns-2 c =
     let s = c .before .before .before .before .before .before .before .before .before .before .before .before .before .before .before .before .before .before .before .before .before .before .before in
-    let first = c .before .before .before .before .before .before .before .before .before .before .before .before .before .before .first-plan-rows in
+    let first = c .before .before .before .before .before .before .before .before .before .before .before .before .before .before .first-plan in
     let wrote = c .before .before .write-first in
     reply-put (net s) (s .args .plan .now) (s .args .marks .now) (s .pre .0) (s .pre .1) (first .last .1 .1 .1 .1 .0) (first .last .1 .1 .1 .1 .1 .0) (first .result) (first .ensures) Plan
     (c .before .before .before .before .before .before .before .before .reply .given .1 ∙ ap (λ v. Given (record { verdict = v })) (c .before .before .before .before .before .enum-told .given .1)) (s .args .out .now) (wrote .result) (wrote .last .1 .1 .1 .1 .0) (wrote .ensures)
@@ -87,7 +87,7 @@ same-length-8 c = search needs
 returns-3 : tie.Need-returns-3
 returns-3 c =
     let s = c .before .before .before .before .before .before .before .before .before .before .before .before .before .before .before .before .before .before .before .before .before .before .before in
-    let first = c .before .before .before .before .before .before .before .before .before .before .before .before .before .before .first-plan-rows in
+    let first = c .before .before .before .before .before .before .before .before .before .before .before .before .before .before .first-plan in
     let wrote = c .before .before .write-shut-in in
     reply-put (net s) (s .args .plan .now) (s .args .marks .now) (s .pre .0) (s .pre .1) (first .last .1 .1 .1 .1 .0) (first .last .1 .1 .1 .1 .1 .0) (first .result) (first .ensures) _
     (c .before .before .before .before .before .before .before .before .reply .given .1 ∙ ap (λ v. Given (record { verdict = v })) (c .before .before .before .before .before .enum-told2 .given .1)) (s .args .out .now) (wrote .result) (wrote .last .1 .0) (wrote .ensures)
@@ -104,7 +104,7 @@ same-length-11 c = search needs
 returns-4 : tie.Need-returns-4
 returns-4 c =
     let s = c .before .before .before .before .before .before .before .before .before .before .before .before .before .before .before .before .before .before .before .before .before .before .before .before in
-    let first = c .before .before .before .before .before .before .before .before .before .before .before .before .before .before .before .first-plan-rows in
+    let first = c .before .before .before .before .before .before .before .before .before .before .before .before .before .before .before .first-plan in
     let wrote = c .before .before .write-lone in
     reply-put (net s) (s .args .plan .now) (s .args .marks .now) (s .pre .0) (s .pre .1) (first .last .1 .1 .1 .1 .0) (first .last .1 .1 .1 .1 .1 .0) (first .result) (first .ensures) _
     (c .before .before .before .before .before .before .before .before .before .reply .given .1 ∙ ap (λ v. Given (record { verdict = v })) (c .before .before .before .before .before .before .verdict .given .1)) (s .args .out .now) (wrote .result) (wrote .last .1 .1 .0) (wrote .ensures)
@@ -113,7 +113,7 @@ pub write-reply-in-spec : {M : Type 1} → statement M
 write-reply-in-spec =
     tie.close
     (tie.spec
-    first-plan-rows-requires
+    first-plan-requires
     enum-known-r
     enum-known-reply
     enum-told

@@ -5,8 +5,8 @@ use native.Mathlib.Omega.{arith}
 use mathlib.Core.Path.{sym, _∙_}
 use lib.ListN.{length, drop}
 use borrow.Author.Needs.{needs}
-use Rattle.sheetfile.proofs.Steps.{GateStood}
-use Rattle.sheetfile.proofs.Scan.{SheetScanned, scan-start, scan-broken, scan-early, scan-over, scan-end, scan-fits, scan-after, scan-other, scan-room, scan-next}
+use Rattle.sheet_format.proofs.Steps.{GateStood}
+use Rattle.sheet_format.proofs.Scan.{SheetScanned, scan-start, scan-broken, scan-early, scan-over, scan-end, scan-fits, scan-after, scan-other, scan-room, scan-next}
 use Rattle.sheet_reading.proofs.read_gates.Statement.{statement}
 use Rattle.sheet_reading.proofs.read_gates.Tie as tie
 

@@ -5,12 +5,12 @@ use mathlib.Core.Path.{_≡_, refl, sym, _∙_}
 use borrow.Author.Needs.{needs}
 use Rattle.file_records.specs.declared.Taken.the-variants.{Whole}
 use Rattle.file_records.specs.Records.{takeRecord, takenAnswer}
-use Rattle.sheetfile.specs.Readings.{planHeadDue}
-use Rattle.sheetfile.specs.Rows.{gatesRow}
-use Rattle.sheetfile.proofs.Gates.{count-row}
-use Rattle.sheetfile.proofs.Steps.{head-at, head-broken}
-use Rattle.sheetfile.proofs.Scan.{held-refused}
-use Rattle.sheetfile.proofs.Heads.{head-wrong, head-right}
+use Rattle.sheet_format.specs.Readings.{planHeadDue}
+use Rattle.sheet_format.specs.Rows.{gatesRow}
+use Rattle.sheet_format.proofs.Gates.{count-row}
+use Rattle.sheet_format.proofs.Steps.{head-at, head-broken}
+use Rattle.sheet_format.proofs.Scan.{held-refused}
+use Rattle.sheet_format.proofs.Heads.{head-wrong, head-right}
 use Rattle.sheet_reading.proofs.read_records.Statement.{statement}
 use Rattle.sheet_reading.proofs.read_records.Tie as tie
 

@@ -6,12 +6,12 @@ use lib.ListN.{length-set}
 use borrow.Author.Needs.{needs}
 use Rattle.file_records.specs.Records.{twoBytes}
 use Rattle.lists.proofs.Lists.{set-sets-long}
-use Rattle.sheetfile.proofs.Writing.{put-record}
+use Rattle.sheet_format.proofs.Writing.{put-record}
 use Rattle.sheet_writing.proofs.put_gate.Statement.{statement}
 use Rattle.sheet_writing.proofs.put_gate.Tie as tie
 
-hung-kind-requires : tie.Need-hung-kind-requires
-hung-kind-requires c κs = search needs
+gate-kind-requires : tie.Need-gate-kind-requires
+gate-kind-requires c κs = search needs
 
 slice-write-out : tie.Need-slice-write-out
 slice-write-out c = search needs
@@ -26,12 +26,12 @@ same-length : tie.Need-same-length
 same-length c =
     let s = c .before .before .before .before .before .before .args in
     let w = c .before .before .put-word in
-    set-sets-long (s .out .now) (w .last .0) (s .at) (c .before .before .before .before .hung-kind .result) (s .at + 1) (twoBytes (s .reach)) (w .ensures)
+    set-sets-long (s .out .now) (w .last .0) (s .at) (c .before .before .before .before .gate-kind .result) (s .at + 1) (twoBytes (s .reach)) (w .ensures)
 
 returns : tie.Need-returns
 returns c =
     let s = c .before .before .before .before .before .before .args in
-    let kind = c .before .before .before .before .hung-kind in
+    let kind = c .before .before .before .before .gate-kind in
     let w = c .before .before .put-word in
     put-record (s .out .now) (w .last .0) (s .at) (kind .result) (s .reach) (s .byte) (kind .ensures) (w .ensures)
 
@@ -39,7 +39,7 @@ pub put-gate-spec : {M : Type 1} → statement M
 put-gate-spec =
     tie.close
     (tie.spec
-    hung-kind-requires
+    gate-kind-requires
     slice-write-out
     add-put-word
     put-word-requires

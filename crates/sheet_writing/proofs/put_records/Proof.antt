@@ -4,7 +4,7 @@ use Prim.Native.Nat.{_-_, _<_}
 use native.Mathlib.Omega.{arith}
 use mathlib.Core.Path.{_∙_}
 use lib.ListN.{length, length-set}
-use Rattle.sheetfile.proofs.Writing.{Recording, recording-none, gate-there, recording-more, recording-all}
+use Rattle.sheet_format.proofs.Writing.{Recording, recording-none, gate-there, recording-more, recording-all}
 use Rattle.sheet_writing.proofs.put_records.Statement.{statement}
 use Rattle.sheet_writing.proofs.put_records.Tie as tie
 

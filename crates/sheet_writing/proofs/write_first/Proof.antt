@@ -4,7 +4,7 @@ use mathlib.Core.Path.{sym}
 use lib.Seq.{length-take-le}
 use borrow.Author.Needs.{needs}
 use Rattle.tables.proofs.Cuts.{cut-kinds}
-use Rattle.sheetfile.proofs.Puts.{cut-room, cut-plan, cut-first}
+use Rattle.sheet_format.proofs.Puts.{cut-room, cut-plan, cut-first}
 use Rattle.sheet_writing.proofs.write_first.Statement.{statement}
 use Rattle.sheet_writing.proofs.write_first.Tie as tie
 

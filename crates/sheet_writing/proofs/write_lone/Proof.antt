@@ -7,9 +7,9 @@ use mathlib.Core.List.{_∷_}
 use lib.ListN.{length, length-set}
 use borrow.Author.Needs.{needs}
 use Rattle.file_records.specs.Records.{twoBytes}
-use Rattle.sheetfile.specs.Sheets.{loneSheet}
+use Rattle.sheet_format.specs.Sheets.{loneSheet}
 use Rattle.file_records.proofs.Puts.{put-short}
-use Rattle.sheetfile.proofs.Puts.{finding-size, finding-done}
+use Rattle.sheet_format.proofs.Puts.{finding-size, finding-done}
 use Rattle.sheet_writing.proofs.write_lone.Statement.{statement}
 use Rattle.sheet_writing.proofs.write_lone.Tie as tie
 

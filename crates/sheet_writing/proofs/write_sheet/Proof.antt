@@ -5,7 +5,7 @@ use native.Mathlib.Omega.{arith}
 use mathlib.Core.Path.{_≡_}
 use lib.ListN.{length, drop, length-set, length-take, length-drop}
 use borrow.Author.Needs.{needs}
-use Rattle.sheetfile.proofs.Puts.{sheet-few, sheet-short, head-long, sheet-long, sheet-done}
+use Rattle.sheet_format.proofs.Puts.{sheet-few, sheet-short, head-long, sheet-long, sheet-done}
 use Rattle.sheet_writing.proofs.write_sheet.Statement.{statement}
 use Rattle.sheet_writing.proofs.write_sheet.Tie as tie
 

@@ -6,9 +6,9 @@ use mathlib.Core.Path.{_≡_, refl, _∙_}
 use mathlib.Core.List.{[], _∷_}
 use lib.ListN.{length, length-set}
 use borrow.Author.Needs.{needs}
-use Rattle.sheetfile.specs.Sheets.{shutInSheet}
+use Rattle.sheet_format.specs.Sheets.{shutInSheet}
 use Rattle.file_records.proofs.Puts.{put-short}
-use Rattle.sheetfile.proofs.Puts.{finding-size, finding-done}
+use Rattle.sheet_format.proofs.Puts.{finding-size, finding-done}
 use Rattle.sheet_writing.proofs.write_shut_in.Statement.{statement}
 use Rattle.sheet_writing.proofs.write_shut_in.Tie as tie
 

@@ -6,7 +6,7 @@ use native.Mathlib.Omega.{arith}
 use lib.ListN.{length, getD}
 use borrow.Author.Tests.{leb-true, leb-false}
 use Rattle.network.specs.Tables.{tableOf}
-use Rattle.network.specs.Lone.{noReach}
+use Rattle.network.specs.Bridges.{noReach}
 use Rattle.network.proofs.Networks.{endsBelow}
 use Rattle.tables.proofs.Faults.{ends-good, ends-bad}
 use Rattle.tables.proofs.Laws.{table-short}

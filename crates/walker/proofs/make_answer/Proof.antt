@@ -18,7 +18,7 @@ net c = let s = c .args in netOf (s .basins) (s .kinds .now) (s .a .now) (s .b .
 
 -- after the first test the table is accepted
 sound : (c : tie.After-enum-told) → Accepted (net (c .before .before .before .before .before .before .before))
-sound c = answer-accepted (tableFault (net (c .before .before .before .before .before .before .before))) (sym (c .before .before .table-fault .ensures) ∙ c .enum-told .given .1)
+sound c = answer-accepted (tableFault (net (c .before .before .before .before .before .before .before))) (sym (c .before .before .table-check .ensures) ∙ c .enum-told .given .1)
 
 -- the second test is whether the setting fits
 tested : (c : tie.After-fits2) → let s = c .before .before .before .before .before .before .before .before .before .before in isSetting (net s) (s .args .setting .now) ≡ c .fits2 .result
@@ -27,8 +27,8 @@ tested c =
     let m = c .before .before .row-count in
     cut-setting (s .kinds .now) (s .a .now) (s .b .now) (m .result) (m .ensures) (s .basins) (s .setting .now) ∙ sym (c .fits2 .ensures)
 
-table-fault-requires : tie.Need-table-fault-requires
-table-fault-requires c κs = search needs
+table-check-requires : tie.Need-table-check-requires
+table-check-requires c κs = search needs
 
 enum-known-r : tie.Need-enum-known-r
 enum-known-r c = search needs
@@ -36,7 +36,7 @@ enum-known-r c = search needs
 returns : tie.Need-returns
 returns c =
     let s = c .before .before .before .before .before .before .before .before in
-    make-faulty (net s) (s .args .setting .now) (answer-refused (tableFault (net s)) _ (sym (c .before .before .before .table-fault .ensures) ∙ c .before .r .given .1))
+    make-faulty (net s) (s .args .setting .now) (answer-refused (tableFault (net s)) _ (sym (c .before .before .before .table-check .ensures) ∙ c .before .r .given .1))
 
 enum-told : tie.Need-enum-told
 enum-told c = search needs
@@ -67,7 +67,7 @@ pub make-answer-spec : {M : Type 1} → statement M
 make-answer-spec =
     tie.close
     (tie.spec
-    table-fault-requires
+    table-check-requires
     enum-known-r
     returns
     enum-told

@@ -1,6 +1,6 @@
 -- `walker::make_packed` meets its contract: what is promised of the rows, cut to the reaches that they hold, is promised of the table.
 -- Assumes nothing.
-use Rattle.lent.proofs.Packings.{Cut, cut, of-rows}
+use Rattle.packing.proofs.Packings.{Cut, cut, of-rows}
 use Rattle.walker.proofs.Makes.{make-alike}
 use Rattle.walker.proofs.make_packed.Statement.{statement}
 use Rattle.walker.proofs.make_packed.Tie as tie

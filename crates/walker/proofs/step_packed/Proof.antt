@@ -1,7 +1,7 @@
 -- `walker::step_packed` meets its contract: what is promised of the rows, cut to the reaches that they hold, is promised of the table.
 -- Assumes nothing.
 use borrow.Author.Needs.{needs}
-use Rattle.lent.proofs.Packings.{Cut, cut, of-rows}
+use Rattle.packing.proofs.Packings.{Cut, cut, of-rows}
 use Rattle.walker.proofs.Steps.{step-alike}
 use Rattle.walker.proofs.step_packed.Statement.{statement}
 use Rattle.walker.proofs.step_packed.Tie as tie

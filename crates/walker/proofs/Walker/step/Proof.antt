@@ -2,7 +2,7 @@
 -- Assumes nothing.
 use denote.Laws.{Is}
 use denote.Struct.Laws as LL
-use Rattle.lent.proofs.Relays.{refl, ℕ, _<_, _^_, List, [], _∷_, URA, w16, Val, vint, SProp, ent, id⊢, Lft, Share, ftrue, flft, Memory, Routine, Heap, Tables, WpFn, Atoms, fmOf, Fun, factI, givenOf, tables, tablesOf, Given, ‵, _⊛_, _$_, _∵_, !, qed, by, move, join, look-in, stop, from, land, returns, enter, allots, takes-in, within, copies, fills, lends, frees-all, uint-vals, uint-tells, u8, u16, owns, RefT, now, slice-vals, MutSlice, Room, mut-slice-tells, length, named, Fml, Bound, Contract, Triple, entered, cited, Reach, packedOf, Promise, meets, ending, calls-known, Packs, packs-cited, asked, val, table, table-tells, TableRoom, packs}
+use Rattle.packing.proofs.Relays.{refl, ℕ, _<_, _^_, List, [], _∷_, URA, w16, Val, vint, SProp, ent, id⊢, Lft, Share, ftrue, flft, Memory, Routine, Heap, Tables, WpFn, Atoms, fmOf, Fun, factI, givenOf, tables, tablesOf, Given, ‵, _⊛_, _$_, _∵_, !, qed, by, move, join, look-in, stop, from, land, returns, enter, allots, takes-in, within, copies, fills, lends, frees-all, uint-vals, uint-tells, u8, u16, owns, RefT, now, slice-vals, MutSlice, Room, mut-slice-tells, length, named, Fml, Bound, Contract, Triple, entered, cited, Reach, packedOf, Promise, meets, ending, calls-known, Packs, packs-cited, asked, val, table, table-tells, TableRoom, packs}
 use Rattle.walker.specs.declared.Walker.{Walker}
 use Rattle.walker.proofs.Walker as T
 use Rattle.walker.proofs.Walker.Laws as T′
@@ -61,6 +61,6 @@ step-spec 𝓤 H 𝓜 𝓖 𝓡 =
     (meets 𝓤 H (𝓖 .A) f.ended (f.clauses 𝓤 H (𝓖 .A) (𝓜 .mem) (𝓡 .run)) (WpFn 𝓤 H (tables 𝓤 H 𝓜 𝓡 code.env .C) (tables 𝓤 H 𝓜 𝓡 code.env .Λ) code.function)
     (λ κs. (LL.vals T.the-type T′.the-laws, (uint-vals w16, (slice-vals, (slice-vals, (slice-vals, tt))))))
     (λ κs. (LL.tells T.the-type T′.the-laws, (uint-tells w16, (table-tells (κs .0), (mut-slice-tells (named 1) (κs .1 .0) u8, (mut-slice-tells (named 2) (κs .1 .1 .0) u8, tt))))))
-    (λ κs qs bounds a g are. walk 𝓤 H (𝓖 .A) (𝓜 .mem) (𝓡 .run) (givenOf 𝓤 H 𝓜 𝓖) (tablesOf 𝓤 H 𝓜 (tables 𝓤 H 𝓜 𝓡 code.env)) (packs-cited 𝓤 H 𝓜 𝓖 𝓡 code.env code.calls-lent·pack)
+    (λ κs qs bounds a g are. walk 𝓤 H (𝓖 .A) (𝓜 .mem) (𝓡 .run) (givenOf 𝓤 H 𝓜 𝓖) (tablesOf 𝓤 H 𝓜 (tables 𝓤 H 𝓜 𝓡 code.env)) (packs-cited 𝓤 H 𝓜 𝓖 𝓡 code.env code.calls-packing·pack)
     (cited 𝓤 H (Core 𝓤 H (𝓖 .A) (𝓜 .mem) (𝓡 .run)) 𝓜 𝓡 code.env core-def.name core-def.routine code.calls-walker·step-packed (core-thm.met 𝓤 H 𝓜 𝓖 𝓡)) (κs .0) (κs .1 .0) (κs .1 .1 .0) (qs .0) (qs .1 .0) (qs .1 .1 .0) (a .0) (a .1 .0) (a .1 .1 .0) (a .1 .1 .1 .0) (a .1 .1 .1 .1 .0)
     (are .0) (are .1 .0 .1) (are .1 .1 .0 .0 .1) (are .1 .1 .1 .0 .0 .1) (are .1 .1 .1 .1 .0 .0 .1)))

@@ -18,13 +18,13 @@ array-share-prefix-setting c =
     let s = c .before .before .before .before .before .before .before in
     omega (arith, walker-size (s .args .self) (s .good .0))
 
-slice-aggregate-next-plan-rows : tie.Need-slice-aggregate-next-plan-rows
-slice-aggregate-next-plan-rows c =
+slice-aggregate-next-plan : tie.Need-slice-aggregate-next-plan
+slice-aggregate-next-plan c =
     let s = c .before .before .before .before .before .before .before .before in
     sym (length-take-le _ (s .args .self .setting) (omega (arith, walker-size (s .args .self) (s .good .0))))
 
-next-plan-rows-requires : tie.Need-next-plan-rows-requires
-next-plan-rows-requires c κs = search needs
+next-plan-requires : tie.Need-next-plan-requires
+next-plan-requires c κs = search needs
 
 advanced-requires : tie.Need-advanced-requires
 advanced-requires c κs = search needs
@@ -38,7 +38,7 @@ same-length-2 c = search needs
 returns : tie.Need-returns
 returns c =
     let s = c .before .before .before .before .before .before .before .before .before .before .before .before .before .before .before .before .before in
-    step-made (netOf (s .args .basins) (s .args .kinds .now) (s .args .a .now) (s .args .b .now)) (s .args .self .setting) (c .before .before .before .before .before .before .before .before .before .before .gates-held .ensures) (c .before .before .before .before .before .before .next-plan-rows .ensures) (c .advanced .ensures)
+    step-made (netOf (s .args .basins) (s .args .kinds .now) (s .args .a .now) (s .args .b .now)) (s .args .self .setting) (c .before .before .before .before .before .before .before .before .before .before .gates-held .ensures) (c .before .before .before .before .before .before .next-plan .ensures) (c .advanced .ensures)
 
 pub step-rows-spec : {M : Type 1} → statement M
 step-rows-spec =
@@ -46,8 +46,8 @@ step-rows-spec =
     (tie.spec
     gates-held-requires
     array-share-prefix-setting
-    slice-aggregate-next-plan-rows
-    next-plan-rows-requires
+    slice-aggregate-next-plan
+    next-plan-requires
     advanced-requires
     same-length
     same-length-2

@@ -1,2 +1,0 @@
--- Laws of the calls over packed rows.
-pub mod Refusals

@@ -1,0 +1,60 @@
+-- `planner::first_plan_packed` meets its contract: what is promised of the rows, cut to the reaches that they hold, is promised of the table.
+-- Assumes nothing.
+use borrow.Author.Needs.{needs}
+use Rattle.packing.proofs.Packings.{Cut, cut, of-rows}
+use Rattle.planner.proofs.Refusals.{first-alike}
+use Rattle.planner.proofs.first_plan_packed.Statement.{statement}
+use Rattle.planner.proofs.first_plan_packed.Tie as tie
+
+-- the rows are long enough
+long : (c : tie.After-held) → Cut (c .before .before .before .args .p) (c .held .result)
+long c = cut _ _ (c .before .before .before .good .1 .0) (c .held .ensures)
+
+held-requires : tie.Need-held-requires
+held-requires c κs = tt
+
+array-share-prefix-kinds : tie.Need-array-share-prefix-kinds
+array-share-prefix-kinds c = long (c .before .before .before) .kinds .within
+
+slice-aggregate-first-plan : tie.Need-slice-aggregate-first-plan
+slice-aggregate-first-plan c = long (c .before .before .before .before) .kinds .counted
+
+array-share-prefix-a : tie.Need-array-share-prefix-a
+array-share-prefix-a c = long (c .before .before .before .before) .a .within
+
+slice-aggregate-first-plan-2 : tie.Need-slice-aggregate-first-plan-2
+slice-aggregate-first-plan-2 c = long (c .before .before .before .before .before) .a .counted
+
+array-share-prefix-b : tie.Need-array-share-prefix-b
+array-share-prefix-b c = long (c .before .before .before .before .before) .b .within
+
+slice-aggregate-first-plan-3 : tie.Need-slice-aggregate-first-plan-3
+slice-aggregate-first-plan-3 c = long (c .before .before .before .before .before .before) .b .counted
+
+first-plan-requires : tie.Need-first-plan-requires
+first-plan-requires c κs = tt
+
+same-length : tie.Need-same-length
+same-length c = search needs
+
+same-length-2 : tie.Need-same-length-2
+same-length-2 c = search needs
+
+returns : tie.Need-returns
+returns c = of-rows (long (c .before .before .before .before .before .before .before .before .before .before .before .before .before)) (c .before .before .before .before .first-plan .ensures) (first-alike _ _)
+
+pub first-plan-packed-spec : {M : Type 1} → statement M
+first-plan-packed-spec =
+    tie.close
+    (tie.spec
+    held-requires
+    array-share-prefix-kinds
+    slice-aggregate-first-plan
+    array-share-prefix-a
+    slice-aggregate-first-plan-2
+    array-share-prefix-b
+    slice-aggregate-first-plan-3
+    first-plan-requires
+    same-length
+    same-length-2
+    returns)

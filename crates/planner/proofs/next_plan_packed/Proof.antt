@@ -1,0 +1,60 @@
+-- `planner::next_plan_packed` meets its contract: what is promised of the rows, cut to the reaches that they hold, is promised of the table.
+-- Assumes nothing.
+use borrow.Author.Needs.{needs}
+use Rattle.packing.proofs.Packings.{Cut, cut, of-rows}
+use Rattle.planner.proofs.Refusals.{next-alike}
+use Rattle.planner.proofs.next_plan_packed.Statement.{statement}
+use Rattle.planner.proofs.next_plan_packed.Tie as tie
+
+-- the rows are long enough
+long : (c : tie.After-held) → Cut (c .before .before .before .before .args .p) (c .held .result)
+long c = cut _ _ (c .before .before .before .before .good .1 .0) (c .held .ensures)
+
+held-requires : tie.Need-held-requires
+held-requires c κs = tt
+
+array-share-prefix-kinds : tie.Need-array-share-prefix-kinds
+array-share-prefix-kinds c = long (c .before .before .before) .kinds .within
+
+slice-aggregate-next-plan : tie.Need-slice-aggregate-next-plan
+slice-aggregate-next-plan c = long (c .before .before .before .before) .kinds .counted
+
+array-share-prefix-a : tie.Need-array-share-prefix-a
+array-share-prefix-a c = long (c .before .before .before .before) .a .within
+
+slice-aggregate-next-plan-2 : tie.Need-slice-aggregate-next-plan-2
+slice-aggregate-next-plan-2 c = long (c .before .before .before .before .before) .a .counted
+
+array-share-prefix-b : tie.Need-array-share-prefix-b
+array-share-prefix-b c = long (c .before .before .before .before .before) .b .within
+
+slice-aggregate-next-plan-3 : tie.Need-slice-aggregate-next-plan-3
+slice-aggregate-next-plan-3 c = long (c .before .before .before .before .before .before) .b .counted
+
+next-plan-requires : tie.Need-next-plan-requires
+next-plan-requires c κs = tt
+
+same-length : tie.Need-same-length
+same-length c = search needs
+
+same-length-2 : tie.Need-same-length-2
+same-length-2 c = search needs
+
+returns : tie.Need-returns
+returns c = of-rows (long (c .before .before .before .before .before .before .before .before .before .before .before .before .before)) (c .before .before .before .before .next-plan .ensures) (next-alike _ _ _)
+
+pub next-plan-packed-spec : {M : Type 1} → statement M
+next-plan-packed-spec =
+    tie.close
+    (tie.spec
+    held-requires
+    array-share-prefix-kinds
+    slice-aggregate-next-plan
+    array-share-prefix-a
+    slice-aggregate-next-plan-2
+    array-share-prefix-b
+    slice-aggregate-next-plan-3
+    next-plan-requires
+    same-length
+    same-length-2
+    returns)

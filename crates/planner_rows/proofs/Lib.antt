@@ -1,0 +1,2 @@
+-- The laws of the planner.
+pub mod Calls

@@ -1,0 +1,63 @@
+-- `table_check` meets its contract: the first test that fails decides.
+-- Assumes nothing.
+use mathlib.Core.Path.{_≡_, sym, ap, _∙_}
+use mathlib.Core.Bool.{true}
+use mathlib.Core.Logic.{⊎-elim}
+use native.Mathlib.Omega.{arith}
+use lib.ListN.{length}
+use borrow.Author.Needs.{needs}
+use borrow.Author.Tests.{ltb-true, ltb-false, le-leb, lt-leb}
+use Rattle.network.specs.Networks.{Network, goodCount, goodLength, maxBasins, maxReaches}
+use Rattle.tables.specs.Rows.{netOf}
+use Rattle.tables.specs.Answers.{tableAnswer}
+use Rattle.tables.proofs.Faults.{count-good, count-bad, fault-count, fault-length, fault-ends, fault-none}
+use Rattle.tables.proofs.table_check.Statement.{statement}
+use Rattle.tables.proofs.table_check.Tie as tie
+
+-- the network that is lent
+abbrev net : tie.Start → Network
+net c = let s = c .args in netOf (s .basins) (s .kinds .now) (s .a .now) (s .b .now)
+
+-- after the first test the count is good, after the second the length is
+counted : (c : tie.Else2) → goodCount (net (c .before .before .before .before .before)) ≡ true
+counted c =
+    let N = net (c .before .before .before .before .before) in
+    count-good N (omega arith) (ltb-false maxBasins (N .basins) (c .if2 .left))
+
+few : (c : tie.Else3) → goodLength (net (c .before .before .before .before .before .before .before)) ≡ true
+few c =
+    let t = net (c .before .before .before .before .before .before .before) .reaches in
+    le-leb (length t) maxReaches (omega arith)
+
+returns : tie.Need-returns
+returns c =
+    let N = net (c .before .before .before .before) in
+    let bad = count-bad N in
+    sym (ap tableAnswer (fault-count N
+    (⊎-elim (λ w. bad (λ p q. omega arith)) (λ w. bad (λ p q. omega (arith, ltb-true maxBasins (N .basins) (w .1 .taken)))) (c .if1 .came))))
+
+row-count-requires : tie.Need-row-count-requires
+row-count-requires c κs = search needs
+
+returns-2 : tie.Need-returns-2
+returns-2 c =
+    let N = net (c .before .before .before .before .before .before .before) in
+    sym (ap tableAnswer (fault-length N (counted (c .before .before)) (lt-leb (length (N .reaches)) maxReaches (omega arith))))
+
+good-ends-requires : tie.Need-good-ends-requires
+good-ends-requires c κs = search needs
+
+returns-3 : tie.Need-returns-3
+returns-3 c =
+    let N = net (c .before .before .before .before .before .before .before .before .before) in
+    sym (ap tableAnswer (fault-none N (counted (c .before .before .before .before)) (few (c .before .before)) (sym (c .before .good-ends .ensures) ∙ c .if4 .taken)))
+
+returns-4 : tie.Need-returns-4
+returns-4 c =
+    let N = net (c .before .before .before .before .before .before .before .before .before) in
+    sym (ap tableAnswer (fault-ends N (counted (c .before .before .before .before)) (few (c .before .before)) (sym (c .before .good-ends .ensures) ∙ c .if4 .left)))
+
+pub table-check-spec : {M : Type 1} → statement M
+table-check-spec =
+    tie.close
+    (tie.spec returns row-count-requires returns-2 good-ends-requires returns-3 returns-4)
