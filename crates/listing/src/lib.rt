@@ -1,5 +1,5 @@
 // The lister's text: all that is printed for a network file, a lent buffer at a time.
-// `start` reads the file and finds the first plan; `Lister::fill` puts the next bytes of the text into a buffer and hands back the state after it.
+// `listing_state::start` reads the file and finds the first plan; `fill` puts the next bytes of the text into a buffer and hands back the state after it.
 // No call for users has a `requires`.
 pub mod laws;
 

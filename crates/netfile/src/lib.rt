@@ -28,7 +28,7 @@ fn write_packed(basins: u16, p: Packed, out: &mut [u8]) -> WriteAnswer
     netfile_rows::write_network(basins, &kinds[..n], &a[..n], &b[..n], out)
 }
 
-// The file of a network goes to the first bytes of the buffer. Refuses 1, 2, 3 and 7.
+// The file of a network goes to the first bytes of the buffer. Refuses: 1, 2, 3, 7.
 pub fn write_network(basins: u16, table: &[Reach], out: &mut [u8]) -> WriteAnswer
     ensures { λ r. ⌜ NetworkWritten (lentNet basins (now (table .entry))) (now (out .entry)) r (now (out .exit)) ⌝ }
 {
@@ -84,7 +84,7 @@ fn read_packed(file: &[u8], room: usize) -> FileRead
     read_rows(file, room, packing::empty(0))
 }
 
-// The network of a file, its reaches into the first records of the table, which keeps all others. Refuses 1 to 7, and then writes nothing.
+// The network of a file, its reaches into the first records of the table, which keeps all others. Refuses: 5, 4, 1, 2, 3, 6, 7.
 pub fn read_network(file: &[u8], table: &mut [Reach]) -> ReadAnswer
     ensures { λ r. ⌜ ReadTable (now (file .entry)) (now (table .entry)) r (now (table .exit)) ⌝ }
 {

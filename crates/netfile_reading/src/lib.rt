@@ -1,4 +1,4 @@
-// Network files read: a file is judged to its end, and its reaches go to rows. The functions with a `requires` are for the crate `netfile`, which has
+// Network files read: a file is judged to its end, and its reaches go to rows. The functions with a `requires` are for the crate `netfile_rows`, which has
 // checked it.
 use file_records::END;
 use file_records::Taken;
@@ -60,7 +60,7 @@ fn check_reaches(file: &[u8], basins: u16) -> ReadAnswer
     }
 }
 
-// The counts of a file, which is judged to its end. Refuses 1 to 6, and writes nothing.
+// The counts of a file, which is judged to its end. Refuses: 5, 4, 1, 2, 3, 6. Writes nothing.
 pub fn check_network(file: &[u8]) -> ReadAnswer
     ensures { λ r. ⌜ r ≡ readAnswer (readFile (now (file .entry))) ⌝ }
 {

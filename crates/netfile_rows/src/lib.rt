@@ -8,7 +8,7 @@ use tables::TableAnswer;
 ghost use Rattle.tables.specs.Rows.{netOf};
 ghost use Rattle.netfile_format.specs.Answers.{NetworkRead, NetworkWritten};
 
-// The network of a file, its reaches into the rows. Refuses 1 to 7. The whole file is judged before anything is written.
+// The network of a file, its reaches into the rows. Refuses: 5, 4, 1, 2, 3, 6, 7. The whole file is judged before anything is written.
 pub fn read_network(file: &[u8], kinds: &mut [u8], a: &mut [u16], b: &mut [u16]) -> ReadAnswer
     ensures { λ r. ⌜
         NetworkRead (now (file .entry)) (now (kinds .entry)) (now (a .entry)) (now (b .entry))
@@ -27,7 +27,7 @@ pub fn read_network(file: &[u8], kinds: &mut [u8], a: &mut [u16], b: &mut [u16])
     }
 }
 
-// The file of a network goes to the first bytes of the buffer. Refuses 1, 2, 3 and 7.
+// The file of a network goes to the first bytes of the buffer. Refuses: 1, 2, 3, 7.
 pub fn write_network(
     basins: u16,
     kinds: &[u8],

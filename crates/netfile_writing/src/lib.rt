@@ -1,4 +1,4 @@
-// The records of a network written into a buffer. The functions with a `requires` are for the crate `netfile`, which has checked it.
+// The records of a network written into a buffer. The functions with a `requires` are for the crate `netfile_rows`, which has checked it.
 use file_records::put_word;
 use netfile_format::FLAP;
 use netfile_format::GATED;

@@ -1,4 +1,4 @@
--- Divisions of the basins, what crosses them, and lone reaches.
+-- Cuts (document 01: divisions of the basins), what crosses them, and bridges (lone reaches).
 -- Assumes nothing.
 use Prim.Native.Nat.{ℕ}
 use mathlib.Core.Bool.{Bool, not, _&&_, Bool·beq}
@@ -17,7 +17,7 @@ abbrev pub sides : List ℕ → List (List ℕ)
 sides [] = [] ∷ []
 sides (b ∷ bs) = map (λ S. b ∷ S) (sides bs) ++ sides bs
 
--- The side S and the rest of bs are a "division of the basins into two non-empty sides".
+-- A cut: the side S and the rest of bs are a "division of the basins into two non-empty sides".
 abbrev pub isCut : List ℕ → List ℕ → Bool
 isCut bs S = some? (λ b. elem b S) bs && some? (λ b. not (elem b S)) bs
 
@@ -37,7 +37,7 @@ reachAt N i = getD (N .reaches) i noReach
 unfoldable pub crossesAlone : Network → List ℕ → ℕ → Bool
 crossesAlone N S i = every (λ j. Bool·beq (crosses S (reachAt N j)) (eqb j i)) (range 0 (length (N .reaches)))
 
--- "A lone reach is a gated reach that is the only reach crossing some division of the basins into two non-empty sides."
+-- A bridge. "A lone reach is a gated reach that is the only reach crossing some division of the basins into two non-empty sides."
 unfoldable pub isBridge : Network → ℕ → Bool
 isBridge N i = isGated ((reachAt N i) .kind) && some? (λ S. isCut (basinsOf N) S && crossesAlone N S i) (sides (basinsOf N))
 

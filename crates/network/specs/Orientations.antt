@@ -13,7 +13,8 @@ use Rattle.network.specs.Networks.{Network}
 use Rattle.network.specs.Settings.{gateCount}
 
 -- A way is a number: 0 from A to B, 1 from B to A, 2 both, 3 neither.
--- A partial orientation is a list of ways 0, 1 or 2, one for each gated reach in reach order: as drawn, turned, or either.
+-- A partial orientation (some gates hung, the others still usable either way) is a list of ways 0, 1 or 2, one for each gated reach in reach order:
+-- as drawn, turned, or either.
 -- A setting is a partial orientation without a 2. A gate without a byte counts as either.
 
 unfoldable pub isPartialOrientation : Network → List ℕ → Bool

@@ -13,7 +13,7 @@ use Rattle.network.specs.Orientations.{Arc, arcsUnder, reached, unorient
 abbrev pub reachesAll : List ℕ → List Arc → ℕ → Bool
 reachesAll bs A u = every (reached A u) bs
 
--- "Every basin reaches every other along reaches taken the way they pass."
+-- Strongly connected: "every basin reaches every other along reaches taken the way they pass."
 abbrev pub stronglyConnected : List ℕ → List Arc → Bool
 stronglyConnected bs A = every (reachesAll bs A) bs
 

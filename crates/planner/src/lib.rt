@@ -63,21 +63,21 @@ fn next_plan_packed(
     planner_rows::next_plan(basins, &kinds[..n], &a[..n], &b[..n], setting, plan, marks)
 }
 
-// What the table gets: it is accepted, or refused by number only. Refuses 1, 2 and 3.
+// What the table gets: it is accepted, or refused by number only. Refuses: 1, 2, 3.
 pub fn table_check(basins: u16, table: &[Reach]) -> TableAnswer
     ensures { λ r. ⌜ r ≡ tableAnswer (tableFault (lentNet basins (now (table .entry)))) ⌝ }
 {
     table_check_packed(basins, pack(table))
 }
 
-// Whether a setting is a plan of the network. Refuses 1, 2, 3 and 8, and writes nothing.
+// Whether a setting is a plan of the network. Refuses: 1, 2, 3, 8. Writes nothing.
 pub fn check(basins: u16, table: &[Reach], setting: &[u8]) -> CheckAnswer
     ensures { λ r. ⌜ CheckCall (lentNet basins (now (table .entry))) (now (setting .entry)) r ⌝ }
 {
     check_packed(basins, pack(table), setting)
 }
 
-// The first plan of the network, or the finding that shows why there is none. Refuses 1, 2, 3 and 7.
+// The first plan of the network, or the finding that shows why there is none. Refuses: 1, 2, 3, 7.
 pub fn first_plan(basins: u16, table: &[Reach], plan: &mut [u8], marks: &mut [u8]) -> Answer
     ensures { λ r. ⌜ FirstCall (lentNet basins (now (table .entry))) (now (plan .entry)) (now (marks .entry)) r (now (plan .exit)) (now (marks .exit)) ⌝ }
 {
@@ -85,7 +85,7 @@ pub fn first_plan(basins: u16, table: &[Reach], plan: &mut [u8], marks: &mut [u8
 }
 
 // The next plan of a setting of the network, itself a plan or not; or the finding that shows why there is none, or that no plan is later.
-// Refuses 1, 2, 3, 8, 7 and 11.
+// Refuses: 1, 2, 3, 8, 7, 11.
 pub fn next_plan(
     basins: u16,
     table: &[Reach],

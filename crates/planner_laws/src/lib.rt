@@ -1,4 +1,4 @@
-// Demand 3 over the running call.
+// Demand 3 over the running call. The proof cites only what next promises.
 use planner_rows::next_plan;
 use replies::Answer;
 ghost use Rattle.tables.specs.Rows.{netOf};

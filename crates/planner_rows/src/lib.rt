@@ -36,7 +36,7 @@ fn first_table(
     Answer::Given(first_accepted(n, ks, &a[..m], &b[..m], plan, marks))
 }
 
-// The first plan of a network, or the finding that shows why there is none. Refuses 1, 2, 3 and 7.
+// The first plan of a network, or the finding that shows why there is none. Refuses: 1, 2, 3, 7.
 pub fn first_plan(
     basins: u16,
     kinds: &[u8],
@@ -71,7 +71,7 @@ fn check_table(n: usize, kinds: &[u8], a: &[u16], b: &[u16], setting: &[u8]) -> 
     }
 }
 
-// Whether a setting is a plan of the network. Refuses 1, 2, 3 and 8, and writes nothing.
+// Whether a setting is a plan of the network. Refuses: 1, 2, 3, 8. Writes nothing.
 pub fn check(basins: u16, kinds: &[u8], a: &[u16], b: &[u16], setting: &[u8]) -> CheckAnswer
     ensures { λ r. ⌜ CheckCall (netOf basins (now (kinds .entry)) (now (a .entry)) (now (b .entry))) (now (setting .entry)) r ⌝ }
 {
@@ -110,7 +110,7 @@ fn next_table(
 }
 
 // The next plan of a setting of the network, itself a plan or not; or the finding that shows why there is none, or that no plan is later.
-// Refuses 1, 2, 3, 8, 7 and 11.
+// Refuses: 1, 2, 3, 8, 7, 11.
 pub fn next_plan(
     basins: u16,
     kinds: &[u8],

@@ -42,21 +42,21 @@ fn write_reply_packed(basins: u16, p: Packed, out: &mut [u8]) -> WriteAnswer
     sheet_rows::write_reply(basins, &kinds[..n], &a[..n], &b[..n], out)
 }
 
-// The setting of a plan sheet goes to the first bytes of the buffer. Refuses 1, 2, 3, 5, 4, 8, 6 and 7.
+// The setting of a plan sheet goes to the first bytes of the buffer. Refuses: 1, 2, 3, 5, 4, 8, 6, 7.
 pub fn read_sheet(basins: u16, table: &[Reach], sheet: &[u8], setting: &mut [u8]) -> SheetAnswer
     ensures { λ r. ⌜ SheetRead (lentNet basins (now (table .entry))) (now (sheet .entry)) (now (setting .entry)) r (now (setting .exit)) ⌝ }
 {
     read_sheet_packed(basins, pack(table), sheet, setting)
 }
 
-// The sheet of a plan goes to the first bytes of the buffer. Refuses 1, 2, 3, 8 and 7.
+// The sheet of a plan goes to the first bytes of the buffer. Refuses: 1, 2, 3, 8, 7.
 pub fn write_sheet(basins: u16, table: &[Reach], setting: &[u8], out: &mut [u8]) -> WriteAnswer
     ensures { λ r. ⌜ SheetWritten (lentNet basins (now (table .entry))) (now (setting .entry)) (now (out .entry)) r (now (out .exit)) ⌝ }
 {
     write_sheet_packed(basins, pack(table), setting, out)
 }
 
-// The network's first plan, or the finding that shows why there is none, goes to the first bytes of the buffer as a sheet. Refuses 1, 2, 3 and 7.
+// The network's first plan, or the finding that shows why there is none, goes to the first bytes of the buffer as a sheet. Refuses: 1, 2, 3, 7.
 pub fn write_reply(basins: u16, table: &[Reach], out: &mut [u8]) -> WriteAnswer
     ensures { λ r. ⌜ ReplyWritten (lentNet basins (now (table .entry))) (now (out .entry)) r (now (out .exit)) ⌝ }
 {

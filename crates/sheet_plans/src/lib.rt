@@ -1,5 +1,5 @@
 // What of the sheets asks the planner, whose promises alone say what is a plan and what a network gets: the plan that a sheet says is kept, and a
-// network's reply is put down as a sheet. For the crate `sheet`.
+// network's reply is put down as a sheet. For the crate `sheet_rows`.
 use file_records::WriteAnswer;
 use network::Refusal;
 use replies::Answer;
@@ -13,7 +13,7 @@ ghost use Rattle.network.specs.Marks.{markBytes};
 ghost use Rattle.tables.specs.Rows.{netOf};
 ghost use Rattle.sheet_format.specs.Answers.{PlanKept, ReplyWritten};
 
-// The bytes that a sheet says, if they are a plan of the network, go to the first bytes of the setting's buffer. Refuses 8, then 7.
+// The bytes that a sheet says, if they are a plan of the network, go to the first bytes of the setting's buffer. Refuses: 1, 2, 3, 8, 7.
 pub fn keep_plan(
     basins: u16,
     kinds: &[u8],

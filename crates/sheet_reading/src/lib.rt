@@ -1,5 +1,5 @@
 // Plan sheets read: head, records and end, for the reaches of a row of kinds. What is a plan is not asked here.
-// The functions with a `requires` are for the crate `sheet`, which has checked it.
+// The functions with a `requires` are for the crate `sheet_rows`, which has checked it.
 use file_records::END;
 use file_records::Taken;
 use file_records::take_record;

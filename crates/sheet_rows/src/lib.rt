@@ -13,7 +13,7 @@ ghost use Rattle.network.specs.Networks.{maxReaches};
 ghost use Rattle.tables.specs.Rows.{netOf};
 ghost use Rattle.sheet_format.specs.Answers.{SheetRead, SheetWritten, ReplyWritten};
 
-// The sheet of a plan goes to the first bytes of the buffer. Refuses 1, 2, 3, 8 and 7.
+// The sheet of a plan goes to the first bytes of the buffer. Refuses: 1, 2, 3, 8, 7.
 pub fn write_sheet(
     basins: u16,
     kinds: &[u8],
@@ -34,7 +34,7 @@ pub fn write_sheet(
     }
 }
 
-// The network's first plan, or the finding that shows why there is none, goes to the first bytes of the buffer as a sheet. Refuses 1, 2, 3 and 7.
+// The network's first plan, or the finding that shows why there is none, goes to the first bytes of the buffer as a sheet. Refuses: 1, 2, 3, 7.
 pub fn write_reply(
     basins: u16,
     kinds: &[u8],
@@ -75,7 +75,7 @@ fn read_sheet_in(
     }
 }
 
-// The setting of a plan sheet goes to the first bytes of the buffer. Refuses 1 to 8. The whole sheet is judged before anything is written.
+// The setting of a plan sheet goes to the first bytes of the buffer. Refuses: 1, 2, 3, 5, 4, 8, 6, 7. The whole sheet is judged before anything is written.
 pub fn read_sheet(
     basins: u16,
     kinds: &[u8],

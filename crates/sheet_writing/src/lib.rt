@@ -1,5 +1,5 @@
 // Plan sheets and finding sheets written into a buffer. What is a plan is not asked here.
-// The functions with a `requires` are for the crates `sheet` and `sheet_plans`, which have checked it.
+// The functions with a `requires` are for the crates `sheet_rows` and `sheet_plans`, which have checked it.
 use file_records::END;
 use file_records::WriteAnswer;
 use file_records::put_bytes;

@@ -59,7 +59,7 @@ fn good_ends(basins: u16, kinds: &[u8], a: &[u16], b: &[u16]) -> bool
     true
 }
 
-// What the table gets, in the order of document 01: the basin count, the number of reaches, the ends.
+// What the table gets, in the order of document 01: the basin count, the number of reaches, the ends. Refuses: 1, 2, 3.
 pub fn table_check(basins: u16, kinds: &[u8], a: &[u16], b: &[u16]) -> TableAnswer
     ensures { λ r. ⌜ r ≡ tableAnswer (tableFault (netOf basins (now (kinds .entry)) (now (a .entry)) (now (b .entry)))) ⌝ }
 {

@@ -142,7 +142,7 @@ fn step_packed(walker: Walker, basins: u16, p: Packed, plan: &mut [u8], marks: &
 }
 
 impl Walker {
-    // A walker from a table and a setting, plan or not. Refuses 1, 2, 3 and 8, as the check of the setting does, with a walker of zeros.
+    // A walker from a table and a setting, plan or not. Refuses: 1, 2, 3, 8, as the check of the setting does, with a walker of zeros.
     pub fn make_rows(basins: u16, kinds: &[u8], a: &[u16], b: &[u16], setting: &[u8]) -> Made
         ensures { λ r. ⌜ Making (netOf basins (now (kinds .entry)) (now (a .entry)) (now (b .entry))) (now (setting .entry)) r ⌝ }
     {
@@ -153,7 +153,7 @@ impl Walker {
     }
 
     // The next plan from the walker's setting, with the walker after it: that plan's, or the same where no plan is given.
-    // Refuses 1, 2, 3, 8 (only for a byte over 1), 7 and 11.
+    // Refuses: 1, 2, 3, 8 (only for a byte over 1), 7, 11.
     pub fn step_rows(
         self,
         basins: u16,
@@ -173,14 +173,14 @@ impl Walker {
         Stepped { answer, walker }
     }
 
-    // `make_rows` over a lent table.
+    // `make_rows` over a lent table. Refuses: 1, 2, 3, 8.
     pub fn make(basins: u16, table: &[Reach], setting: &[u8]) -> Made
         ensures { λ r. ⌜ Making (lentNet basins (now (table .entry))) (now (setting .entry)) r ⌝ }
     {
         make_packed(basins, pack(table), setting)
     }
 
-    // `step_rows` over a lent table.
+    // `step_rows` over a lent table. Refuses: 1, 2, 3, 8 (only for a byte over 1), 7, 11.
     pub fn step(self, basins: u16, table: &[Reach], plan: &mut [u8], marks: &mut [u8]) -> Stepped
         ensures { λ r. ⌜ Stepping (lentNet basins (now (table .entry))) (self .setting) (now (plan .entry)) (now (marks .entry))
             (now (plan .exit)) (now (marks .exit)) r ⌝ }
