@@ -3,13 +3,13 @@
 // The borrow checker does not cover a slice of structs. So each public call is a few lines, proved by a walk of its code, by hand, and leaves the
 // work to covered calls over rows.
 use file_records::WriteAnswer;
+use netfile_format::ReadAnswer;
+use network::MAX_REACHES;
+use network::Reach;
 use packing::Packed;
 use packing::held;
 use packing::pack;
 use packing::unpack;
-use netfile_format::ReadAnswer;
-use network::MAX_REACHES;
-use network::Reach;
 ghost use mathlib.Core.Path.{_≡_};
 ghost use Prim.Native.Nat.{min};
 ghost use Rattle.network.specs.Networks.{maxReaches};

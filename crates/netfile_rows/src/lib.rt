@@ -28,13 +28,7 @@ pub fn read_network(file: &[u8], kinds: &mut [u8], a: &mut [u16], b: &mut [u16])
 }
 
 // The file of a network goes to the first bytes of the buffer. Refuses: 1, 2, 3, 7.
-pub fn write_network(
-    basins: u16,
-    kinds: &[u8],
-    a: &[u16],
-    b: &[u16],
-    out: &mut [u8],
-) -> WriteAnswer
+pub fn write_network(basins: u16, kinds: &[u8], a: &[u16], b: &[u16], out: &mut [u8]) -> WriteAnswer
     ensures { λ r. ⌜ NetworkWritten (netOf basins (now (kinds .entry)) (now (a .entry)) (now (b .entry))) (now (out .entry)) r (now (out .exit)) ⌝ }
 {
     if let TableAnswer::Refused(r) = tables::table_check(basins, kinds, a, b) {

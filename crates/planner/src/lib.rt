@@ -2,10 +2,10 @@
 // Each promises of the lent table what the call over rows promises of its numbers.
 // The borrow checker does not cover a slice of structs. So each public call is one line, proved by a walk of its code, by hand: it has the table
 // packed into rows and hands these to a covered call, whose promise holds of every table that the rows are the packing of.
+use network::Reach;
 use packing::Packed;
 use packing::held;
 use packing::pack;
-use network::Reach;
 use replies::Answer;
 use replies::CheckAnswer;
 use tables::TableAnswer;

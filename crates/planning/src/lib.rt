@@ -177,7 +177,15 @@ fn next_in(
     );
     match sought {
         Sought::NoneLater => Answer::Refused(Refusal::LastPlan),
-        Sought::CameTo(found) => Answer::Given(report(found, n, kinds, oriented, seen, plan, marks)),
+        Sought::CameTo(found) => Answer::Given(report(
+            found,
+            n,
+            kinds,
+            oriented,
+            seen,
+            plan,
+            marks,
+        )),
     }
 }
 

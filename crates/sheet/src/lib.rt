@@ -3,10 +3,10 @@
 // The borrow checker does not cover a slice of structs. So each public call is one line, proved by a walk of its code, by hand: it has the table
 // packed into rows and hands these to a covered call, whose promise holds of every table that the rows are the packing of.
 use file_records::WriteAnswer;
+use network::Reach;
 use packing::Packed;
 use packing::held;
 use packing::pack;
-use network::Reach;
 use sheet_format::SheetAnswer;
 ghost use Rattle.packing.specs.Tables.{lentNet, OfTable};
 ghost use Rattle.sheet_format.specs.Answers.{SheetRead, SheetWritten, ReplyWritten};

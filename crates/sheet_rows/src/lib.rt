@@ -35,13 +35,7 @@ pub fn write_sheet(
 }
 
 // The network's first plan, or the finding that shows why there is none, goes to the first bytes of the buffer as a sheet. Refuses: 1, 2, 3, 7.
-pub fn write_reply(
-    basins: u16,
-    kinds: &[u8],
-    a: &[u16],
-    b: &[u16],
-    out: &mut [u8],
-) -> WriteAnswer
+pub fn write_reply(basins: u16, kinds: &[u8], a: &[u16], b: &[u16], out: &mut [u8]) -> WriteAnswer
     ensures { λ r. ⌜ ReplyWritten (netOf basins (now (kinds .entry)) (now (a .entry)) (now (b .entry))) (now (out .entry)) r (now (out .exit)) ⌝ }
 {
     let mut plan = [0u8; MAX_REACHES];

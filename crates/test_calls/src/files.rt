@@ -10,8 +10,8 @@ use crate::plans::number;
 use crate::show;
 use crate::show::Out;
 use crate::table_rows::ROOM;
-use netfile_format::ReadAnswer;
 use file_records::WriteAnswer;
+use netfile_format::ReadAnswer;
 use sheet_format::SheetAnswer;
 
 // The lengths of the rows that are lent.
