@@ -6,6 +6,9 @@ ghost use Prim.Native.Nat.{_≤_, _<_};
 ghost use lib.ListN.{length, getD, set, replicate, drop};
 ghost use Rattle.half_edges.specs.Chains.{none, Index, Indexable};
 
+// The half-edges of the largest table.
+pub const HALF_EDGES: usize = 2048;
+
 // What stands where there is no half-edge.
 pub const NONE: u16 = 65535;
 

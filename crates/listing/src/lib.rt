@@ -3,6 +3,7 @@
 // No call for users has a `requires`.
 pub mod laws;
 
+use half_edges::HALF_EDGES;
 use lines::Due;
 use lines::due_plan;
 use listing_state::Filled;
@@ -12,7 +13,6 @@ use listing_state::plan_length;
 use listing_state::put_line;
 use network::MAX_BASINS;
 use network::MAX_REACHES;
-use planning::HALF_EDGES;
 use replies::CheckAnswer;
 use tables::gates_held;
 use tables::least;

@@ -24,7 +24,8 @@ pub fn next_of_two(
     marks2: &mut [u8],
 ) -> Both
     ensures { λ r. ⌜ DemandOver (netOf basins (now (kinds .entry)) (now (a .entry)) (now (b .entry))) (now (s .entry)) (now (t .entry))
-        (now (plan1 .entry)) (now (marks1 .entry)) (now (plan2 .entry)) (now (marks2 .entry)) (now (plan1 .exit)) (now (marks1 .exit)) (now (plan2 .exit)) (now (marks2 .exit))
+        (now (plan1 .entry)) (now (marks1 .entry)) (now (plan2 .entry)) (now (marks2 .entry))
+        (now (plan1 .exit)) (now (marks1 .exit)) (now (plan2 .exit)) (now (marks2 .exit))
         (r .first) (r .second) ⌝ }
 {
     let first = next_plan(basins, kinds, a, b, s, plan1, marks1);

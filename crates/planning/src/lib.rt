@@ -1,5 +1,6 @@
 // The first plan, the next plan and the check of a setting of an accepted table whose rows are of one length, each in working memory of its own.
 // These functions are for the planner's calls; what they require those have checked.
+use half_edges::HALF_EDGES;
 use network::MAX_BASINS;
 use network::MAX_REACHES;
 use network::Refusal;
@@ -18,9 +19,6 @@ ghost use Rattle.tables.specs.Rows.{netOf};
 ghost use Rattle.seeking.specs.Levels.{Level};
 ghost use Rattle.planning.specs.Rooms.{Lent, Space};
 ghost use Rattle.replies.specs.Answers.{Replied};
-
-// The half-edges of the largest table.
-pub const HALF_EDGES: usize = 2048;
 
 // The first plan of an accepted table whose rows are of one length, or its finding, in lent working memory. The buffers are long enough.
 fn first_in(
