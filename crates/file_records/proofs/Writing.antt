@@ -4,10 +4,11 @@ use Prim.Native.Nat.{ℕ, suc, _+_, _-_, _/_, _%_, _≤_, _<_}
 use native.Mathlib.Nat.{zero-add}
 use native.Mathlib.Numerals.{add-one}
 use native.Mathlib.Omega.{arith}
-use mathlib.Core.Path.{_≡_, refl, ap, _∙_}
-use mathlib.Core.List.{List, [], _++_, append-nil, append-assoc}
+use mathlib.Core.Path.{_≡_, refl, _∙_}
+use mathlib.Core.List.{List, _++_, append-nil, append-assoc}
 use lib.ListN.{length, getD, take, drop, set, length-set, length-drop, drop-of-length-le}
-use lib.Seq.{sets, sets-eq, take-all, drop-drop, drop-cons}
+use lib.Seq.{sets, sets-eq, drop-drop, drop-cons}
+use Rattle.lists.proofs.Lists.{take-rest, drop-rest}
 use Rattle.file_records.specs.Records.{twoBytes}
 
 pub put-two : (l : List ℕ) (at v : ℕ) → set (set l at (v % 256)) (at + 1) (v / 256) ≡ sets l at (twoBytes v)
@@ -41,11 +42,10 @@ pub part-back :
     (n : ℕ) (l part xs : List ℕ) → n + length xs ≤ length l → part ≡ sets (take (length l - n) (drop n l)) 0 xs
     → take n l ++ (part ++ drop (length l - n) (drop n l)) ≡ sets l n xs
 part-back n l part xs h e =
-    let beyond : length (drop n l) ≤ length l - n = omega (arith, length-drop n l) in
     rw (
       e,
-      take-all (length l - n) (drop n l) (omega (arith, length-drop n l)),
-      drop-of-length-le (drop n l) beyond,
+      take-rest n l,
+      drop-rest n l,
       append-nil,
       sets-eq xs (drop n l) 0 (omega (arith, length-drop n l)),
       sets-eq xs l n h,

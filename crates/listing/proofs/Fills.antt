@@ -17,7 +17,7 @@ use Rattle.lines.specs.declared.Due.{Due}
 use Rattle.lines.specs.declared.Due.the-variants as D
 use Rattle.lines.specs.Listings.{line, character, planText}
 use Rattle.lines.specs.Puts.{Put}
-use Rattle.lists.proofs.Lists.{Copied, nil-of-length, copied-none, copied-length, take-rest}
+use Rattle.lists.proofs.Lists.{Copied, nil-of-length, copied-none, copied-length, take-rest, drop-rest}
 use Rattle.lines.proofs.Puts.{copied-end, put-copied}
 use Rattle.listing_state.specs.declared.Lister.{Lister}
 use Rattle.listing_state.specs.declared.Filled.{Filled}
@@ -108,7 +108,7 @@ module _ (l : Lister) (kinds a b out : List ℕ) where
       behind = ap (drop n) (p .laid .bytes) ∙ drop-at (take n text) (drop n out) n (length-take-le n text (p .laid .within))
 
       nothing-more : drop (length out′ - n) (drop n out′) ≡ []
-      nothing-more = nil-of-length _ (omega (arith, length-drop (length out′ - n) (drop n out′), length-drop n out′))
+      nothing-more = drop-rest n out′
 
       part-is : part ≡ take k (drop n text) ++ drop (n + k) out
       part-is = rest-put .bytes ∙ rw (next-bytes, behind, drop-drop k n out)

@@ -9,17 +9,14 @@ use mathlib.Core.Option.{Option, none, some}
 use lib.ListN.{length, take, drop}
 use lib.Seq.{take-at}
 use lib.Dec.{eqb}
-use borrow.Author.Tests.{le-leb}
-use Rattle.network.specs.declared.Reach.{Reach}
-use Rattle.network.specs.declared.Refusal.{Refusal}
 use Rattle.network.specs.Networks.{Network, maxReaches, tableFault, Accepted}
-use Rattle.network.specs.Settings.{gateCount, settingFault}
+use Rattle.network.specs.Settings.{settingFault}
 use Rattle.network.specs.Plans.{isPlan, nextPlan}
 use Rattle.network.specs.Marks.{markBytes}
-use Rattle.network.specs.Replies.{Outcome, plan, shutIn, lone, refused, refusalNumber, chosen, firstAnswer, nextAnswer, unless, roomFault, firstReply, nextReply, planAfter}
+use Rattle.network.specs.Replies.{Outcome, plan, shutIn, lone, refused, refusalNumber, chosen, firstAnswer, nextAnswer, roomFault, firstReply, nextReply, planAfter}
 use Rattle.network.proofs.Networks.{accepted, gates-fit}
 use Rattle.network.proofs.Order.{setting-length, plan-setting, first-is-plan, next-is-plan}
-use Rattle.network.proofs.Replies.{given-iff, first-given, next-given, unless-plan}
+use Rattle.network.proofs.Replies.{given-iff, first-given, next-given, unless-plan, room-enough}
 use Rattle.tables.specs.Rows.{netOf, gatesHeld}
 use Rattle.replies.specs.declared.Answer.{Answer}
 use Rattle.replies.specs.Answers.{answerOf, Replied}
@@ -57,8 +54,7 @@ module _ (N : Network) (k m : ℕ) where
 
 -- there is room for its gates and for marks
 pub roomy : (N : Network) → Accepted N → roomFault N maxReaches markBytes ≡ none
-unfolding roomFault
-roomy N ok = rw (le-leb (gateCount N) maxReaches (gates-fit N ok))
+roomy N ok = room-enough N ok maxReaches markBytes (omega arith) (omega arith)
 
 pub first-roomy : (N : Network) → Accepted N → firstReply N maxReaches markBytes ≡ firstAnswer N
 unfolding firstReply

@@ -8,18 +8,17 @@ use mathlib.Core.List.{List, _++_, append-nil}
 use mathlib.Core.Option.{Option, none, some}
 use lib.ListN.{length, take, drop, drop-of-length-le}
 use lib.Seq.{take-at}
-use borrow.Author.Tests.{le-leb}
 use Rattle.network.specs.declared.Refusal.{Refusal}
 use Rattle.network.specs.Networks.{Network, tableFault, Accepted, maxReaches}
 use Rattle.network.specs.Settings.{gateCount}
 use Rattle.network.specs.Plans.{isPlan, passable, firstPlan}
 use Rattle.network.specs.Bridges.{lowestBridge}
 use Rattle.network.specs.Marks.{markBytes, marksOf, onesIn}
-use Rattle.network.specs.Replies.{Outcome, plan, shutIn, lone, shutInSide, bridgeSide, shutInFinding, loneFinding, chosen, answer, firstAnswer, unless, roomFault, firstReply, firstOf}
+use Rattle.network.specs.Replies.{Outcome, plan, shutIn, lone, shutInSide, bridgeSide, shutInFinding, loneFinding, chosen, answer, firstAnswer, unless, firstReply, firstOf}
 use Rattle.network.proofs.Networks.{accepted, gates-below}
 use Rattle.network.proofs.Marks.{length-marks}
 use Rattle.network.proofs.Order.{first-is-plan, first-none}
-use Rattle.network.proofs.Replies.{Verdict, plans, no-way, one-bridge, verdict}
+use Rattle.network.proofs.Replies.{Verdict, plans, no-way, one-bridge, verdict, room-enough}
 use Rattle.file_records.specs.declared.WriteAnswer.{WriteAnswer}
 use Rattle.file_records.specs.declared.WriteAnswer.the-variants.{Refused as Unwritten}
 use Rattle.file_records.specs.Puts.{Wrote, roomFor, WroteWhole}
@@ -80,18 +79,10 @@ refused-inj e = cc
 -- ---- what the call of first plan leaves, with buffers of the largest lengths
 
 module _ (N : Network) (p m : List ℕ) (lp : length p ≡ maxReaches) (lm : length m ≡ markBytes) where
-  roomy : Accepted N → roomFault N (length p) (length m) ≡ none
-  unfolding roomFault
-  roomy ok =
-      rw (
-        le-leb (gateCount N) (length p) (omega (arith, gates-below 0 (N .reaches), accepted N ok .few-reaches)),
-        le-leb markBytes (length m) (omega arith),
-      )
-
   -- a refusal, or the network's reply
   replied : (o : Option Refusal) → tableFault N ≡ o → firstReply N (length p) (length m) ≡ unless o (firstAnswer N)
   unfolding firstReply
-  replied none t = rw (t, roomy t)
+  replied none t = rw (t, room-enough N t (length p) (length m) (omega arith) (omega arith))
   replied (some r) t = rw t
 
   module _ (p′ m′ : List ℕ) (a : Answer) (w : Replied (firstReply N (length p) (length m)) p m p′ m′ a) where

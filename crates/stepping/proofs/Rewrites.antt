@@ -6,9 +6,9 @@ use native.Mathlib.Omega.{arith}
 use mathlib.Core.Path.{_≡_, refl, sym, ap, ap₂}
 use mathlib.Core.Bool.{Bool, true, false, cond, true≢false}
 use mathlib.Core.List.{List, [], _∷_, _++_, append-nil, append-assoc}
-use lib.ListN.{length, getD, take, drop, length-drop, drop-of-length-le}
+use lib.ListN.{length, getD, take, drop}
 use lib.Seq.{drop-drop}
-use Rattle.lists.proofs.Lists.{take-rest}
+use Rattle.lists.proofs.Lists.{take-rest, drop-rest}
 use Rattle.network.specs.declared.Kind.{Kind}
 use Rattle.network.specs.declared.Kind.the-variants.{Gated, Flap, TwoWay}
 use Rattle.network.specs.Tables.{kindOf}
@@ -62,7 +62,7 @@ rewritten ks ws plan part r g k full all front count put =
       take-rest r ks,
       take-rest r ws,
       take-rest m plan,
-      drop-of-length-le (drop m plan) (beyond m),
+      drop-rest m plan,
       append-nil,
       drop-drop k m plan,
       sum,
@@ -70,9 +70,6 @@ rewritten ks ws plan part r g k full all front count put =
       ← append-assoc,
       bytes-split ks ws r full,
     )
-  where
-    beyond : (m : ℕ) → length (drop m plan) ≤ length plan - m
-    beyond m = omega (arith, length-drop m plan)
 
 -- ---- settings
 
