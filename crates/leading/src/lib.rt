@@ -1,7 +1,7 @@
 // Whether one basin leads to another, searched for from both ends.
 ghost use mathlib.Core.Path.{_≡_};
 ghost use Prim.Native.Nat.{_≤_, _<_};
-ghost use lib.ListN.{length};
+ghost use lib.ListN.{length, replicate};
 ghost use Rattle.network.specs.Networks.{maxBasins};
 ghost use Rattle.network.specs.Orientations.{reached};
 ghost use Rattle.half_edges.specs.Ends.{arcsOf};
@@ -85,7 +85,7 @@ fn search_on(
     false
 }
 
-// Whether the goal is reached from start, searched for from both ends.
+// Whether the goal is reached from start, searched for from both ends. The marks of the search upstream are fresh zeros, and need no clearing.
 fn leads_in(
     n: usize,
     a: &[u16],
@@ -103,12 +103,12 @@ fn leads_in(
     requires { ⌜ Searchable n (now a) (now b) (now ways) (now head) (now next) start (now seen) (now queue) ⌝ }
     requires { ⌜ goal < n ⌝ }
     requires { ⌜ n ≤ maxBasins ⌝ }
-    requires { ⌜ length (now upseen) ≡ maxBasins ⌝ }
+    requires { ⌜ now upseen ≡ replicate maxBasins 0 ⌝ }
     requires { ⌜ length (now upqueue) ≡ maxBasins ⌝ }
     ensures { λ r. ⌜ r ≡ reached (arcsOf (now (a .entry)) (now (b .entry)) (now (ways .entry))) start goal ⌝ }
 {
     let tail = search::begin(n, start, seen, queue);
-    let uptail = search::begin(n, goal, upseen, upqueue);
+    let uptail = search::visit(goal, upseen, upqueue, 0);
     if meet(queue, 0, tail, upseen) {
         return true;
     }

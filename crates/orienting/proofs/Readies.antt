@@ -3,7 +3,7 @@
 use Prim.Native.Nat.{ℕ, zero, suc, _<_}
 use native.Mathlib.Omega.{arith}
 use mathlib.Core.Path.{_≡_, refl, sym, ap, subst, _∙_}
-use mathlib.Core.Bool.{Bool, true, false}
+use mathlib.Core.Bool.{Bool, true, false, cond}
 use mathlib.Core.List.{List}
 use lib.ListN.{length, getD, set}
 use lib.Seq.{set-set}
@@ -18,7 +18,7 @@ use Rattle.lists.proofs.Bools.{clash}
 use Rattle.lists.proofs.Searches.{every-at, every-make}
 use Rattle.lists.proofs.Ranges.{range-has, range-in}
 use Rattle.network.proofs.Walks.{walk-trans, walk-reached, reached-walk}
-use Rattle.half_edges.specs.Ends.{arcsOf, pick}
+use Rattle.half_edges.specs.Ends.{arcsOf}
 use Rattle.search.specs.Searches.{Searchable, Noted}
 use Rattle.network.proofs.Marks.{bit-0}
 use Rattle.orienting.specs.Ready.{Ready, FirstUnseen, FirstUnreached, ShutInBasin}
@@ -38,11 +38,20 @@ ready-notes seen′ queue′ r e f =
     record { some-basin = r .some-basin; few-basins = r .few-basins; table = r .table; ways-full = r .ways-full; index = r .index; seen-room = omega (arith, r .seen-room); queue-room = omega (arith, r .queue-room) }
 
 -- a reach that was left out gets its way, or is usable either way again
-pub tried-yes : {xs ys : List ℕ} {r : Bool} (ws : List ℕ) (i way : ℕ) → r ≡ ledRound (leftOut xs ys ws i) xs ys i way → r ≡ true → Tried xs ys ws i way (set (set ws i 3) i way) true
-tried-yes ws i way f e = oriented (sym f ∙ e) (set-set ws i 3 way) refl
+tried : {xs ys ws′ : List ℕ} {r : Bool} (ws : List ℕ) (i way : ℕ) (led : Bool) → led ≡ ledRound (leftOut xs ys ws i) xs ys i way
+    → (ws′ ≡ set (set ws i 3) i (cond led way 2)) × (r ≡ led) → Tried xs ys ws i way ws′ r
+tried ws i way true f k = oriented (sym f) (k .0 ∙ set-set ws i 3 way) (k .1)
+tried ws i way false f k = undecided (sym f) (k .0 ∙ set-set ws i 3 2) (k .1)
 
-pub tried-no : {xs ys : List ℕ} {r : Bool} (ws : List ℕ) (i way : ℕ) → r ≡ ledRound (leftOut xs ys ws i) xs ys i way → r ≡ false → Tried xs ys ws i way (set (set ws i 3) i 2) false
-tried-no ws i way f e = undecided (sym f ∙ e) (set-set ws i 3 2) refl
+pub tried-drawn : {xs ys ws′ : List ℕ} {r : Bool} (ws : List ℕ) (i way : ℕ) (led : Bool) → way ≡ 0 → led ≡ reached (leftOut xs ys ws i) (getD ys i 0) (getD xs i 0)
+    → (ws′ ≡ set (set ws i 3) i (cond led way 2)) × (r ≡ led) → Tried xs ys ws i way ws′ r
+tried-drawn ws i zero led e f k = tried ws i zero led f k
+tried-drawn ws i (suc way) led e f k = absurd (omega arith)
+
+pub tried-turned : {xs ys ws′ : List ℕ} {r : Bool} (ws : List ℕ) (i way : ℕ) (led : Bool) → (way ≡ 0 → ⊥) → led ≡ reached (leftOut xs ys ws i) (getD xs i 0) (getD ys i 0)
+    → (ws′ ≡ set (set ws i 3) i (cond led way 2)) × (r ≡ led) → Tried xs ys ws i way ws′ r
+tried-turned ws i zero led n f k = absurd (n refl)
+tried-turned ws i (suc way) led n f k = tried ws i (suc way) led f k
 
 -- only the ways of the other reaches matter
 pub tried-same : (xs ys ws vs : List ℕ) (i : ℕ) {way : ℕ} {ws′ : List ℕ} {r : Bool} → ((y : ℕ) → set ws i y ≡ set vs i y) → Tried xs ys ws i way ws′ r → Tried xs ys vs i way ws′ r
@@ -62,19 +71,6 @@ tried-led xs ys ws i (undecided p e q) y = clash y q
 pub tried-lost : (xs ys ws : List ℕ) (i : ℕ) {way : ℕ} {ws₁ : List ℕ} {r₁ : Bool} → Tried xs ys ws i way ws₁ r₁ → r₁ ≡ false → (ledRound (leftOut xs ys ws i) xs ys i way ≡ false) × (ws₁ ≡ set ws i 2)
 tried-lost xs ys ws i (oriented p e q) y = clash q y
 tried-lost xs ys ws i (undecided p e q) y = (p, e)
-
--- one of two ends
-pub pick-first : (way u v : ℕ) → way ≡ 0 → u ≡ pick way u v
-pick-first zero u v e = refl
-pick-first (suc way) u v e = absurd (omega arith)
-
-pub pick-second : (way u v : ℕ) → (way ≡ 0 → ⊥) → v ≡ pick way u v
-pick-second zero u v n = absurd (n refl)
-pick-second (suc way) u v n = refl
-
-pub pick-below : (way u v : ℕ) {n : ℕ} → u < n → v < n → pick way u v < n
-pick-below zero u v l k = l
-pick-below (suc way) u v l k = k
 
 -- a reach is a gate exactly if its kind is 0
 pub kind-gate : (k : ℕ) → k ≡ 0 → isGated (kindOf k) ≡ true

@@ -1,11 +1,12 @@
 // Tests of a partial orientation over a table whose half-edges are indexed: which basin fails to reach all, and whether a reach can get a way
 // without loss. These functions are for the planner; what they require it has checked.
 ghost use mathlib.Core.Path.{_≡_};
+ghost use mathlib.Core.Bool.{cond};
 ghost use Prim.Native.Nat.{_≤_, _<_};
-ghost use lib.ListN.{length, getD};
-ghost use Rattle.half_edges.specs.Ends.{arcsOf, sided, pick};
+ghost use lib.ListN.{length, set};
+ghost use Rattle.half_edges.specs.Ends.{arcsOf, sided};
 ghost use Rattle.orienting.specs.Ready.{Ready, FirstUnseen, FirstUnreached, ShutInBasin};
-ghost use Rattle.orienting.specs.Tries.{ledRound, Tried};
+ghost use Rattle.orienting.specs.Tries.{Tried};
 
 // The lowest basin whose byte is 0, or n if there is none.
 fn first_unseen(n: usize, seen: &[u8]) -> usize
@@ -63,35 +64,18 @@ pub fn shut_in_basin(
     first_unreached(n, a, b, ways, head, next, 0, true, seen, queue)
 }
 
-// The end of reach i in the first row if the way is 0, else in the second.
-fn end_by(a: &[u16], b: &[u16], i: usize, way: u8) -> u16
-    requires { ⌜ i < length (now a) ⌝ }
-    requires { ⌜ i < length (now b) ⌝ }
-    ensures { λ r. ⌜ r ≡ pick way (getD (now (a .entry)) i 0) (getD (now (b .entry)) i 0) ⌝ }
+// Gives reach i the way if its ends are joined so without it; otherwise it is usable either way. Says whether they are.
+fn keep_if(led: bool, ways: &mut [u8], i: usize, way: u8) -> bool
+    requires { ⌜ i < length (now ways) ⌝ }
+    ensures { λ _. ⌜ now (ways .exit) ≡ set (now (ways .entry)) i (cond led way 2) ⌝ }
+    ensures { λ r. ⌜ r ≡ led ⌝ }
 {
-    if way == 0 { a[i] } else { b[i] }
-}
-
-// Whether the end to which reach i passes with the way (0 as drawn, else turned) leads to its other end: then it can get that way without loss.
-fn leads_round(
-    n: usize,
-    a: &[u16],
-    b: &[u16],
-    ways: &[u8],
-    head: &[u16],
-    next: &[u16],
-    i: usize,
-    way: u8,
-    seen: &mut [u8],
-    queue: &mut [u16],
-) -> bool
-    requires { ⌜ Ready n (now a) (now b) (now ways) (now head) (now next) (now seen) (now queue) ⌝ }
-    requires { ⌜ i < length (now a) ⌝ }
-    ensures { λ r. ⌜ r ≡ ledRound (arcsOf (now (a .entry)) (now (b .entry)) (now (ways .entry))) (now (a .entry)) (now (b .entry)) i way ⌝ }
-{
-    let from = end_by(b, a, i, way);
-    let to = end_by(a, b, i, way);
-    leading::leads(n, a, b, ways, head, next, from, to, seen, queue)
+    if led {
+        ways[i] = way;
+        return true;
+    }
+    ways[i] = 2;
+    false
 }
 
 // Gives reach i the way if that loses nothing; otherwise it is usable either way. Says whether it could.
@@ -112,10 +96,10 @@ pub fn try_way(
     ensures { λ r. ⌜ Tried (now (a .entry)) (now (b .entry)) (now (ways .entry)) i way (now (ways .exit)) r ⌝ }
 {
     ways[i] = 3;
-    if leads_round(n, a, b, ways, head, next, i, way, seen, queue) {
-        ways[i] = way;
-        return true;
+    if way == 0 {
+        let led = leading::leads(n, a, b, ways, head, next, b[i], a[i], seen, queue);
+        return keep_if(led, ways, i, way);
     }
-    ways[i] = 2;
-    false
+    let led = leading::leads(n, a, b, ways, head, next, a[i], b[i], seen, queue);
+    keep_if(led, ways, i, way)
 }

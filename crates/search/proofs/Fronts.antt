@@ -1,10 +1,10 @@
 -- The search as a whole: its loop's invariant, how it begins, a turn, and what holds at the end.
 -- Assumes nothing.
-use Prim.Native.Nat.{ℕ, _+_, _≤_, _<_}
-use mathlib.Core.Path.{_≡_, refl, sym, subst, _∙_}
+use Prim.Native.Nat.{ℕ, zero, suc, _+_, _≤_, _<_}
+use mathlib.Core.Path.{_≡_, refl, sym, ap, subst, _∙_}
 use mathlib.Core.Bool.{Bool, true, false}
 use mathlib.Core.Logic.{_⊎_, inl, inr, ⊎-elim}
-use mathlib.Core.List.{List, _++_}
+use mathlib.Core.List.{List, _∷_, _++_}
 use native.Mathlib.Decide.{ℕ-discrete, decLt}
 use native.Mathlib.Omega.{arith}
 use borrow.Author.Count.{below-more}
@@ -74,6 +74,19 @@ module _ (n : ℕ) (d : List ℕ) (long : n ≤ length d) where
 
   pub cleared : (v : ℕ) → v < n → getD (replicate n 0 ++ drop n d) v 0 ≡ 0
   cleared v l = List·getD-append (replicate n 0) (drop n d) 0 v (rw length-replicate l) ∙ getD-replicate n v 0 0 l
+
+-- fresh zeros are as if they were cleared
+module _ (m : ℕ) (d : List ℕ) (fresh : d ≡ replicate m 0) where
+  pub fresh-length : length d ≡ m
+  fresh-length = rw (fresh, length-replicate)
+
+  pub fresh-cleared : (n : ℕ) → n ≤ m → d ≡ replicate n 0 ++ drop n d
+  fresh-cleared n l = rw fresh (zeros n m l)
+    where
+      zeros : (n m : ℕ) → n ≤ m → replicate {A = ℕ} m 0 ≡ replicate n 0 ++ drop n (replicate m 0)
+      zeros zero m l = refl
+      zeros (suc n) zero l = absurd (omega arith)
+      zeros (suc n) (suc m) l = ap {B = List ℕ} (λ r. 0 ∷ r) (zeros n m (omega arith))
 
 module _ {A : List Arc} {n start : ℕ} where
   -- how it begins: start is visited

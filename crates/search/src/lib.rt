@@ -42,7 +42,7 @@ fn far(a: &[u16], b: &[u16], h: u16) -> u16
 }
 
 // Marks basin w and puts it at the end of the queue, unless it is seen already. Returns the queue's end.
-fn visit(w: u16, seen: &mut [u8], queue: &mut [u16], tail: usize) -> usize
+pub fn visit(w: u16, seen: &mut [u8], queue: &mut [u16], tail: usize) -> usize
     requires { ⌜ w < length (now seen) ⌝ }
     requires { ⌜ tail + unseen (now seen) ≤ length (now queue) ⌝ }
     ensures { λ r. ⌜ Visited w (now (seen .entry)) (now (queue .entry)) tail (now (seen .exit)) (now (queue .exit)) r ⌝ }

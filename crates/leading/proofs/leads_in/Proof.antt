@@ -2,13 +2,15 @@
 -- Assumes nothing.
 use Prim.Native.Nat.{ℕ, _≤_}
 use mathlib.Core.Path.{_≡_, refl, sym, _∙_}
-use mathlib.Core.List.{List, map}
+use mathlib.Core.List.{List, _++_, map}
 use native.Mathlib.Omega.{arith}
-use lib.ListN.{length}
+use lib.ListN.{length, drop, replicate}
+use Rattle.network.specs.Networks.{maxBasins}
 use Rattle.network.specs.Orientations.{Arc, reached}
 use Rattle.half_edges.specs.Ends.{arcsOf, flipWay}
 use Rattle.half_edges.proofs.Laws.{reached-flipped}
-use Rattle.search.proofs.Fronts.{cleared, begins, begins-grew, newly-apart, unmet, joins}
+use Rattle.search.proofs.Counts.{unseen-le}
+use Rattle.search.proofs.Fronts.{cleared, fresh-length, fresh-cleared, begins, begins-grew, newly-apart, unmet, joins}
 use Rattle.leading.proofs.leads_in.Statement.{statement}
 use Rattle.leading.proofs.leads_in.Tie as tie
 
@@ -24,22 +26,26 @@ against c = reached-flipped (c .args .a .now) (c .args .b .now) (c .args .ways .
 
 -- room for the search upstream
 up-seen : (c : tie.Start) → c .args .n ≤ length (c .args .upseen .now)
-up-seen c = omega (arith, c .pre .1 .1 .0, c .pre .1 .1 .1 .0)
+up-seen c = omega (arith, fresh-length maxBasins (c .args .upseen .now) (c .pre .1 .1 .1 .0), c .pre .1 .1 .0)
 
 up-queue : (c : tie.Start) → length (c .args .upseen .now) ≤ length (c .args .upqueue .now)
-up-queue c = omega (arith, c .pre .1 .1 .1 .0, c .pre .1 .1 .1 .1)
+up-queue c = omega (arith, fresh-length maxBasins (c .args .upseen .now) (c .pre .1 .1 .1 .0), c .pre .1 .1 .1 .1)
+
+-- its marks are as if cleared
+up-cleared : (c : tie.Start) → c .args .upseen .now ≡ replicate (c .args .n) 0 ++ drop (c .args .n) (c .args .upseen .now)
+up-cleared c = fresh-cleared maxBasins (c .args .upseen .now) (c .pre .1 .1 .1 .0) (c .args .n) (c .pre .1 .1 .0)
 
 begin-requires : tie.Need-begin-requires
 begin-requires c κs = let start = c .before .before .before .before .before .before .before .before .before .before .before in (start .pre .0 .starts, (start .pre .0 .seen-room, start .pre .0 .queue-room))
 
-begin-requires-2 : tie.Need-begin-requires-2
-begin-requires-2 c κs = let start = c .before .before .before .before .before .before .before .before .before .before .before .before .before .before .before .before .before .before in (start .pre .1 .0, (up-seen start, up-queue start))
+visit-requires : tie.Need-visit-requires
+visit-requires c κs = let start = c .before .before .before .before .before .before .before .before .before .before .before .before .before .before .before .before .before .before in (omega (arith, start .pre .1 .0, up-seen start), omega (arith, unseen-le (start .args .upseen .now), up-queue start))
 
 meet-requires : tie.Need-meet-requires
 meet-requires c κs =
     let start = c .before .before .before .before .before .before .before .before .before .before .before .before .before .before .before .before .before .before .before .before .before .before .before .before .before in
     let d = begins {A = along start} (start .args .seen .now) (start .pre .0 .seen-room) (start .pre .0 .queue-room) (start .pre .0 .starts) refl (c .before .before .before .before .before .before .before .before .before .before .before .before .before .begin .ensures) in
-    let u = begins {A = up start} (start .args .upseen .now) (up-seen start) (up-queue start) (start .pre .1 .0) refl (c .before .before .before .before .before .before .begin2 .ensures) in
+    let u = begins {A = up start} (start .args .upseen .now) (up-seen start) (up-queue start) (start .pre .1 .0) (up-cleared start) (c .before .before .before .before .before .before .visit .ensures) in
     (omega (arith, d .sound .room), λ k l. omega (arith, d .sound .basins k l, u .sound .long))
 
 same-length : tie.Need-same-length
@@ -49,23 +55,23 @@ same-length-2 : tie.Need-same-length-2
 same-length-2 c = c .before .before .before .before .before .before .before .before .before .before .before .before .before .before .before .begin .kept .1 .1 .1 .0
 
 same-length-3 : tie.Need-same-length-3
-same-length-3 c = c .before .before .before .before .before .before .before .before .begin2 .kept .1 .1 .0
+same-length-3 c = c .before .before .before .before .before .before .before .before .visit .kept .1 .0
 
 same-length-4 : tie.Need-same-length-4
-same-length-4 c = c .before .before .before .before .before .before .before .before .begin2 .kept .1 .1 .1 .0
+same-length-4 c = c .before .before .before .before .before .before .before .before .visit .kept .1 .1 .0
 
 returns : tie.Need-returns
 returns c =
     let start = c .before .before .before .before .before .before .before .before .before .before .before .before .before .before .before .before .before .before .before .before .before .before .before .before .before .before .before in
     let d = begins {A = along start} (start .args .seen .now) (start .pre .0 .seen-room) (start .pre .0 .queue-room) (start .pre .0 .starts) refl (c .before .before .before .before .before .before .before .before .before .before .before .before .before .before .before .begin .ensures) in
-    let u = begins {A = up start} (start .args .upseen .now) (up-seen start) (up-queue start) (start .pre .1 .0) refl (c .before .before .before .before .before .before .before .before .begin2 .ensures) in
+    let u = begins {A = up start} (start .args .upseen .now) (up-seen start) (up-queue start) (start .pre .1 .0) (up-cleared start) (c .before .before .before .before .before .before .before .before .visit .ensures) in
     sym (joins (against start) (d .sound) (u .sound) (c .before .meet .ensures) (c .if1 .taken))
 
 search-on-requires : tie.Need-search-on-requires
 search-on-requires c κs =
     let start = c .before .before .before .before .before .before .before .before .before .before .before .before .before .before .before .before .before .before .before .before .before .before .before .before .before .before .before .before .before .before .before in
     let d = begins {A = along start} (start .args .seen .now) (start .pre .0 .seen-room) (start .pre .0 .queue-room) (start .pre .0 .starts) refl (c .before .before .before .before .before .before .before .before .before .before .before .before .before .before .before .before .before .before .before .begin .ensures) in
-    let u = begins {A = up start} (start .args .upseen .now) (up-seen start) (up-queue start) (start .pre .1 .0) refl (c .before .before .before .before .before .before .before .before .before .before .before .before .begin2 .ensures) in
+    let u = begins {A = up start} (start .args .upseen .now) (up-seen start) (up-queue start) (start .pre .1 .0) (up-cleared start) (c .before .before .before .before .before .before .before .before .before .before .before .before .visit .ensures) in
     let g = begins-grew (start .args .seen .now) (start .pre .0 .seen-room) (start .pre .0 .queue-room) (start .pre .0 .starts) (c .before .before .before .before .before .before .before .before .before .before .before .before .before .before .before .before .before .before .before .begin .ensures) in
     let m = c .before .before .before .before .before .meet .ensures in
     record {
@@ -74,7 +80,7 @@ search-on-requires c κs =
       index = start .pre .0 .index;
       starts = start .pre .0 .starts;
       goals = start .pre .1 .0;
-      up-room = c .before .before .before .before .before .before .before .before .before .before .before .before .begin2 .kept .1 .1 .1 .0 ∙ start .pre .1 .1 .1 .1;
+      up-room = c .before .before .before .before .before .before .before .before .before .before .before .before .visit .kept .1 .1 .0 ∙ start .pre .1 .1 .1 .1;
       down = d;
       up = u;
       goal-unseen = unmet g m (c .before .before .before .before .if1 .left) (start .args .goal) (cleared (start .args .n) (start .args .seen .now) (start .pre .0 .seen-room) (start .args .goal) (start .pre .1 .0)) (u .started);
@@ -88,10 +94,10 @@ same-length-6 : tie.Need-same-length-6
 same-length-6 c = c .before .before .before .before .before .before .before .before .search-on .kept .1 .1 .1 .1 .1 .1 .1 .1 .1 .0 ∙ c .before .before .before .before .before .before .before .before .before .before .before .before .before .before .before .before .before .before .before .before .before .before .before .before .before .before .before .before .begin .kept .1 .1 .1 .0
 
 same-length-7 : tie.Need-same-length-7
-same-length-7 c = c .before .before .before .before .before .before .before .before .search-on .kept .1 .1 .1 .1 .1 .1 .1 .1 .1 .1 .0 ∙ c .before .before .before .before .before .before .before .before .before .before .before .before .before .before .before .before .before .before .before .before .before .begin2 .kept .1 .1 .0
+same-length-7 c = c .before .before .before .before .before .before .before .before .search-on .kept .1 .1 .1 .1 .1 .1 .1 .1 .1 .1 .0 ∙ c .before .before .before .before .before .before .before .before .before .before .before .before .before .before .before .before .before .before .before .before .before .visit .kept .1 .0
 
 same-length-8 : tie.Need-same-length-8
-same-length-8 c = c .before .before .before .before .before .before .before .before .search-on .kept .1 .1 .1 .1 .1 .1 .1 .1 .1 .1 .1 .0 ∙ c .before .before .before .before .before .before .before .before .before .before .before .before .before .before .before .before .before .before .before .before .before .begin2 .kept .1 .1 .1 .0
+same-length-8 c = c .before .before .before .before .before .before .before .before .search-on .kept .1 .1 .1 .1 .1 .1 .1 .1 .1 .1 .1 .0 ∙ c .before .before .before .before .before .before .before .before .before .before .before .before .before .before .before .before .before .before .before .before .before .visit .kept .1 .1 .0
 
 returns-2 : tie.Need-returns-2
 returns-2 c = c .before .before .before .before .before .before .before .before .search-on .ensures
@@ -99,4 +105,4 @@ returns-2 c = c .before .before .before .before .before .before .before .before 
 pub leads-in-spec : {M : Type 1} → statement M
 leads-in-spec =
     tie.close
-    (tie.spec begin-requires begin-requires-2 meet-requires same-length same-length-2 same-length-3 same-length-4 returns search-on-requires same-length-5 same-length-6 same-length-7 same-length-8 returns-2)
+    (tie.spec begin-requires visit-requires meet-requires same-length same-length-2 same-length-3 same-length-4 returns search-on-requires same-length-5 same-length-6 same-length-7 same-length-8 returns-2)
