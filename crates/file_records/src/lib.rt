@@ -1,4 +1,5 @@
 // File records, which network files and sheets share: the kinds and their body lengths, the record at a position, two-byte values, and bytes put into a buffer.
+// The functions with a `requires` are for the crates above, which have checked it.
 use network::Refusal;
 ghost use mathlib.Core.Path.{_≡_};
 ghost use Prim.Native.Nat.{_+_, _<_, _≤_};

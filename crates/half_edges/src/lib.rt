@@ -1,5 +1,6 @@
 // The half-edges of a reach table: reach i gives half-edge 2 i at its end A, and 2 i + 1 at its end B.
 // An index links the half-edges of each basin, so that a search takes time in proportion to basins plus reaches.
+// The functions with a `requires` are for the crates above, which have checked it.
 ghost use mathlib.Core.Path.{_≡_};
 ghost use mathlib.Core.List.{_++_};
 ghost use Prim.Native.Nat.{_≤_, _<_};

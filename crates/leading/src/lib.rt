@@ -1,4 +1,5 @@
 // Whether one basin leads to another, searched for from both ends.
+// The functions with a `requires` are for the crates above, which have checked it.
 ghost use mathlib.Core.Path.{_≡_};
 ghost use Prim.Native.Nat.{_≤_, _<_};
 ghost use lib.ListN.{length, replicate};

@@ -1,5 +1,6 @@
 // The lister's state: the line that is being printed and the plan in hand. The file is read and the first plan found here, and the next plan asked for;
 // what is still to be printed in a state is `pendingOf`.
+// The functions with a `requires` are for the crates above, which have checked it.
 use lines::Due;
 use lines::due_of;
 use lines::due_refused;

@@ -1,5 +1,6 @@
 // Marks: a set of basins written as 32 bytes, and the count of marked basins.
 // Basin b is bit b mod 8, lowest bit first, of byte b div 8; unused bits are 0.
+// The functions with a `requires` are for the crates above, which have checked it.
 ghost use mathlib.Core.Path.{_≡_};
 ghost use mathlib.Core.List.{_++_};
 ghost use Prim.Native.Nat.{_+_, _≤_, _<_};

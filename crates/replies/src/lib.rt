@@ -1,4 +1,5 @@
 // The planner's replies: a plan or one of two findings, refusals by number, and how what was found is written down in the lent buffers.
+// The functions with a `requires` are for the crates above, which have checked it.
 use network::Refusal;
 use seeking::Found;
 ghost use mathlib.Core.Path.{_≡_};

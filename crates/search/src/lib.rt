@@ -1,4 +1,5 @@
 // Breadth-first search over the indexed half-edges of a reach table.
+// The functions with a `requires` are for the crates above, which have checked it.
 ghost use mathlib.Core.Path.{_≡_};
 ghost use mathlib.Core.List.{_++_};
 ghost use Prim.Native.Nat.{_+_, _≤_, _<_, _/_};

@@ -1,5 +1,6 @@
 // What of the sheets asks the planner, whose promises alone say what is a plan and what a network gets: the plan that a sheet says is kept, and a
 // network's reply is put down as a sheet. For the crate `sheet_rows`.
+// The functions with a `requires` are for the crates above, which have checked it.
 use file_records::WriteAnswer;
 use network::Refusal;
 use replies::Answer;

@@ -1,5 +1,6 @@
 // The reach table as rows of numbers: kinds (0 gated, 1 flap, any other number two-way), ends A and ends B.
 // What a table gets as an answer, which way each of its reaches passes under a setting, and the setting that its ways make.
+// The functions with a `requires` are for the crates above, which have checked it.
 use network::MAX_BASINS;
 use network::MAX_REACHES;
 use network::Refusal;
