@@ -98,7 +98,7 @@ pub printed : (file : List ℕ) → areBytes file ≡ true → Printed file
 unfolding listing firstAnswer shutInFinding loneFinding
 printed file bytes = go (readFile (take maxBytes file)) refl
   where
-    of-network : (N : Network) → readFile (take maxBytes file) ≡ read N → R.Verdict N → Printed file
+    of-network : (N : Network) → readFile (take maxBytes file) ≡ read N → R.Trichotomy N → Printed file
     of-network N e (R.plans s is f) = first (firstPlan N) refl
       where
         first : (o : Option (List ℕ)) → firstPlan N ≡ o → Printed file
@@ -112,4 +112,4 @@ printed file bytes = go (readFile (take maxBytes file)) refl
 
     go : (x : Reading) → readFile (take maxBytes file) ≡ x → Printed file
     go (refused r) e = refusal-printed file r (refused-by r (subst Fair e (file-fair (take maxBytes file)))) (ap readingLines e)
-    go (read N) e = of-network N e (R.verdict N (write-read (take maxBytes file) N (bytes-first maxBytes file bytes) e .accepted))
+    go (read N) e = of-network N e (R.trichotomy N (write-read (take maxBytes file) N (bytes-first maxBytes file bytes) e .accepted))

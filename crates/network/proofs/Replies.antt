@@ -103,19 +103,19 @@ unfolding lowestBridge
 no-lowest N e i = bool-eq-false {b = isBridge N i} (λ y. clash y (find-none (isBridge N) e (range-has 0 (length (N .reaches)) (omega arith) (omega (arith, bridge-below N i y)))))
 
 -- An accepted network has a plan and gets the plan that is asked for, or has none and gets its finding, whatever is asked for.
-pub data Verdict (N : Network) : Type 0 where
-  plans : (s : List ℕ) → isPlan N s ≡ true → ((p : Option (List ℕ)) → answer N p ≡ chosen p) → Verdict N
-  no-way : passable N ≡ false → ((s : List ℕ) → isPlan N s ≡ true → ⊥) → ((p : Option (List ℕ)) → answer N p ≡ shutInFinding N) → Verdict N
-  one-bridge : (i : ℕ) → lowestBridge N ≡ some i → passable N ≡ true → ((s : List ℕ) → isPlan N s ≡ true → ⊥) → ((p : Option (List ℕ)) → answer N p ≡ loneFinding N i) → Verdict N
+pub data Trichotomy (N : Network) : Type 0 where
+  plans : (s : List ℕ) → isPlan N s ≡ true → ((p : Option (List ℕ)) → answer N p ≡ chosen p) → Trichotomy N
+  no-way : passable N ≡ false → ((s : List ℕ) → isPlan N s ≡ true → ⊥) → ((p : Option (List ℕ)) → answer N p ≡ shutInFinding N) → Trichotomy N
+  one-bridge : (i : ℕ) → lowestBridge N ≡ some i → passable N ≡ true → ((s : List ℕ) → isPlan N s ≡ true → ⊥) → ((p : Option (List ℕ)) → answer N p ≡ loneFinding N i) → Trichotomy N
 
-pub verdict : (N : Network) → Accepted N → Verdict N
+pub trichotomy : (N : Network) → Accepted N → Trichotomy N
 unfolding answer
-verdict N ok = go (passable N) refl (lowestBridge N) refl
+trichotomy N ok = go (passable N) refl (lowestBridge N) refl
   where
     at : (b : Bool) (o : Option ℕ) → passable N ≡ b → lowestBridge N ≡ o → (p : Option (List ℕ)) → answer N p ≡ cond b (orLone N o p) (shutInFinding N)
     at b o e f p = ap (λ (x : Bool). cond x (orLone N (lowestBridge N) p) (shutInFinding N)) e ∙ ap (λ (x : Option ℕ). cond b (orLone N x p) (shutInFinding N)) f
 
-    go : (b : Bool) → passable N ≡ b → (o : Option ℕ) → lowestBridge N ≡ o → Verdict N
+    go : (b : Bool) → passable N ≡ b → (o : Option ℕ) → lowestBridge N ≡ o → Trichotomy N
     go false n o f = no-way n (λ s e. clash (plan-passable N s e) n) (at false o n f)
     go true y (some i) f = one-bridge i f y (λ s e. bridge-blocks N i (lowest-is-bridge N f) s e) (at true (some i) y f)
     go true y none f = let p = (theorem N ok) .1 (y, no-lowest N f) in plans (p .0) (p .1) (at true none y f)
@@ -133,9 +133,9 @@ bridge-not-chosen N i none e = let z : _≡_ {A = ℕ} 0 1 = cc in omega arith
 
 -- What an accepted network with a plan is given; and what is given, plan or last plan, only such a network gets.
 pub given-iff : (N : Network) → Accepted N → (p q : Option (List ℕ)) → (answer N p ≡ chosen q) ↔ (((s : List ℕ) × (isPlan N s ≡ true)) × (p ≡ q))
-given-iff N ok p q = go (verdict N ok)
+given-iff N ok p q = go (trichotomy N ok)
   where
-    go : Verdict N → (answer N p ≡ chosen q) ↔ (((s : List ℕ) × (isPlan N s ≡ true)) × (p ≡ q))
+    go : Trichotomy N → (answer N p ≡ chosen q) ↔ (((s : List ℕ) × (isPlan N s ≡ true)) × (p ≡ q))
     go (plans s e f) = (λ a. ((s, e), chosen-inj p q (sym (f p) ∙ a)), λ k. f p ∙ ap chosen (k .1))
     go (no-way n none-is f) = (λ a. absurd (finding-not-chosen N q (sym (f p) ∙ a)), λ k. absurd (none-is (k .0 .0) (k .0 .1)))
     go (one-bridge i e y none-is f) = (λ a. absurd (bridge-not-chosen N i q (sym (f p) ∙ a)), λ k. absurd (none-is (k .0 .0) (k .0 .1)))
@@ -187,12 +187,12 @@ module _ (N : Network) (ok : Accepted N) where
   pub demand-3 : (s t : List ℕ) → isSetting N s ≡ true → isSetting N t ≡ true → before t s ≡ false →
       (nextAnswer N s ≡ nextAnswer N t) ↔ ((p : List ℕ) → isPlan N p ≡ true → before s p ≡ true → before t p ≡ false → ⊥)
   unfolding nextAnswer
-  demand-3 s t hs ht order = go (verdict N ok)
+  demand-3 s t hs ht order = go (trichotomy N ok)
     where
       same : (nextPlan N s ≡ nextPlan N t) ↔ ((p : List ℕ) → isPlan N p ≡ true → before s p ≡ true → before t p ≡ false → ⊥)
       same = next-same N s t hs ht order
 
-      go : Verdict N → (answer N (nextPlan N s) ≡ answer N (nextPlan N t)) ↔ ((p : List ℕ) → isPlan N p ≡ true → before s p ≡ true → before t p ≡ false → ⊥)
+      go : Trichotomy N → (answer N (nextPlan N s) ≡ answer N (nextPlan N t)) ↔ ((p : List ℕ) → isPlan N p ≡ true → before s p ≡ true → before t p ≡ false → ⊥)
       go (plans q e f) = (λ a. same .0 (chosen-inj _ _ (sym (f (nextPlan N s)) ∙ a ∙ f (nextPlan N t))), λ h. ap (answer N) (same .1 h))
       go (no-way n none-is f) = (λ a p e l m. none-is p e, λ h. f (nextPlan N s) ∙ sym (f (nextPlan N t)))
       go (one-bridge i e y none-is f) = (λ a p e′ l m. none-is p e′, λ h. f (nextPlan N s) ∙ sym (f (nextPlan N t)))

@@ -15,7 +15,7 @@ use Rattle.network.specs.Replies.{Outcome, plan, shutIn, lone, refused, shutInF
 use Rattle.network.specs.Plans.{nextPlan}
 use Rattle.network.proofs.Marks.{length-marks}
 use Rattle.network.proofs.Order.{setting-length, plan-setting, next-is-plan, next-is-later, next-is-earliest}
-use Rattle.network.proofs.Replies.{Verdict, plans, no-way, one-bridge, verdict, next-given, last-plan, given-if-later, demand-3}
+use Rattle.network.proofs.Replies.{Trichotomy, plans, no-way, one-bridge, trichotomy, next-given, last-plan, given-if-later, demand-3}
 use Rattle.replies.specs.declared.Answer.{Answer}
 use Rattle.replies.specs.Answers.{Replied}
 use Rattle.planner_laws.specs.Demands.{readReply, Asked, NextShown, DemandThree}
@@ -46,13 +46,13 @@ read-back N (refused x) {plan′} {marks′} sized-refused w = ap (λ (y : Answe
 -- what next replies has these lengths
 next-sized : (N : Network) → Accepted N → (s : List ℕ) → Sized N (nextAnswer N s)
 unfolding nextAnswer shutInFinding loneFinding
-next-sized N ok s = go (verdict N ok)
+next-sized N ok s = go (trichotomy N ok)
   where
     pick : (o : Option (List ℕ)) → nextPlan N s ≡ o → Sized N (chosen o)
     pick none e = sized-refused
     pick (some p) e = sized-plan (setting-length N p (plan-setting N p (next-is-plan N s e)))
 
-    go : Verdict N → Sized N (answer N (nextPlan N s))
+    go : Trichotomy N → Sized N (answer N (nextPlan N s))
     go (plans q e f) = subst⁻¹ (Sized N) (f (nextPlan N s)) (pick (nextPlan N s) refl)
     go (no-way n k f) = subst⁻¹ (Sized N) (f (nextPlan N s)) (sized-shut (length-marks _))
     go (one-bridge i e y k f) = subst⁻¹ (Sized N) (f (nextPlan N s)) (sized-lone (length-marks _))

@@ -18,11 +18,11 @@ use Rattle.network.specs.Replies.{Outcome, plan, shutIn, lone, shutInSide, brid
 use Rattle.network.proofs.Networks.{accepted, gates-below}
 use Rattle.network.proofs.Marks.{length-marks}
 use Rattle.network.proofs.Order.{first-is-plan, first-none}
-use Rattle.network.proofs.Replies.{Verdict, plans, no-way, one-bridge, verdict, room-enough}
+use Rattle.network.proofs.Replies.{Trichotomy, plans, no-way, one-bridge, trichotomy, room-enough}
 use Rattle.file_records.specs.declared.WriteAnswer.{WriteAnswer}
 use Rattle.file_records.specs.declared.WriteAnswer.the-variants.{Refused as Unwritten}
 use Rattle.file_records.specs.Puts.{Wrote, roomFor, WroteWhole}
-use Rattle.replies.specs.declared.Verdict.{Verdict as PlannerVerdict}
+use Rattle.replies.specs.declared.Verdict.{Verdict}
 use Rattle.replies.specs.declared.Verdict.the-variants.{Plan, ShutIn, Lone}
 use Rattle.replies.specs.declared.Answer.{Answer}
 use Rattle.replies.specs.declared.Answer.the-variants as A
@@ -42,13 +42,13 @@ pub data First (N : Network) : Outcome → Type 0 where
 
 pub first-cases : (N : Network) → Accepted N → First N (firstAnswer N)
 unfolding firstAnswer shutInFinding loneFinding
-first-cases N ok = go (verdict N ok)
+first-cases N ok = go (trichotomy N ok)
   where
     pick : (s : List ℕ) → isPlan N s ≡ true → (o : Option (List ℕ)) → firstPlan N ≡ o → First N (chosen o)
     pick s p none e = absurd (first-none N e s p)
     pick s p (some t) e = is-plan t e
 
-    go : Verdict N → First N (answer N (firstPlan N))
+    go : Trichotomy N → First N (answer N (firstPlan N))
     go (plans s p f) = subst⁻¹ (First N) (f (firstPlan N)) (pick s p (firstPlan N) refl)
     go (no-way n k f) = subst⁻¹ (First N) (f (firstPlan N)) (is-shut n)
     go (one-bridge i e y k f) = subst⁻¹ (First N) (f (firstPlan N)) (is-bridge i y e)
@@ -60,16 +60,16 @@ never (is-shut e) r h = true≢false (cc)
 never (is-bridge i e f) r h = true≢false (cc)
 
 -- the sheet of a verdict, from the buffers that its plan and its marks stand in
-abbrev pub verdictSheet : Network → PlannerVerdict → List ℕ → List ℕ → List ℕ
+abbrev pub verdictSheet : Network → Verdict → List ℕ → List ℕ → List ℕ
 verdictSheet N Plan p m = firstBytesSheet (N .reaches) p
 verdictSheet N (ShutIn f) p m = shutInSheet m
 verdictSheet N (Lone f) p m = loneSheet (f .reach) m
 
-verdictOf : Answer → PlannerVerdict
+verdictOf : Answer → Verdict
 verdictOf (A.Refused r) = Plan
 verdictOf (A.Given g) = g .verdict
 
-given-inj : {u v : PlannerVerdict} → given u ≡ given v → u ≡ v
+given-inj : {u v : Verdict} → given u ≡ given v → u ≡ v
 unfolding verdictOf
 given-inj e = ap verdictOf e
 
@@ -97,7 +97,7 @@ module _ (N : Network) (p m : List ℕ) (lp : length p ≡ maxReaches) (lm : len
         go none t = absurd (never (first-cases N t) r (sym (answered none t) ∙ e))
         go (some x) t = put-refused (replySheet N) out r (ap (λ o. firstOf o (roomFor (replySheet N) (length out))) (t ∙ ap some (refused-inj (sym (answered (some x) t) ∙ e))))
 
-    module _ (v : PlannerVerdict) (e : a ≡ given v) where
+    module _ (v : Verdict) (e : a ≡ given v) where
       pub reply-accepted : Accepted N
       reply-accepted = go (tableFault N) refl
         where
