@@ -64,7 +64,7 @@ pub fn shut_in_basin(
     first_unreached(n, a, b, ways, head, next, 0, true, seen, queue)
 }
 
-// Gives reach i the way if its ends are joined so without it; otherwise it is usable either way. Says whether they are.
+// Gives reach i the way if the search led round it; otherwise it is usable either way. Returns what the search said.
 fn keep_if(led: bool, ways: &mut [u8], i: usize, way: u8) -> bool
     requires { ⌜ i < length (now ways) ⌝ }
     ensures { λ _. ⌜ now (ways .exit) ≡ set (now (ways .entry)) i (cond led way 2) ⌝ }
@@ -78,7 +78,8 @@ fn keep_if(led: bool, ways: &mut [u8], i: usize, way: u8) -> bool
     false
 }
 
-// Gives reach i the way if that loses nothing; otherwise it is usable either way. Says whether it could.
+// Gives reach i the way (0 as drawn, else turned) if that loses nothing: if the end to which it passes leads to the other without it. Otherwise it is
+// usable either way. Says whether it could. The search is called at two places, so that it stays a function of its own: inlined here it is slower.
 pub fn try_way(
     n: usize,
     a: &[u16],
