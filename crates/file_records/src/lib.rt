@@ -135,13 +135,9 @@ pub fn put_word(out: &mut [u8], at: usize, value: u16)
 }
 
 // Bytes go to a place of a buffer.
-pub fn put_bytes(out: &mut [u8], at: usize, bytes: &[u8])
-    requires { ⌜ at + length (now bytes) ≤ length (now out) ⌝ }
-    ensures { λ _. ⌜ now (out .exit) ≡ sets (now (out .entry)) at (now (bytes .entry)) ⌝ }
+pub fn put_bytes(out: &mut [u8], at: usize, values: &[u8])
+    requires { ⌜ at + length (now values) ≤ length (now out) ⌝ }
+    ensures { λ _. ⌜ now (out .exit) ≡ sets (now (out .entry)) at (now (values .entry)) ⌝ }
 {
-    let mut i: usize = 0;
-    while i < bytes.len() {
-        out[at + i] = bytes[i];
-        i += 1;
-    }
+    bytes::copy(values, &mut out[at..]);
 }

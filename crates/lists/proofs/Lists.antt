@@ -6,7 +6,7 @@ use native.Mathlib.Numerals.{add-one}
 use native.Mathlib.Omega.{arith}
 use mathlib.Core.Path.{_≡_, refl, ap, _∙_}
 use mathlib.Core.Bool.{Bool, true, false, cond}
-use mathlib.Core.List.{List, [], _∷_, _++_, map, append-nil}
+use mathlib.Core.List.{List, [], _∷_, _++_, map}
 use lib.ListN.{length, getD, take, drop, set, replicate, length-append, length-take, length-drop, length-set, drop-of-length-le, List·getD-append}
 use lib.Seq.{sets, length-sets, getD-take, getD-drop, getD-append-add, take-nil, take-all, take-suc, take-suc-set, drop-cons, set-at, append-snoc, length-take-le}
 
@@ -145,7 +145,3 @@ module _ {s old new : List ℕ} {i : ℕ} (c : Copied s old new i) where
   -- one member more
   pub copied-more : i < length s → i < length old → (x : ℕ) → x ≡ getD s i 0 → Copied s old (set new i x) (i + 1)
   copied-more l k x e = record { within = omega arith; room = omega arith; bytes = ap (λ (y : List ℕ). set y i x) (c .bytes) ∙ rw e (copy-more s old i 0 l k) }
-
-  -- all of a row as long as the other is copied
-  pub copied-whole : length s ≤ i → length old ≡ length s → new ≡ s
-  copied-whole l e = c .bytes ∙ rw (take-all i s l, drop-of-length-le old {i = i} (omega arith)) (append-nil s)

@@ -10,16 +10,12 @@ ghost use Rattle.orienting.specs.Ready.{Ready};
 ghost use Rattle.seeking.specs.Seeks.{AtPlan};
 ghost use Rattle.stepping.specs.Advances.{gatesBefore, Advanced};
 
-// Copies a row.
+// Copies a row over one of the same length.
 fn copy_row(from: &[u8], to: &mut [u8])
     requires { ⌜ length (now to) ≡ length (now from) ⌝ }
     ensures { λ _. ⌜ now (to .exit) ≡ now (from .entry) ⌝ }
 {
-    let mut i = 0;
-    while i < from.len() {
-        to[i] = from[i];
-        i += 1;
-    }
+    bytes::copy(from, to);
 }
 
 // From a plan, whose ways stand in `ways`, to the next: its ways stand there then.

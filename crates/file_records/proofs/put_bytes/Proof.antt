@@ -1,63 +1,37 @@
--- `file_records::put_bytes` meets its contract. The loop's invariant: with the bytes from i on stored, all are. The measure is how many are left.
+-- `file_records::put_bytes` meets its contract: the bytes are copied to the front of the part from the place on.
 -- Assumes nothing.
-use Prim.Native.Nat.{_-_}
+use Prim.Native.Nat.{ℕ, _-_}
 use native.Mathlib.Omega.{arith}
-use lib.ListN.{length}
-use Rattle.file_records.proofs.Writing.{Putting, putting-none, putting-more, putting-all}
+use mathlib.Core.Path.{_∙_, ap}
+use mathlib.Core.List.{List}
+use lib.ListN.{length, take, drop, length-drop}
+use Rattle.lists.proofs.Lists.{take-rest}
+use borrow.Author.Needs.{needs}
+use Rattle.file_records.proofs.Writing.{part-back, front-sets}
 use Rattle.file_records.proofs.put_bytes.Statement.{statement}
 use Rattle.file_records.proofs.put_bytes.Tie as tie
 
-abbrev Inv-loop : tie.InvT-loop
-Inv-loop out₀ at bytes i₀ out i = Putting bytes out₀ at out i
+sub-copy : tie.Need-sub-copy
+sub-copy c = search needs
 
-abbrev μ-loop : tie.MeasureT-loop
-μ-loop out₀ at bytes i₀ out i = length bytes - i
+part-copy-start : tie.Need-part-copy-start
+part-copy-start c = search needs
 
-loop-holds : tie.Need-loop-holds Inv-loop μ-loop
-loop-holds c = putting-none (c .args .bytes .now) (c .args .out .now) (c .args .at)
+part-copy-end : tie.Need-part-copy-end
+part-copy-end c = search needs
 
-shared-slice-read-out : tie.Need-shared-slice-read-out Inv-loop μ-loop
-shared-slice-read-out c = omega arith
+copy-requires : tie.Need-copy-requires
+copy-requires c κs = search needs
 
-add-out : tie.Need-add-out Inv-loop μ-loop
-add-out c = omega arith
+same-length : tie.Need-same-length
+same-length c = search needs
 
-slice-write-out : tie.Need-slice-write-out Inv-loop μ-loop
-slice-write-out c = omega (arith, c .before .before .loop .inv .long)
-
-add-i : tie.Need-add-i Inv-loop μ-loop
-add-i c = omega arith
-
-loop-less : tie.Need-loop-less Inv-loop μ-loop
-loop-less c = omega arith
-
-loop-again : tie.Need-loop-again Inv-loop μ-loop
-loop-again c =
-    let s = c .before .before .before .args in
-    let l = c .before .before .loop in
-    putting-more (s .bytes .now) (s .out .now) (s .at) (l .out) (l .i) (l .inv) (c .before .loop-test .taken)
-
-same-length : tie.Need-same-length Inv-loop μ-loop
-same-length c = c .before .loop .inv .long
-
-returns : tie.Need-returns Inv-loop μ-loop
+returns : tie.Need-returns
 returns c =
-    let s = c .before .before .args in
-    let l = c .before .loop in
-    putting-all (s .bytes .now) (s .out .now) (s .at) (l .out) (l .i) (l .inv) (c .loop-test .left)
+    let s = c .before .before .before .before .before .before in
+    let l = s .args .out .now in
+    let xs = s .args .values .now in
+    part-back (s .args .at) l _ xs (s .pre) (c .before .before .copy .ensures .1 ∙ front-sets xs (take (length l - s .args .at) (drop (s .args .at) l)) (omega (arith, s .pre, length-drop (s .args .at) l, ap (λ (v : List ℕ). length v) (take-rest (s .args .at) l))))
 
 pub put-bytes-spec : {M : Type 1} → statement M
-put-bytes-spec =
-    tie.close
-    (tie.spec
-    Inv-loop
-    μ-loop
-    loop-holds
-    shared-slice-read-out
-    add-out
-    slice-write-out
-    add-i
-    loop-less
-    loop-again
-    same-length
-    returns)
+put-bytes-spec = tie.close (tie.spec sub-copy part-copy-start part-copy-end copy-requires same-length returns)

@@ -1,42 +1,25 @@
--- `stepping::copy_row` meets its contract: the entries passed are copied.
+-- `stepping::copy_row` meets its contract: all of the row is copied.
 -- Assumes nothing.
-use Prim.Native.Nat.{_-_}
 use native.Mathlib.Omega.{arith}
-use mathlib.Core.Path.{_≡_, refl, _∙_}
-use lib.ListN.{length}
-use Rattle.lists.proofs.Lists.{Copied, copied-none, copied-length, copied-more, copied-whole}
+use mathlib.Core.Path.{_∙_}
+use mathlib.Core.List.{append-nil}
+use lib.ListN.{length, drop-of-length-le}
+use lib.Seq.{take-all}
+use borrow.Author.Needs.{needs}
 use Rattle.stepping.proofs.copy_row.Statement.{statement}
 use Rattle.stepping.proofs.copy_row.Tie as tie
 
-abbrev Inv-loop : tie.InvT-loop
-Inv-loop from to₀ i₀ to i = Copied from to₀ to i
+copy-requires : tie.Need-copy-requires
+copy-requires c κs = search needs
 
-abbrev μ-loop : tie.MeasureT-loop
-μ-loop from to₀ i₀ to i = length from - i
+same-length : tie.Need-same-length
+same-length c = search needs
 
-loop-holds : tie.Need-loop-holds Inv-loop μ-loop
-loop-holds c = copied-none _ _
-
-shared-slice-read-to : tie.Need-shared-slice-read-to Inv-loop μ-loop
-shared-slice-read-to c = omega arith
-
-slice-write-to : tie.Need-slice-write-to Inv-loop μ-loop
-slice-write-to c = omega (arith, copied-length (c .before .before .loop .inv), c .before .before .before .pre)
-
-add-i : tie.Need-add-i Inv-loop μ-loop
-add-i c = omega arith
-
-loop-less : tie.Need-loop-less Inv-loop μ-loop
-loop-less c = omega arith
-
-loop-again : tie.Need-loop-again Inv-loop μ-loop
-loop-again c = copied-more (c .before .before .loop .inv) (omega arith) (omega (arith, c .before .before .before .pre)) _ refl
-
-same-length : tie.Need-same-length Inv-loop μ-loop
-same-length c = copied-length (c .before .loop .inv)
-
-returns : tie.Need-returns Inv-loop μ-loop
-returns c = copied-whole (c .before .loop .inv) (omega arith) (omega (arith, c .before .before .pre))
+returns : tie.Need-returns
+returns c =
+    let s = c .before .before .before .before .before .before in
+    let from = s .args .from .now in
+    c .before .before .copy .ensures .1 ∙ rw (take-all (length from) from (omega arith), drop-of-length-le (s .args .to .now) {i = length from} (omega (arith, s .pre))) (append-nil from)
 
 pub copy-row-spec : {M : Type 1} → statement M
-copy-row-spec = tie.close (tie.spec Inv-loop μ-loop loop-holds shared-slice-read-to slice-write-to add-i loop-less loop-again same-length returns)
+copy-row-spec = tie.close (tie.spec copy-requires same-length returns)
