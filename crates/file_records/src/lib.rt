@@ -54,6 +54,7 @@ pub enum Body {
     Unknown,
 }
 
+// The body of a kind, by the table.
 pub fn body_length(kind: u8) -> Body
     ensures { λ r. ⌜ r ≡ bodyAnswer (bodyOf kind) ⌝ }
 {

@@ -9,7 +9,7 @@ use mathlib.Core.Bool.{true, false}
 use mathlib.Core.Logic.{_⊎_, inl, inr, ⊎-elim}
 use mathlib.Core.Option.{Option, none, some}
 use mathlib.Core.List.{List, []}
-use lib.ListN.{length, getD, set, take, drop, length-set, length-append, length-take, length-drop}
+use lib.ListN.{length, getD, set, length-set, length-append, length-take, length-drop}
 use lib.Seq.{getD-set-same, getD-set-other, set-getD, ext-getD}
 use lib.Dec.{eqb}
 use borrow.Author.Tests.{eqb-true}
@@ -25,8 +25,8 @@ use Rattle.lists.proofs.Bools.{decide, clash}
 use Rattle.network.proofs.Ways.{length-ways, plain-way, gate-way, gate-small}
 use Rattle.network.proofs.Order.{before-irrefl, setting-length, plan-setting, next-is-plan, next-is-later, next-unique}
 use Rattle.network.proofs.Bridges.{plan-gate-small}
+use Rattle.orientations.specs.Partials.{upTo}
 use Rattle.orientations.specs.Least.{Fits, LeastPlan, Shaped, Alike, NoneFrom}
-use Rattle.tables.specs.Partial.{orientedTo}
 use Rattle.orientations.proofs.Least.{ways-order, before-at, before-up, between, fits-strong, fits-set, fits-at, same-plain}
 
 -- ---- ways oriented as a setting has them up to a reach
@@ -48,68 +48,68 @@ module _ (N : Network) (s : List ℕ) where
   abbrev t : List Reach
   t = N .reaches
 
-  pub oriented-length : (i : ℕ) → i ≤ length t → length (orientedTo t s i) ≡ length t
+  pub oriented-length : (i : ℕ) → i ≤ length t → length (upTo N (ways t s) i) ≡ length t
   oriented-length i l = simp (length-append, length-take, length-drop, length-ways) (omega arith)
 
-  pub oriented-below : (i j : ℕ) → i ≤ length t → j < i → getD (orientedTo t s i) j 3 ≡ getD (ways t s) j 3
+  pub oriented-below : (i j : ℕ) → i ≤ length t → j < i → getD (upTo N (ways t s) i) j 3 ≡ getD (ways t s) j 3
   oriented-below i j l k = getD-front (ways t s) (ways t []) i j 3 (omega (arith, length-ways t s)) k
 
-  pub oriented-above : (i j : ℕ) → i ≤ length t → i ≤ j → getD (orientedTo t s i) j 3 ≡ getD (ways t []) j 3
+  pub oriented-above : (i j : ℕ) → i ≤ length t → i ≤ j → getD (upTo N (ways t s) i) j 3 ≡ getD (ways t []) j 3
   oriented-above i j l k = getD-back (ways t s) (ways t []) i j 3 (omega (arith, length-ways t s)) k
 
-  pub oriented-gate : (i j : ℕ) → i ≤ length t → i ≤ j → j < length t → isGated ((reachAt N j) .kind) ≡ true → getD (orientedTo t s i) j 3 ≡ 2
+  pub oriented-gate : (i j : ℕ) → i ≤ length t → i ≤ j → j < length t → isGated ((reachAt N j) .kind) ≡ true → getD (upTo N (ways t s) i) j 3 ≡ 2
   oriented-gate i j l k jl g = oriented-above i j l k ∙ (gate-way t [] j jl g) .byte
 
-  pub oriented-all : orientedTo t s (length t) ≡ ways t s
-  oriented-all = ext-getD 3 (orientedTo t s (length t)) (ways t s) (oriented-length (length t) (omega arith) ∙ sym (length-ways t s)) (λ j l. oriented-below (length t) j (omega arith) (omega (arith, oriented-length (length t) (omega arith))))
+  pub oriented-all : upTo N (ways t s) (length t) ≡ ways t s
+  oriented-all = ext-getD 3 (upTo N (ways t s) (length t)) (ways t s) (oriented-length (length t) (omega arith) ∙ sym (length-ways t s)) (λ j l. oriented-below (length t) j (omega arith) (omega (arith, oriented-length (length t) (omega arith))))
 
-  pub oriented-none : orientedTo t s 0 ≡ ways t []
-  oriented-none = ext-getD 3 (orientedTo t s 0) (ways t []) (oriented-length 0 (omega arith) ∙ sym (length-ways t [])) (λ j l. oriented-above 0 j (omega arith) (omega arith))
+  pub oriented-none : upTo N (ways t s) 0 ≡ ways t []
+  oriented-none = ext-getD 3 (upTo N (ways t s) 0) (ways t []) (oriented-length 0 (omega arith) ∙ sym (length-ways t [])) (λ j l. oriented-above 0 j (omega arith) (omega arith))
 
   -- the reaches that are no gates have the ways of their kinds
-  pub oriented-shaped : (i : ℕ) → i ≤ length t → Shaped t (orientedTo t s i)
+  pub oriented-shaped : (i : ℕ) → i ≤ length t → Shaped t (upTo N (ways t s) i)
   oriented-shaped i l j jl n = go (decLt j i)
     where
-      go : Dec (j < i) → getD (orientedTo t s i) j 3 ≡ way ((reachAt N j) .kind) []
+      go : Dec (j < i) → getD (upTo N (ways t s) i) j 3 ≡ way ((reachAt N j) .kind) []
       go (yes k) = oriented-below i j l k ∙ plain-way t s j jl n
       go (no k) = oriented-above i j l (omega arith) ∙ plain-way t [] j jl n
 
   -- one reach more: it gets its way under s
-  pub oriented-more : (i : ℕ) → i < length t → set (orientedTo t s i) i (getD (ways t s) i 3) ≡ orientedTo t s (suc i)
-  oriented-more i l = ext-getD 3 (set (orientedTo t s i) i x) (orientedTo t s (suc i)) (length-set (orientedTo t s i) i x ∙ oriented-length i (omega arith) ∙ sym (oriented-length (suc i) l)) at
+  pub oriented-more : (i : ℕ) → i < length t → set (upTo N (ways t s) i) i (getD (ways t s) i 3) ≡ upTo N (ways t s) (suc i)
+  oriented-more i l = ext-getD 3 (set (upTo N (ways t s) i) i x) (upTo N (ways t s) (suc i)) (length-set (upTo N (ways t s) i) i x ∙ oriented-length i (omega arith) ∙ sym (oriented-length (suc i) l)) at
     where
       x : ℕ
       x = getD (ways t s) i 3
 
-      at : (j : ℕ) → j < length (set (orientedTo t s i) i x) → getD (set (orientedTo t s i) i x) j 3 ≡ getD (orientedTo t s (suc i)) j 3
+      at : (j : ℕ) → j < length (set (upTo N (ways t s) i) i x) → getD (set (upTo N (ways t s) i) i x) j 3 ≡ getD (upTo N (ways t s) (suc i)) j 3
       at j jl = go (ℕ-discrete j i) (decLt j i)
         where
-          go : Dec (j ≡ i) → Dec (j < i) → getD (set (orientedTo t s i) i x) j 3 ≡ getD (orientedTo t s (suc i)) j 3
-          go (yes e) d = rw e (getD-set-same (orientedTo t s i) i x 3 (omega (arith, oriented-length i (omega arith))) ∙ sym (oriented-below (suc i) i l (omega arith)))
-          go (no n) (yes k) = getD-set-other (orientedTo t s i) i j x 3 n ∙ oriented-below i j (omega arith) k ∙ sym (oriented-below (suc i) j l (omega arith))
-          go (no n) (no k) = getD-set-other (orientedTo t s i) i j x 3 n ∙ oriented-above i j (omega arith) (omega arith) ∙ sym (oriented-above (suc i) j l (omega arith))
+          go : Dec (j ≡ i) → Dec (j < i) → getD (set (upTo N (ways t s) i) i x) j 3 ≡ getD (upTo N (ways t s) (suc i)) j 3
+          go (yes e) d = rw e (getD-set-same (upTo N (ways t s) i) i x 3 (omega (arith, oriented-length i (omega arith))) ∙ sym (oriented-below (suc i) i l (omega arith)))
+          go (no n) (yes k) = getD-set-other (upTo N (ways t s) i) i j x 3 n ∙ oriented-below i j (omega arith) k ∙ sym (oriented-below (suc i) j l (omega arith))
+          go (no n) (no k) = getD-set-other (upTo N (ways t s) i) i j x 3 n ∙ oriented-above i j (omega arith) (omega arith) ∙ sym (oriented-above (suc i) j l (omega arith))
 
   -- one reach less: a gate is left either way again, another reach has its way anyhow
-  pub oriented-less : (i : ℕ) → i < length t → set (orientedTo t s (suc i)) i (getD (ways t []) i 3) ≡ orientedTo t s i
-  oriented-less i l = ext-getD 3 (set (orientedTo t s (suc i)) i x) (orientedTo t s i) (length-set (orientedTo t s (suc i)) i x ∙ oriented-length (suc i) l ∙ sym (oriented-length i (omega arith))) at
+  pub oriented-less : (i : ℕ) → i < length t → set (upTo N (ways t s) (suc i)) i (getD (ways t []) i 3) ≡ upTo N (ways t s) i
+  oriented-less i l = ext-getD 3 (set (upTo N (ways t s) (suc i)) i x) (upTo N (ways t s) i) (length-set (upTo N (ways t s) (suc i)) i x ∙ oriented-length (suc i) l ∙ sym (oriented-length i (omega arith))) at
     where
       x : ℕ
       x = getD (ways t []) i 3
 
-      at : (j : ℕ) → j < length (set (orientedTo t s (suc i)) i x) → getD (set (orientedTo t s (suc i)) i x) j 3 ≡ getD (orientedTo t s i) j 3
+      at : (j : ℕ) → j < length (set (upTo N (ways t s) (suc i)) i x) → getD (set (upTo N (ways t s) (suc i)) i x) j 3 ≡ getD (upTo N (ways t s) i) j 3
       at j jl = go (ℕ-discrete j i) (decLt j i)
         where
-          go : Dec (j ≡ i) → Dec (j < i) → getD (set (orientedTo t s (suc i)) i x) j 3 ≡ getD (orientedTo t s i) j 3
-          go (yes e) d = rw e (getD-set-same (orientedTo t s (suc i)) i x 3 (omega (arith, oriented-length (suc i) l)) ∙ sym (oriented-above i i (omega arith) (omega arith)))
-          go (no n) (yes k) = getD-set-other (orientedTo t s (suc i)) i j x 3 n ∙ oriented-below (suc i) j l (omega arith) ∙ sym (oriented-below i j (omega arith) k)
-          go (no n) (no k) = getD-set-other (orientedTo t s (suc i)) i j x 3 n ∙ oriented-above (suc i) j l (omega arith) ∙ sym (oriented-above i j (omega arith) (omega arith))
+          go : Dec (j ≡ i) → Dec (j < i) → getD (set (upTo N (ways t s) (suc i)) i x) j 3 ≡ getD (upTo N (ways t s) i) j 3
+          go (yes e) d = rw e (getD-set-same (upTo N (ways t s) (suc i)) i x 3 (omega (arith, oriented-length (suc i) l)) ∙ sym (oriented-above i i (omega arith) (omega arith)))
+          go (no n) (yes k) = getD-set-other (upTo N (ways t s) (suc i)) i j x 3 n ∙ oriented-below (suc i) j l (omega arith) ∙ sym (oriented-below i j (omega arith) k)
+          go (no n) (no k) = getD-set-other (upTo N (ways t s) (suc i)) i j x 3 n ∙ oriented-above (suc i) j l (omega arith) ∙ sym (oriented-above i j (omega arith) (omega arith))
 
   -- a reach that is no gate: nothing changes
-  pub oriented-plain : (i : ℕ) → i < length t → isGated ((reachAt N i) .kind) ≡ false → orientedTo t s (suc i) ≡ orientedTo t s i
+  pub oriented-plain : (i : ℕ) → i < length t → isGated ((reachAt N i) .kind) ≡ false → upTo N (ways t s) (suc i) ≡ upTo N (ways t s) i
   oriented-plain i l n =
       sym (oriented-more i l)
-      ∙ ap (λ (x : ℕ). set (orientedTo t s i) i x) (plain-way t s i l n ∙ sym (oriented-shaped i (omega arith) i l n))
-      ∙ set-getD (orientedTo t s i) i 3
+      ∙ ap (λ (x : ℕ). set (upTo N (ways t s) i) i x) (plain-way t s i l n ∙ sym (oriented-shaped i (omega arith) i l n))
+      ∙ set-getD (upTo N (ways t s) i) i 3
 
   -- ---- no plan parts from the setting upwards at reach i or later
 
@@ -121,10 +121,10 @@ module _ (N : Network) (s : List ℕ) where
       go (no n) = f j (omega arith)
 
   -- a setting that is alike below i fits the ways oriented so far
-  pub alike-fits : (q : List ℕ) (i : ℕ) → i ≤ length t → Alike N s q i → Fits N q (orientedTo t s i)
+  pub alike-fits : (q : List ℕ) (i : ℕ) → i ≤ length t → Alike N s q i → Fits N q (upTo N (ways t s) i)
   alike-fits q i l f j jl = go (decLt j i)
     where
-      go : Dec (j < i) → (getD (orientedTo t s i) j 3 ≡ 2) ⊎ (getD (orientedTo t s i) j 3 ≡ getD (ways t q) j 3)
+      go : Dec (j < i) → (getD (upTo N (ways t s) i) j 3 ≡ 2) ⊎ (getD (upTo N (ways t s) i) j 3 ≡ getD (ways t q) j 3)
       go (yes k) = inr (oriented-below i j l k ∙ sym (f j k))
       go (no k) =
           ⊎-elim
@@ -165,34 +165,34 @@ module _ (N : Network) (s : List ℕ) where
     pub none-turned : (i : ℕ) → i < length t → NoneFrom N s (suc i) → isGated ((reachAt N i) .kind) ≡ true → getD (ways t s) i 3 ≡ 1 → NoneFrom N s i
     none-turned i l more g one = none-from i l more (λ q e f up. omega (arith, plan-gate-small N q i e l g))
 
-    pub none-lost : (i : ℕ) → i < length t → NoneFrom N s (suc i) → isGated ((reachAt N i) .kind) ≡ true → stronglyConnected (basinsOf N) (arcs t (set (orientedTo t s i) i 1)) ≡ false → NoneFrom N s i
+    pub none-lost : (i : ℕ) → i < length t → NoneFrom N s (suc i) → isGated ((reachAt N i) .kind) ≡ true → stronglyConnected (basinsOf N) (arcs t (set (upTo N (ways t s) i) i 1)) ≡ false → NoneFrom N s i
     none-lost i l more g lost =
         none-from i l more
         (λ q e f up.
         let one : getD (ways t q) i 3 ≡ 1 = omega (arith, plan-gate-small N q i e l g) in
-        clash (fits-strong N q (set (orientedTo t s i) i 1) e (fits-set N q (orientedTo t s i) i 1 (omega (arith, oriented-length i (omega arith))) (alike-fits q i (omega arith) f) one)) lost)
+        clash (fits-strong N q (set (upTo N (ways t s) i) i 1) e (fits-set N q (upTo N (ways t s) i) i 1 (omega (arith, oriented-length i (omega arith))) (alike-fits q i (omega arith) f) one)) lost)
 
     -- where the gate i cannot be oriented as s has it, no plan is alike below suc i
-    pub none-stopped : (i : ℕ) → i < length t → stronglyConnected (basinsOf N) (arcs t (orientedTo t s (suc i))) ≡ false → NoneFrom N s (suc i)
-    none-stopped i l lost q e later f = clash (fits-strong N q (orientedTo t s (suc i)) e (alike-fits q (suc i) l f)) lost
+    pub none-stopped : (i : ℕ) → i < length t → stronglyConnected (basinsOf N) (arcs t (upTo N (ways t s) (suc i))) ≡ false → NoneFrom N s (suc i)
+    none-stopped i l lost q e later f = clash (fits-strong N q (upTo N (ways t s) (suc i)) e (alike-fits q (suc i) l f)) lost
 
     -- The least plan that parts upwards at the last gate at which one can is the next plan.
-    pub least-next : (i : ℕ) → i < length t → NoneFrom N s (suc i) → isGated ((reachAt N i) .kind) ≡ true → getD (ways t s) i 3 ≡ 0 → (r : List ℕ) → LeastPlan N (set (orientedTo t s i) i 1) r → nextPlan N s ≡ some r
+    pub least-next : (i : ℕ) → i < length t → NoneFrom N s (suc i) → isGated ((reachAt N i) .kind) ≡ true → getD (ways t s) i 3 ≡ 0 → (r : List ℕ) → LeastPlan N (set (upTo N (ways t s) i) i 1) r → nextPlan N s ≡ some r
     least-next i l more g zero-at r m = next-unique N s r (m .is-plan) later earliest
       where
-        room : i < length (orientedTo t s i)
+        room : i < length (upTo N (ways t s) i)
         room = omega (arith, oriented-length i (omega arith))
 
         r-at : getD (ways t r) i 3 ≡ 1
-        r-at = fits-at N r (orientedTo t s i) i 1 room l (omega arith) (m .fits)
+        r-at = fits-at N r (upTo N (ways t s) i) i 1 room l (omega arith) (m .fits)
 
         r-alike : (j : ℕ) → j < i → getD (ways t s) j 3 ≡ getD (ways t r) j 3
         r-alike j k =
             ⊎-elim
             (λ y.
             ⊎-elim
-            (λ two. absurd (omega (arith, two, getD-set-other (orientedTo t s i) i j 1 3 (omega arith), oriented-below i j (omega arith) k, setting-gate j k y)))
-            (λ same. sym (oriented-below i j (omega arith) k) ∙ sym (getD-set-other (orientedTo t s i) i j 1 3 (omega arith)) ∙ same)
+            (λ two. absurd (omega (arith, two, getD-set-other (upTo N (ways t s) i) i j 1 3 (omega arith), oriented-below i j (omega arith) k, setting-gate j k y)))
+            (λ same. sym (oriented-below i j (omega arith) k) ∙ sym (getD-set-other (upTo N (ways t s) i) i j 1 3 (omega arith)) ∙ same)
             (m .fits j (omega arith)))
             (λ n. same-plain N s r j (omega arith) n)
             (decide (isGated ((reachAt N j) .kind)))
@@ -215,7 +215,7 @@ module _ (N : Network) (s : List ℕ) where
             go below-r (yes same) = more q e after-s (alike-more q i (q-alike below-r) same)
             go below-r (no n) =
                 let one : getD (ways t q) i 3 ≡ 1 = omega (arith, plan-gate-small N q i e l g, parts q i l e after-s (q-alike below-r) n) in
-                clash below-r (m .least q e (fits-set N q (orientedTo t s i) i 1 room (alike-fits q i (omega arith) (q-alike below-r)) one))
+                clash below-r (m .least q e (fits-set N q (upTo N (ways t s) i) i 1 room (alike-fits q i (omega arith) (q-alike below-r)) one))
 
     pub none-next : NoneFrom N s 0 → nextPlan N s ≡ none
     none-next f = next-never N s (λ q e later. f q e later (λ j l. absurd (not-suc-le-zero l)))
