@@ -10,7 +10,7 @@ use Rattle.lists.specs.Lists.{keep}
 use Rattle.network.specs.Networks.{Network, basinsOf, Accepted}
 use Rattle.network.specs.Orientations.{ways}
 use Rattle.network.specs.Bridges.{crossesAlone, isBridge}
-use Rattle.tables.specs.Partial.{bytesOf}
+use Rattle.tables.specs.Bytes.{bytesOf}
 use Rattle.tables.specs.Rows.{netOf}
 use Rattle.orientations.specs.Least.{LeastPlan}
 use Rattle.orientations.specs.Partials.{Begun}

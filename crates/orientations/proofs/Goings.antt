@@ -25,7 +25,7 @@ use Rattle.network.proofs.Ways.{plain-small}
 use Rattle.network.proofs.Networks.{basin-below}
 use Rattle.network.proofs.Bridges.{Alone, alone-rest, alone-same, cut-of, bridge-gated, bridge-parts}
 use Rattle.network.proofs.Steps.{orient-drawn, orient-turned, stuck-alone, stuck-other, stuck-bridge}
-use Rattle.tables.specs.Partial.{bytesOf}
+use Rattle.tables.specs.Bytes.{bytesOf}
 use Rattle.orientations.specs.Least.{LeastPlan, Decided, Open, Shaped}
 use Rattle.orientations.specs.Partials.{Begun}
 use Rattle.orientations.proofs.Least.{least-drawn, least-turned, least-end}

@@ -31,7 +31,7 @@ use Rattle.network.proofs.Order.{before-irrefl, before-asym, setting-length, pl
 use Rattle.network.proofs.Bridges.{plan-gate-small}
 use Rattle.network.proofs.Theorem.{plan-reaches}
 use Rattle.orientations.specs.Least.{Fits, LeastPlan, Decided, Shaped}
-use Rattle.tables.specs.Partial.{bytesOf}
+use Rattle.tables.specs.Bytes.{bytesOf}
 
 abbrev reachOf : Kind → ℕ → ℕ → Reach
 reachOf d a b = record { kind = d; a = a; b = b }

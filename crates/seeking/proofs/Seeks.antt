@@ -26,7 +26,7 @@ use Rattle.network.proofs.Theorem.{plan-reaches, plan-passable}
 use Rattle.network.proofs.Replies.{given-iff, next-given}
 use Rattle.half_edges.specs.Ends.{arcsOf}
 use Rattle.tables.specs.Rows.{netOf, waysRow}
-use Rattle.tables.specs.Partial.{bytesOf}
+use Rattle.tables.specs.Bytes.{bytesOf}
 use Rattle.orientations.specs.Least.{LeastPlan, NoneFrom}
 use Rattle.orientations.specs.Partials.{StronglyConnected, NotStronglyConnected, Begun, Bridgeless, Under, upTo}
 use Rattle.orientations.proofs.Nexts.{oriented-none, none-from-end, none-stopped, least-next, none-next}

@@ -12,7 +12,7 @@ use Rattle.network.specs.Plans.{passable}
 use Rattle.network.specs.Bridges.{lowestBridge}
 use Rattle.network.specs.Marks.{marksOf}
 use Rattle.network.specs.Replies.{Outcome, plan, refused, shutInSide, bridgeSide, shutInFinding, loneFinding, nextAnswer}
-use Rattle.tables.specs.Partial.{bytesOf}
+use Rattle.tables.specs.Bytes.{bytesOf}
 use Rattle.marks.specs.Sets.{markedSet}
 use Rattle.orientations.specs.Least.{LeastPlan}
 use Rattle.seeking.specs.declared.Found.{Found}

@@ -18,7 +18,7 @@ use Rattle.network.specs.Replies.{plan}
 use Rattle.lists.proofs.Bools.{decide}
 use Rattle.network.proofs.Order.{setting-length, plan-setting}
 use Rattle.tables.specs.Rows.{netOf, gatesIn, waysRow, bytesRow}
-use Rattle.tables.specs.Partial.{bytesOf}
+use Rattle.tables.specs.Bytes.{bytesOf}
 use Rattle.tables.proofs.Laws.{row-length, row-bytes, row-ways, row-gates, row-kind}
 use Rattle.orientations.specs.Least.{Fits}
 use Rattle.orientations.specs.Partials.{upTo}

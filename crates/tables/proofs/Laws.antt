@@ -18,7 +18,7 @@ use Rattle.network.specs.Settings.{isGated, gatesFrom, isSetting}
 use Rattle.network.specs.Orientations.{way, after, ways}
 use Rattle.network.specs.Bridges.{noReach}
 use Rattle.tables.specs.Rows.{netOf, gatesIn, waysRow, bytesRow}
-use Rattle.tables.specs.Partial.{bytesOf}
+use Rattle.tables.specs.Bytes.{bytesOf}
 
 -- the reach with a kind's number and two ends
 abbrev pub reachOf : ℕ → ℕ → ℕ → Reach

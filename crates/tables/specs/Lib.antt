@@ -1,4 +1,4 @@
--- The reach table as rows of numbers, ways of which some gates are hung, and the answer to a table.
+-- The reach table as rows of numbers, the bytes that its ways make, and the answer to a table.
 pub mod Rows
-pub mod Partial
+pub mod Bytes
 pub mod Answers
