@@ -7,7 +7,7 @@ use lib.ListN.{length, getD}
 use Rattle.network.specs.Networks.{maxBasins}
 use Rattle.half_edges.specs.Ends.{arcsOf, flipWay}
 use Rattle.half_edges.specs.Chains.{Index, Table}
-use Rattle.search.proofs.Fronts.{Searching}
+use Rattle.search.specs.Fronts.{Searching}
 
 -- Both have begun, and neither has seen where the other began.
 pub record Underway (n : ℕ) (xs ys ws head next : List ℕ) (start goal : ℕ) (seen queue upseen upqueue : List ℕ) (tail uptail : ℕ) : Type 0 where

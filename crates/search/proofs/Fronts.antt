@@ -18,16 +18,8 @@ use Rattle.network.proofs.Walks.{walk-trans, walk-arc, walk-reached, reached-wa
 use Rattle.half_edges.specs.Ends.{Next}
 use Rattle.search.specs.Searches.{Seen, Visited, first, again, Grown, stay as none-more, more, Scanned, Noted, Meets, meeting, apart}
 use Rattle.search.proofs.Counts.{unseen-le, unseen-set}
-use Rattle.search.proofs.Visits.{Room, Waits, Grew, marked-news, visited-grew, visited-seen, grown-grew}
-
--- Only what is reached is seen and queued, every mark is 0 or 1, and there is room.
-pub record Sound (A : List Arc) (n start : ℕ) (seen queue : List ℕ) (tail : ℕ) : Type 0 where
-  pub low : (v : ℕ) → v < n → getD seen v 0 ≤ 1
-  pub walked : (v : ℕ) → v < n → Seen seen v → Walk A start v
-  pub basins : (k : ℕ) → k < tail → getD queue k 0 < n
-  pub walks : (k : ℕ) → k < tail → Walk A start (getD queue k 0)
-  pub room : Room seen queue tail
-  pub long : n ≤ length seen
+use Rattle.search.proofs.Visits.{Grew, marked-news, visited-grew, visited-seen, grown-grew}
+use Rattle.search.specs.Fronts.{Waits, Sound, Closed, Searching}
 
 module _ {A : List Arc} {n start : ℕ} where
   visited-sound : {w tail tail′ : ℕ} {seen queue seen′ queue′ : List ℕ} → w < n → Walk A start w → Sound A n start seen queue tail
@@ -55,17 +47,6 @@ module _ {A : List Arc} {n start : ℕ} where
       → Sound A n start seen queue tail → Grown P seen queue tail seen′ queue′ tail′ → Sound A n start seen′ queue′ tail′
   grown-sound f g s none-more = s
   grown-sound f g s (more {w = w} h p v) = visited-sound (f w p) (g w p) (grown-sound f g s h) v
-
--- Every arc from v leads to a basin that is seen.
-abbrev Closed : List Arc → List ℕ → ℕ → Type 0
-Closed A seen v = (w : ℕ) → Next A v w → Seen seen w
-
--- All that is reached from start is on its way: what is seen stands in the queue from place `at` on, or is closed.
-pub record Searching (A : List Arc) (n start : ℕ) (seen queue : List ℕ) (at tail : ℕ) : Type 0 where
-  pub sound : Sound A n start seen queue tail
-  pub open-or-closed : (v : ℕ) → v < n → Seen seen v → Waits queue at tail v ⊎ Closed A seen v
-  pub started : Seen seen start
-  pub placed : at ≤ tail
 
 -- after the marks are cleared, nothing is seen
 module _ (n : ℕ) (d : List ℕ) (long : n ≤ length d) where

@@ -1,6 +1,6 @@
 -- What visits change: the marks, the queue and the room in it.
 -- Assumes nothing.
-use Prim.Native.Nat.{ℕ, suc, _+_, _≤_, _<_}
+use Prim.Native.Nat.{ℕ, suc, _≤_, _<_}
 use mathlib.Core.Path.{_≡_, refl, sym, _∙_}
 use mathlib.Core.Logic.{_⊎_, inl, inr, ⊎-elim}
 use mathlib.Core.List.{List}
@@ -10,17 +10,7 @@ use lib.ListN.{length, getD, set, length-set}
 use lib.Seq.{getD-set-same, getD-set-other}
 use Rattle.search.specs.Searches.{Seen, unseen, Visited, first, again, Grown, stay, more}
 use Rattle.search.proofs.Counts.{unseen-set}
-
--- There is room in the queue for every unseen basin.
-abbrev pub Room : List ℕ → List ℕ → ℕ → Type 0
-Room seen queue tail = tail + unseen seen ≤ length queue
-
--- v stands in the queue at a place from f on and below t.
-pub record Waits (queue : List ℕ) (f t v : ℕ) : Type 0 where
-  pub place : ℕ
-  pub from : f ≤ place
-  pub below : place < t
-  pub here : getD queue place 0 ≡ v
+use Rattle.search.specs.Fronts.{QueueRoom, Waits}
 
 -- What visits leave: what was seen is seen, what is newly seen is queued behind what was there, and there is room.
 pub record Grew (seen queue : List ℕ) (tail : ℕ) (seen′ queue′ : List ℕ) (tail′ : ℕ) : Type 0 where
@@ -28,11 +18,11 @@ pub record Grew (seen queue : List ℕ) (tail : ℕ) (seen′ queue′ : List �
   pub news : (v : ℕ) → Seen seen′ v → Seen seen v ⊎ Waits queue′ tail tail′ v
   pub queue-keeps : (k : ℕ) → k < tail → getD queue′ k 0 ≡ getD queue k 0
   pub further : tail ≤ tail′
-  pub room : Room seen′ queue′ tail′
+  pub room : QueueRoom seen′ queue′ tail′
   pub seen-length : length seen′ ≡ length seen
   pub queue-length : length queue′ ≡ length queue
 
-pub grew-none : (seen queue : List ℕ) (tail : ℕ) → Room seen queue tail → Grew seen queue tail seen queue tail
+pub grew-none : (seen queue : List ℕ) (tail : ℕ) → QueueRoom seen queue tail → Grew seen queue tail seen queue tail
 grew-none seen queue tail r =
     record { keeps = λ v s. s; news = λ v s. inl s; queue-keeps = λ k l. refl; further = omega arith; room = r; seen-length = refl; queue-length = refl }
 
@@ -66,7 +56,7 @@ marked-news seen w v s = at (ℕ-discrete v w)
     at (yes e) = inr e
     at (no n) = inl (rw (getD-set-other seen w v 1 0 n) at s)
 
-pub visited-grew : {w : ℕ} {seen queue seen′ queue′ : List ℕ} {tail tail′ : ℕ} → w < length seen → Room seen queue tail
+pub visited-grew : {w : ℕ} {seen queue seen′ queue′ : List ℕ} {tail tail′ : ℕ} → w < length seen → QueueRoom seen queue tail
     → Visited w seen queue tail seen′ queue′ tail′ → Grew seen queue tail seen′ queue′ tail′
 visited-grew {seen} {queue} {tail} l r (again s) = grew-none seen queue tail r
 visited-grew {w} {seen} {queue} {tail} l r (first e) =
@@ -85,7 +75,7 @@ pub visited-seen : {w : ℕ} {seen queue seen′ queue′ : List ℕ} {tail tail
 visited-seen l (again s) = s
 visited-seen {w} {seen} l (first e) = rw (getD-set-same seen w 1 0 l) (omega arith)
 
-pub grown-grew : {P : ℕ → Type 0} {seen queue seen′ queue′ : List ℕ} {tail tail′ : ℕ} → ((w : ℕ) → P w → w < length seen) → Room seen queue tail
+pub grown-grew : {P : ℕ → Type 0} {seen queue seen′ queue′ : List ℕ} {tail tail′ : ℕ} → ((w : ℕ) → P w → w < length seen) → QueueRoom seen queue tail
     → Grown P seen queue tail seen′ queue′ tail′ → Grew seen queue tail seen′ queue′ tail′
 grown-grew {seen} {queue} {tail} f r stay = grew-none seen queue tail r
 grown-grew f r (more {w = w} g p v) =

@@ -1,2 +1,3 @@
 -- What one search does and finds.
 pub mod Searches
+pub mod Fronts

@@ -11,7 +11,8 @@ use Rattle.network.specs.Orientations.{Arc, reached}
 use Rattle.half_edges.specs.Ends.{arcsOf, flipWay, Next}
 use Rattle.half_edges.proofs.Halves.{arc-below}
 use Rattle.half_edges.proofs.Laws.{reached-flipped}
-use Rattle.search.proofs.Fronts.{Searching, scans, scans-grew, unmet, joins, shut}
+use Rattle.search.specs.Fronts.{Searching}
+use Rattle.search.proofs.Fronts.{scans, scans-grew, unmet, joins, shut}
 use Rattle.leading.proofs.search_on.Statement.{statement}
 use Rattle.leading.proofs.search_on.Tie as tie
 

@@ -7,7 +7,8 @@ use native.Mathlib.Omega.{arith}
 use lib.ListN.{length}
 use Rattle.half_edges.specs.Ends.{arcsOf, sided, Next}
 use Rattle.half_edges.proofs.Halves.{arc-below}
-use Rattle.search.proofs.Fronts.{Searching, begins, scans, ends}
+use Rattle.search.specs.Fronts.{Searching}
+use Rattle.search.proofs.Fronts.{begins, scans, ends}
 use Rattle.search.proofs.search.Statement.{statement}
 use Rattle.search.proofs.search.Tie as tie
 
