@@ -12,8 +12,8 @@ use packing::pack;
 use packing::unpack;
 ghost use mathlib.Core.Path.{_≡_};
 ghost use Prim.Native.Nat.{min};
-ghost use Rattle.network.specs.Networks.{maxReaches};
-ghost use Rattle.packing.specs.Tables.{lentNet, OfTable};
+ghost use Rattle.network.specs.Networks.{maxReaches, net};
+ghost use Rattle.packing.specs.Tables.{OfTable};
 ghost use Rattle.netfile_format.specs.Answers.{NetworkWritten};
 ghost use Rattle.netfile.specs.Reads.{countOf, ReadPacked, ReadTable};
 
@@ -30,7 +30,7 @@ fn write_packed(basins: u16, p: Packed, out: &mut [u8]) -> WriteAnswer
 
 // The file of a network goes to the first bytes of the buffer. Refuses: 1, 2, 3, 7.
 pub fn write_network(basins: u16, table: &[Reach], out: &mut [u8]) -> WriteAnswer
-    ensures { λ r. ⌜ NetworkWritten (lentNet basins (now (table .entry))) (now (out .entry)) r (now (out .exit)) ⌝ }
+    ensures { λ r. ⌜ NetworkWritten (net basins (now (table .entry))) (now (out .entry)) r (now (out .exit)) ⌝ }
 {
     write_packed(basins, pack(table), out)
 }

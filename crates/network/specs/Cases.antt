@@ -7,7 +7,7 @@ use lib.ListN.{replicate}
 use Rattle.network.specs.declared.Kind.the-variants.{Gated, Flap, TwoWay}
 use Rattle.network.specs.declared.Reach.{Reach}
 use Rattle.network.specs.declared.Refusal.the-variants.{LastPlan}
-use Rattle.network.specs.Networks.{Network}
+use Rattle.network.specs.Networks.{Network, net}
 use Rattle.network.specs.Settings.{gateCount}
 use Rattle.network.specs.Marks.{markBytes}
 use Rattle.network.specs.Replies.{Outcome, plan, shutIn, lone, refused, firstReply, nextReply}
@@ -36,9 +36,6 @@ pub record Case : Type 0 where
   pub network : Network
   pub first : Outcome
   pub nexts : List After
-
-abbrev pub net : ℕ → List Reach → Network
-net n t = record { basins = n; reaches = t }
 
 abbrev pub row : Network → Outcome → List After → Case
 row N o l = record { network = N; first = o; nexts = l }

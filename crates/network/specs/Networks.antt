@@ -24,6 +24,10 @@ pub record Network : Type 0 where
   pub basins : ℕ
   pub reaches : List Reach
 
+-- The network of a basin count and a reach table.
+abbrev pub net : ℕ → List Reach → Network
+net n t = record { basins = n; reaches = t }
+
 -- The basins of a network, lowest first.
 abbrev pub basinsOf : Network → List ℕ
 basinsOf N = range 0 (N .basins)

@@ -17,12 +17,12 @@ use denote.Laws.{Is}
 use Rattle.network.specs.declared.Reach.{Reach}
 use Rattle.network.specs.declared.Refusal.{Refusal}
 use Rattle.network.specs.declared.Refusal.the-variants.{BasinCount, TooManyReaches}
-use Rattle.network.specs.Networks.{Network, maxReaches, goodCount, tableFault}
+use Rattle.network.specs.Networks.{Network, maxReaches, goodCount, tableFault, net}
 use Rattle.tables.specs.Rows.{netOf}
 use Rattle.tables.proofs.Faults.{fault-count, fault-length}
 use Rattle.packing.specs.declared.Packed.{Packed}
 use Rattle.packing.specs.Rows.{maxRows, front, heldOf, packedOf}
-use Rattle.packing.specs.Tables.{lentNet, OfTable}
+use Rattle.packing.specs.Tables.{OfTable}
 use Rattle.packing.proofs.Packed as P
 use Rattle.packing.proofs.Records.{sized}
 use Rattle.packing.proofs.Rows.{unpacked, packed-count}
@@ -55,9 +55,9 @@ rowsNet n p k = netOf n (take k (p .kinds)) (take k (p .a)) (take k (p .b))
 front-count : (t : List Reach) → heldOf (packedOf t .n) ≡ length (front t)
 front-count t = omega (arith, packed-count t, length-take maxRows t)
 
-front-net : (n : ℕ) (p : Packed) (t : List Reach) (k : ℕ) → p ≡ packedOf t → k ≡ heldOf (p .n) → rowsNet n p k ≡ lentNet n (front t)
+front-net : (n : ℕ) (p : Packed) (t : List Reach) (k : ℕ) → p ≡ packedOf t → k ≡ heldOf (p .n) → rowsNet n p k ≡ net n (front t)
 front-net n p t k e h =
-    ap (λ (j : ℕ). rowsNet n p j) (h ∙ ap (λ (q : Packed). heldOf (q .n)) e ∙ front-count t) ∙ ap (λ (q : Packed). rowsNet n q (length (front t))) e ∙ ap (lentNet n) (unpacked t)
+    ap (λ (j : ℕ). rowsNet n p j) (h ∙ ap (λ (q : Packed). heldOf (q .n)) e ∙ front-count t) ∙ ap (λ (q : Packed). rowsNet n q (length (front t))) e ∙ ap (net n) (unpacked t)
 
 -- Two over-full tables get the same refusal: 1 before 2.
 pub record Alike (N N′ : Network) : Type 0 where
@@ -65,12 +65,12 @@ pub record Alike (N N′ : Network) : Type 0 where
   pub one : tableFault N ≡ some refusal
   pub other : tableFault N′ ≡ some refusal
 
-over-full : (n : ℕ) (t t′ : List Reach) → maxReaches < length t → maxReaches < length t′ → Alike (lentNet n t) (lentNet n t′)
-over-full n t t′ h h′ = go (goodCount (lentNet n t)) refl
+over-full : (n : ℕ) (t t′ : List Reach) → maxReaches < length t → maxReaches < length t′ → Alike (net n t) (net n t′)
+over-full n t t′ h h′ = go (goodCount (net n t)) refl
   where
-    go : (b : Bool) → goodCount (lentNet n t) ≡ b → Alike (lentNet n t) (lentNet n t′)
-    go true e = record { refusal = TooManyReaches; one = fault-length (lentNet n t) e (lt-leb (length t) maxReaches h); other = fault-length (lentNet n t′) e (lt-leb (length t′) maxReaches h′) }
-    go false e = record { refusal = BasinCount; one = fault-count (lentNet n t) e; other = fault-count (lentNet n t′) e }
+    go : (b : Bool) → goodCount (net n t) ≡ b → Alike (net n t) (net n t′)
+    go true e = record { refusal = TooManyReaches; one = fault-length (net n t) e (lt-leb (length t) maxReaches h); other = fault-length (net n t′) e (lt-leb (length t′) maxReaches h′) }
+    go false e = record { refusal = BasinCount; one = fault-count (net n t) e; other = fault-count (net n t′) e }
 
 -- What is promised to a network that is refused by its table is promised to every network with that refusal.
 abbrev pub ByTable : (Network → Type 0) → Type 0
@@ -81,9 +81,9 @@ module _ {n : ℕ} {p : Packed} {P : Network → Type 0} {k : ℕ} where
   of-rows c x same = record { said = λ t e. whole t (subst P (front-net n p t k e (c .count)) x) (leb (length t) maxReaches) refl }
     where
       -- a table within the limit is its own front; of any other both are over-full
-      whole : (t : List Reach) → P (lentNet n (front t)) → (b : Bool) → leb (length t) maxReaches ≡ b → P (lentNet n t)
-      whole t y true h = subst (λ (s : List Reach). P (lentNet n s)) (take-all maxRows t (omega (arith, leb-true (length t) maxReaches h))) y
+      whole : (t : List Reach) → P (net n (front t)) → (b : Bool) → leb (length t) maxReaches ≡ b → P (net n t)
+      whole t y true h = subst (λ (s : List Reach). P (net n s)) (take-all maxRows t (omega (arith, leb-true (length t) maxReaches h))) y
       whole t y false h =
           let l = leb-false (length t) maxReaches h in
           let o = over-full n (front t) t (omega (arith, l, length-take maxRows t)) l in
-          same (lentNet n (front t)) (lentNet n t) (o .refusal) (o .one) (o .other) y
+          same (net n (front t)) (net n t) (o .refusal) (o .one) (o .other) y

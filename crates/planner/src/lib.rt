@@ -10,10 +10,10 @@ use replies::Answer;
 use replies::CheckAnswer;
 use tables::TableAnswer;
 ghost use mathlib.Core.Path.{_≡_};
-ghost use Rattle.network.specs.Networks.{tableFault};
+ghost use Rattle.network.specs.Networks.{tableFault, net};
 ghost use Rattle.tables.specs.Answers.{tableAnswer};
 ghost use Rattle.replies.specs.Answers.{CheckCall, FirstCall, NextCall};
-ghost use Rattle.packing.specs.Tables.{lentNet, OfTable};
+ghost use Rattle.packing.specs.Tables.{OfTable};
 
 // The call over rows, for each public call. The rows of an over-full table are over-full too, and refused as such.
 fn table_check_packed(basins: u16, p: Packed) -> TableAnswer
@@ -65,21 +65,21 @@ fn next_plan_packed(
 
 // What the table gets: it is accepted, or refused by number only. Refuses: 1, 2, 3.
 pub fn table_check(basins: u16, table: &[Reach]) -> TableAnswer
-    ensures { λ r. ⌜ r ≡ tableAnswer (tableFault (lentNet basins (now (table .entry)))) ⌝ }
+    ensures { λ r. ⌜ r ≡ tableAnswer (tableFault (net basins (now (table .entry)))) ⌝ }
 {
     table_check_packed(basins, pack(table))
 }
 
 // Whether a setting is a plan of the network. Refuses: 1, 2, 3, 8. Writes nothing.
 pub fn check(basins: u16, table: &[Reach], setting: &[u8]) -> CheckAnswer
-    ensures { λ r. ⌜ CheckCall (lentNet basins (now (table .entry))) (now (setting .entry)) r ⌝ }
+    ensures { λ r. ⌜ CheckCall (net basins (now (table .entry))) (now (setting .entry)) r ⌝ }
 {
     check_packed(basins, pack(table), setting)
 }
 
 // The first plan of the network, or the finding that shows why there is none. Refuses: 1, 2, 3, 7.
 pub fn first_plan(basins: u16, table: &[Reach], plan: &mut [u8], marks: &mut [u8]) -> Answer
-    ensures { λ r. ⌜ FirstCall (lentNet basins (now (table .entry))) (now (plan .entry)) (now (marks .entry)) r (now (plan .exit)) (now (marks .exit)) ⌝ }
+    ensures { λ r. ⌜ FirstCall (net basins (now (table .entry))) (now (plan .entry)) (now (marks .entry)) r (now (plan .exit)) (now (marks .exit)) ⌝ }
 {
     first_plan_packed(basins, pack(table), plan, marks)
 }
@@ -93,7 +93,7 @@ pub fn next_plan(
     plan: &mut [u8],
     marks: &mut [u8],
 ) -> Answer
-    ensures { λ r. ⌜ NextCall (lentNet basins (now (table .entry))) (now (setting .entry)) (now (plan .entry)) (now (marks .entry)) r
+    ensures { λ r. ⌜ NextCall (net basins (now (table .entry))) (now (setting .entry)) (now (plan .entry)) (now (marks .entry)) r
         (now (plan .exit)) (now (marks .exit)) ⌝ }
 {
     next_plan_packed(basins, pack(table), setting, plan, marks)

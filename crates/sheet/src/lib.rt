@@ -8,7 +8,8 @@ use packing::Packed;
 use packing::held;
 use packing::pack;
 use sheet_format::SheetAnswer;
-ghost use Rattle.packing.specs.Tables.{lentNet, OfTable};
+ghost use Rattle.network.specs.Networks.{net};
+ghost use Rattle.packing.specs.Tables.{OfTable};
 ghost use Rattle.sheet_format.specs.Answers.{SheetRead, SheetWritten, ReplyWritten};
 
 // The call over rows, for each public call. The rows of an over-full table are over-full too, and refused as such.
@@ -44,21 +45,21 @@ fn write_reply_packed(basins: u16, p: Packed, out: &mut [u8]) -> WriteAnswer
 
 // The setting of a plan sheet goes to the first bytes of the buffer. Refuses: 1, 2, 3, 5, 4, 8, 6, 7.
 pub fn read_sheet(basins: u16, table: &[Reach], sheet: &[u8], setting: &mut [u8]) -> SheetAnswer
-    ensures { λ r. ⌜ SheetRead (lentNet basins (now (table .entry))) (now (sheet .entry)) (now (setting .entry)) r (now (setting .exit)) ⌝ }
+    ensures { λ r. ⌜ SheetRead (net basins (now (table .entry))) (now (sheet .entry)) (now (setting .entry)) r (now (setting .exit)) ⌝ }
 {
     read_sheet_packed(basins, pack(table), sheet, setting)
 }
 
 // The sheet of a plan goes to the first bytes of the buffer. Refuses: 1, 2, 3, 8, 7.
 pub fn write_sheet(basins: u16, table: &[Reach], setting: &[u8], out: &mut [u8]) -> WriteAnswer
-    ensures { λ r. ⌜ SheetWritten (lentNet basins (now (table .entry))) (now (setting .entry)) (now (out .entry)) r (now (out .exit)) ⌝ }
+    ensures { λ r. ⌜ SheetWritten (net basins (now (table .entry))) (now (setting .entry)) (now (out .entry)) r (now (out .exit)) ⌝ }
 {
     write_sheet_packed(basins, pack(table), setting, out)
 }
 
 // The network's first plan, or the finding that shows why there is none, goes to the first bytes of the buffer as a sheet. Refuses: 1, 2, 3, 7.
 pub fn write_reply(basins: u16, table: &[Reach], out: &mut [u8]) -> WriteAnswer
-    ensures { λ r. ⌜ ReplyWritten (lentNet basins (now (table .entry))) (now (out .entry)) r (now (out .exit)) ⌝ }
+    ensures { λ r. ⌜ ReplyWritten (net basins (now (table .entry))) (now (out .entry)) r (now (out .exit)) ⌝ }
 {
     write_reply_packed(basins, pack(table), out)
 }

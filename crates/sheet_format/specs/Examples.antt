@@ -2,8 +2,8 @@
 -- Assumes nothing.
 use Prim.Native.Nat.{ℕ}
 use mathlib.Core.List.{List, [], _∷_, _++_}
-use Rattle.network.specs.Networks.{Network}
-use Rattle.network.specs.Cases.{G, F, T, net, firstByte, case3}
+use Rattle.network.specs.Networks.{Network, net}
+use Rattle.network.specs.Cases.{G, F, T, firstByte, case3}
 
 -- Case 3 with a two-way reach between its two gated ones, so that these have the numbers 0 and 2.
 abbrev pub mixed : Network

@@ -6,9 +6,9 @@ ghost use mathlib.Core.Path.{_≡_};
 ghost use mathlib.Core.List.{_++_};
 ghost use Prim.Native.Nat.{_≤_};
 ghost use lib.ListN.{length, take, drop};
-ghost use Rattle.network.specs.Networks.{maxReaches};
+ghost use Rattle.network.specs.Networks.{maxReaches, net};
 ghost use Rattle.tables.specs.Rows.{netOf};
-ghost use Rattle.packing.specs.Tables.{lentNet, OfTable};
+ghost use Rattle.packing.specs.Tables.{OfTable};
 ghost use Rattle.walker.specs.Walkers.{walkerOf, makeFault, makeOf, keptOf, Making, advancedBy, Stepping};
 use network::MAX_REACHES;
 use network::Reach;
@@ -175,14 +175,14 @@ impl Walker {
 
     // `make_rows` over a lent table. Refuses: 1, 2, 3, 8.
     pub fn make(basins: u16, table: &[Reach], setting: &[u8]) -> Made
-        ensures { λ r. ⌜ Making (lentNet basins (now (table .entry))) (now (setting .entry)) r ⌝ }
+        ensures { λ r. ⌜ Making (net basins (now (table .entry))) (now (setting .entry)) r ⌝ }
     {
         make_packed(basins, pack(table), setting)
     }
 
     // `step_rows` over a lent table. Refuses: 1, 2, 3, 8 (only for a byte over 1), 7, 11.
     pub fn step(self, basins: u16, table: &[Reach], plan: &mut [u8], marks: &mut [u8]) -> Stepped
-        ensures { λ r. ⌜ Stepping (lentNet basins (now (table .entry))) (self .setting) (now (plan .entry)) (now (marks .entry))
+        ensures { λ r. ⌜ Stepping (net basins (now (table .entry))) (self .setting) (now (plan .entry)) (now (marks .entry))
             (now (plan .exit)) (now (marks .exit)) r ⌝ }
     {
         step_packed(self, basins, pack(table), plan, marks)
