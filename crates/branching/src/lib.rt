@@ -7,7 +7,8 @@ ghost use Rattle.orienting.specs.Ready.{Ready};
 ghost use Rattle.branching.specs.Follows.{Following, Followed, TurnedBack};
 
 // Orients the gates one after the other as `under` has them, from ways of which all gates are usable either way.
-// Returns the number of reaches, or the first gate that loses something if it is oriented so: that one and those after it are usable either way.
+// Returns the number of reaches, or the first gate that loses something if it is oriented so: that one and those after it are usable either way. What it
+// leaves in seen and in the queue is free.
 pub fn follow(
     n: usize,
     kinds: &[u8],
@@ -36,7 +37,8 @@ pub fn follow(
 }
 
 // From ways that `under` has up to reach `to`, looks back for the last gate before it that is drawn and can be turned without loss, and turns it.
-// Returns its number, or the number of reaches if there is none. The gates after it are usable either way.
+// Returns its number, or the number of reaches if there is none: the ways are then free. The gates after it are usable either way. What it leaves in seen
+// and in the queue is free.
 pub fn turn_back(
     n: usize,
     kinds: &[u8],

@@ -6,7 +6,8 @@ ghost use Rattle.orientations.specs.Partials.{Bridgeless};
 ghost use Rattle.orienting.specs.Ready.{Ready};
 ghost use Rattle.completing.specs.Greedy.{Completable, Greedy, Completed};
 
-// Orients the gates from reach `from` on, one after the other. Returns the number of reaches, or the first gate that can get neither way.
+// Orients the gates from reach `from` on, one after the other. Returns the number of reaches, or the first gate that can get neither way: then seen
+// holds a side of it, and the ways are free. What else it leaves in seen, and the queue, is free.
 pub fn greedy(
     n: usize,
     kinds: &[u8],
@@ -34,7 +35,7 @@ pub fn greedy(
     i
 }
 
-// The same as `greedy` where no reach is a bridge: one search for each gate, and every gate gets a way.
+// The same as `greedy` where no reach is a bridge: one search for each gate, and every gate gets a way. What it leaves in seen and in the queue is free.
 pub fn complete(
     n: usize,
     kinds: &[u8],

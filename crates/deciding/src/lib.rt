@@ -5,7 +5,7 @@ ghost use Rattle.orienting.specs.Ready.{AtReach};
 ghost use Rattle.deciding.specs.Gates.{OrientedGate, Settled};
 
 // Orients reach i, if it is a gate, as drawn where that loses nothing, else turned where that does not. Says whether it could; if not, seen holds
-// what its end A leads to without it.
+// what its end A leads to without it, and the ways are free. What else it leaves in seen, and the queue, is free.
 pub fn orient_gate(
     n: usize,
     kinds: &[u8],
@@ -35,7 +35,8 @@ pub fn orient_gate(
     false
 }
 
-// Orients reach i, if it is a gate, as drawn where that loses nothing, else turned: for a gate that is no bridge, one of the two loses nothing.
+// Orients reach i, if it is a gate, as drawn where that loses nothing, else turned: for a gate that is no bridge, one of the two loses nothing. What it
+// leaves in seen and in the queue is free.
 pub fn settle(
     n: usize,
     kinds: &[u8],

@@ -1,5 +1,6 @@
 // The first plan and the next, looked for in lent working memory over an accepted table whose rows are of one length.
-// These functions are for the planner; what they require it has checked.
+// These functions are for the planner; what they require it has checked. What the searches leave in working memory is free but for two things: the
+// ways, where a plan is found, and what is noted for each basin in seen, where a finding is.
 ghost use mathlib.Core.Path.{_≡_};
 ghost use Rattle.network.specs.Plans.{stronglyConnectedUnder};
 ghost use Rattle.tables.specs.Rows.{netOf};
@@ -27,7 +28,7 @@ fn prepare(
     half_edges::index(n, a, b, head, next);
 }
 
-// Whether everything reaches everything under the setting, in lent working memory.
+// Whether everything reaches everything under the setting, in lent working memory. What it leaves there is free.
 pub fn strongly_connected_under(
     n: usize,
     kinds: &[u8],

@@ -27,7 +27,7 @@ fn meet(queue: &[u16], from: usize, to: usize, seen: &[u8]) -> bool
 }
 
 // Goes on with two searches that have begun, by turns: along the arrows from start, and upstream, against the arrows, from the goal, until the two meet
-// or one of them has nothing left to search from. Says whether they met: whether the goal is reached from start.
+// or one of them has nothing left to search from. Says whether they met: whether the goal is reached from start. What it leaves in the four rows is free.
 fn search_on(
     n: usize,
     a: &[u16],
@@ -86,7 +86,8 @@ fn search_on(
     false
 }
 
-// Whether the goal is reached from start, searched for from both ends. The marks of the search upstream are fresh zeros, and need no clearing.
+// Whether the goal is reached from start, searched for from both ends. The marks of the search upstream are fresh zeros, and need no clearing. What it
+// leaves in the four rows is free.
 fn leads_in(
     n: usize,
     a: &[u16],

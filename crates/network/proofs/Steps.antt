@@ -1,4 +1,4 @@
--- The step that carries the planner: where everything reaches everything, what hanging one undecided gate changes.
+-- The step that carries the planner: where everything reaches everything, what orienting one undecided gate changes.
 -- Assumes nothing.
 use Prim.Native.Nat.{ℕ, zero, suc, _≤_, _<_}
 use native.Mathlib.Omega.{arith}

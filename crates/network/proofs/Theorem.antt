@@ -81,7 +81,7 @@ unoriented-2 N k = getD-replicate-all (gateCount N) k 2
 pub unoriented-oriented : (N : Network) → Hung N (unoriented N)
 unoriented-oriented N = record { size = length-replicate (gateCount N) 2; small = λ k. rw (unoriented-2 N k) (omega arith) }
 
--- a looser hanging reaches no less
+-- a looser orientation reaches no less
 pub looser-strong : (N : Network) (h h′ : List ℕ) → Looser h h′ → stronglyConnectedUnder N h ≡ true → stronglyConnectedUnder N h′ ≡ true
 unfolding stronglyConnectedUnder
 looser-strong N h h′ f e = strong-within (basinsOf N) (arcsUnder N h) (arcsUnder N h′) (looser-within (N .reaches) h h′ f) e

@@ -23,7 +23,8 @@ fn first_unseen(n: usize, seen: &[u8]) -> usize
     n
 }
 
-// The lowest basin that is not reached from start along the arrows or, if so asked, against them; or n if all are.
+// The lowest basin that is not reached from start along the arrows or, if so asked, against them; or n if all are. What the search noted stands in
+// seen; past the n basins it is free, and so is the queue.
 pub fn first_unreached(
     n: usize,
     a: &[u16],
@@ -44,7 +45,8 @@ pub fn first_unreached(
     first_unseen(n, seen)
 }
 
-// The lowest basin that does not reach all, or n if all do: if basin 0 reaches all, a basin does exactly if it reaches basin 0.
+// The lowest basin that does not reach all, or n if all do: if basin 0 reaches all, a basin does exactly if it reaches basin 0. What it leaves in seen and
+// in the queue is free.
 pub fn shut_in_basin(
     n: usize,
     a: &[u16],
@@ -79,7 +81,8 @@ fn keep_if(led: bool, ways: &mut [u8], i: usize, way: u8) -> bool
 }
 
 // Gives reach i the way (0 as drawn, else turned) if that loses nothing: if the end to which it passes leads to the other without it. Otherwise it is
-// usable either way. Says whether it could. The search is called at two places, so that it stays a function of its own: inlined here it is slower.
+// usable either way. Says whether it could. What it leaves in seen and in the queue is free. The search is called at two places, so that it stays a
+// function of its own: inlined here it is slower.
 pub fn try_way(
     n: usize,
     a: &[u16],

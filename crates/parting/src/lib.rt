@@ -5,7 +5,8 @@ ghost use lib.ListN.{length};
 ghost use Rattle.orienting.specs.Ready.{AtReach};
 ghost use Rattle.parting.specs.Parts.{OrientedAs, PartedAt};
 
-// Orients reach i, if it is a gate, as `under` has it where that loses nothing; otherwise it is usable either way. Says whether it could.
+// Orients reach i, if it is a gate, as `under` has it where that loses nothing; otherwise it is usable either way. Says whether it could. What it leaves
+// in seen and in the queue is free.
 pub fn orient_as(
     n: usize,
     kinds: &[u8],
@@ -29,7 +30,8 @@ pub fn orient_as(
     orienting::try_way(n, a, b, ways, head, next, i, under[i], seen, queue)
 }
 
-// Turns reach i if it is a gate that `under` has as drawn and that loses nothing; otherwise a gate is usable either way. Says whether it was turned.
+// Turns reach i if it is a gate that `under` has as drawn and that loses nothing; otherwise a gate is usable either way. Says whether it was turned. What
+// it leaves in seen and in the queue is free.
 pub fn part_at(
     n: usize,
     kinds: &[u8],

@@ -1,5 +1,5 @@
 // The first plan, the next plan and the check of a setting of an accepted table whose rows are of one length, each in working memory of its own.
-// These functions are for the planner's calls; what they require those have checked.
+// These functions are for the planner's calls; what they require those have checked. What the `.._in` leave in working memory is free.
 use half_edges::HALF_EDGES;
 use network::MAX_BASINS;
 use network::MAX_REACHES;

@@ -56,7 +56,7 @@ pub record Searchable (n : ℕ) (xs ys ws head next : List ℕ) (start : ℕ) (s
   pub seen-room : n ≤ length seen
   pub queue-room : length seen ≤ length queue
 
--- What it leaves: a 1 at each basin that is reached from start along A, and a 0 at each other.
+-- What it leaves: a 1 at each basin that is reached from start along A, and a 0 at each other. What seen holds past the n basins is free, and so is the queue.
 abbrev pub Noted : List Arc → ℕ → ℕ → List ℕ → Type 0
 Noted A n start seen = (v : ℕ) → v < n → getD seen v 0 ≡ bit (reached A start v)
 

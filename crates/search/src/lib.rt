@@ -97,7 +97,8 @@ pub fn scan(
     end
 }
 
-// Notes what is reached from start along the arrows or, if so asked, against them: seen holds 1 at each basin reached and 0 at each other.
+// Notes what is reached from start along the arrows or, if so asked, against them: seen holds 1 at each basin reached and 0 at each other. What it holds
+// past the n basins, and what the queue holds, is free.
 pub fn search(
     n: usize,
     a: &[u16],

@@ -1,5 +1,6 @@
 // The first plan and the next over an accepted table whose rows are of one length and whose half-edges are indexed.
-// These functions are for the planner; what they require it has checked.
+// These functions are for the planner; what they require it has checked. What the searches leave in working memory is free but for two things: the
+// ways, where a plan is found, and what is noted for each basin in seen, where a finding is.
 ghost use mathlib.Core.Path.{_≡_};
 ghost use Rattle.tables.specs.Rows.{netOf};
 ghost use Rattle.orienting.specs.Ready.{Ready};

@@ -47,7 +47,8 @@ pub record Got (x : SheetReading) (setting : List ℕ) (r : SheetAnswer) (settin
 abbrev pub PlanKept : Network → List ℕ → List ℕ → SheetAnswer → List ℕ → Type 0
 PlanKept N s setting r setting′ = Got (sheetWithRoom (length setting) (unlessFault (tableFault N) (ifPlan N (sheetSays s)))) setting r setting′
 
--- The same of the working memory that a sheet is read into before its setting is judged: the setting that was read stands first.
+-- The same of the working memory that a sheet is read into before its setting is judged: the setting that was read stands first. What stands behind
+-- it is free, and all of it where the sheet is refused.
 pub record Held (x : SheetReading) (r : SheetAnswer) (held′ : List ℕ) : Type 0 where
   pub answer : r ≡ sheetAnswer x
   pub bytes : take (length (settingRead x)) held′ ≡ settingRead x

@@ -41,7 +41,7 @@ pub fn keep_plan(
     }
 }
 
-// The network's reply as a sheet, with lent working memory for the plan and the marks.
+// The network's reply as a sheet, with lent working memory for the plan and the marks. What it leaves there is free.
 pub fn write_reply_in(
     basins: u16,
     kinds: &[u8],

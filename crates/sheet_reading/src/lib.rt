@@ -31,7 +31,7 @@ fn byte_in(kind: u8) -> u8
     if kind == AS_DRAWN { 0 } else { 1 }
 }
 
-// The records and the end, which start after the head. The setting that they say goes to the first bytes of lent working memory.
+// The records and the end, which start after the head. The setting that they say goes to the first bytes of lent working memory, which is free behind it.
 fn read_gates(kinds: &[u8], sheet: &[u8], held: &mut [u8]) -> SheetAnswer
     requires { ⌜ 3 ≤ length (now sheet) ⌝ }
     requires { ⌜ length (gatesRow 0 (now kinds)) ≤ length (now held) ⌝ }

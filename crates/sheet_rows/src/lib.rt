@@ -43,7 +43,7 @@ pub fn write_reply(basins: u16, kinds: &[u8], a: &[u16], b: &[u16], out: &mut [u
     sheet_plans::write_reply_in(basins, kinds, a, b, &mut plan, &mut marks, out)
 }
 
-// The reader, with lent working memory.
+// The reader, with lent working memory. What it leaves there is free.
 fn read_sheet_in(
     basins: u16,
     kinds: &[u8],

@@ -19,7 +19,8 @@ fn copy_row(from: &[u8], to: &mut [u8])
 }
 
 // From a plan, whose ways stand in `ways`, to the next: its ways stand there then.
-// Returns the number of the gate at which the next parts from the plan, or the number of reaches if no plan is later.
+// Returns the number of the gate at which the next parts from the plan, or the number of reaches if no plan is later: the ways are then free. What it
+// leaves in `under`, in seen and in the queue is free.
 pub fn advance(
     n: usize,
     kinds: &[u8],
