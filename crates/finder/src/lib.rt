@@ -86,7 +86,7 @@ pub fn find_next(
         (now (ways .exit)) (now (seen .exit)) r ⌝ }
 {
     prepare(n, kinds, a, b, setting, under, head, next);
-    seeking::next_of(
+    following::next_of(
         n,
         kinds,
         a,

@@ -1,4 +1,4 @@
--- What the search for the next plan of a setting requires at its steps, and what they find.
+-- What the step to a later plan requires, and what it finds.
 -- Assumes nothing.
 use Prim.Native.Nat.{ℕ, _≤_, _<_}
 use mathlib.Core.Path.{_≡_}
@@ -12,7 +12,7 @@ use Rattle.network.specs.Plans.{isPlan}
 use Rattle.network.specs.Bridges.{reachAt}
 use Rattle.tables.specs.Rows.{netOf, waysRow}
 use Rattle.orientations.specs.Least.{NoneFrom}
-use Rattle.orientations.specs.Partials.{NotStronglyConnected, Under, upTo, StronglyConnectedBelow, NoPart}
+use Rattle.orientations.specs.Partials.{Under, upTo, StronglyConnectedBelow, NoPart}
 use Rattle.completing.specs.Greedy.{Completed}
 use Rattle.seeking.specs.declared.Sought.{Sought}
 use Rattle.seeking.specs.Levels.{Level}
@@ -43,34 +43,12 @@ pub data StepTaken (N : Network) (us : List ℕ) (to : ℕ) : List ℕ → ℕ �
       → Completed N (set (upTo N us r) r 1) ws → StepTaken N us to ws r
   no-step : {ws : List ℕ} {r : ℕ} → r ≡ length (N .reaches) → ((j : ℕ) → j < to → NoPart N us j) → StepTaken N us to ws r
 
--- Room for ways, and not everything reaches everything with the ways us.
-pub record OtherThanPlan (n : ℕ) (ks xs ys us ws : List ℕ) : Type 0 where
-  pub seeking : Seeking n ks xs ys us
-  pub ways-room : length ws ≡ length ks
-  pub lost : NotStronglyConnected (netOf n ks xs ys) us
-
--- And there is a plan.
-pub record Followable (n : ℕ) (ks xs ys us ws : List ℕ) : Type 0 where
-  pub other : OtherThanPlan n ks xs ys us ws
-  pub some-plan : SomePlan (netOf n ks xs ys)
-
 -- The ways us are those under the plan s.
 pub record AtPlan (n : ℕ) (ks xs ys s us : List ℕ) : Type 0 where
   pub level : Level n ks xs ys
   pub is-plan : isPlan (netOf n ks xs ys) s ≡ true
   pub oriented : us ≡ waysRow ks s
 
--- The ways us are those under the setting s, and there is room for others.
-pub record AtSetting (n : ℕ) (ks xs ys s us ws : List ℕ) : Type 0 where
-  pub level : Level n ks xs ys
-  pub fits : isSetting (netOf n ks xs ys) s ≡ true
-  pub oriented : us ≡ waysRow ks s
-  pub ways-room : length ws ≡ length ks
-
--- What is found after the setting with the ways us.
-pub record NextAfter (N : Network) (us ws seen : List ℕ) (r : Sought) : Type 0 where
-  pub found : (s : List ℕ) → isSetting N s ≡ true → us ≡ ways (N .reaches) s → NextFound N s ws seen r
-
--- And where no later plan is alike below `to`.
+-- What is found after the setting with the ways us, where no later plan is alike below `to`.
 pub record NextFrom (N : Network) (us : List ℕ) (to : ℕ) (ws seen : List ℕ) (r : Sought) : Type 0 where
   pub found : (s : List ℕ) → isSetting N s ≡ true → us ≡ ways (N .reaches) s → NoneFrom N s to → NextFound N s ws seen r

@@ -1,10 +1,10 @@
--- `seeking::next_of_plan` meets its contract: a plan is all hung, and it is left at the last gate at which another can part.
+-- `following::next_of_plan` meets its contract: a plan is all hung, and it is left at the last gate at which another can part.
 -- Assumes nothing.
 use Rattle.orienting.proofs.Readies.{ready-ways}
 use Rattle.seeking.proofs.Seeks.{plan-partable, plan-found}
 use borrow.Author.Needs.{needs}
-use Rattle.seeking.proofs.next_of_plan.Statement.{statement}
-use Rattle.seeking.proofs.next_of_plan.Tie as tie
+use Rattle.following.proofs.next_of_plan.Statement.{statement}
+use Rattle.following.proofs.next_of_plan.Tie as tie
 
 orient-requires : tie.Need-orient-requires
 orient-requires c κs = search needs

@@ -1,12 +1,12 @@
--- `seeking::next_of_other` meets its contract: a finding is one whatever is asked for, and with a plan the setting is followed.
+-- `following::next_of_other` meets its contract: a finding is one whatever is asked for, and with a plan the setting is followed.
 -- Assumes nothing.
 use mathlib.Core.Path.{_∙_}
 use borrow.Author.Needs.{needs}
 use Rattle.tables.specs.Rows.{netOf}
 use Rattle.orienting.proofs.Readies.{ready-ways, ready-notes}
-use Rattle.seeking.proofs.Seeks.{closed-next, bridge-next, other-followable}
-use Rattle.seeking.proofs.next_of_other.Statement.{statement}
-use Rattle.seeking.proofs.next_of_other.Tie as tie
+use Rattle.following.proofs.Nexts.{closed-next, bridge-next, other-followable}
+use Rattle.following.proofs.next_of_other.Statement.{statement}
+use Rattle.following.proofs.next_of_other.Tie as tie
 
 slice-aggregate-orient : tie.Need-slice-aggregate-orient
 slice-aggregate-orient c = search needs

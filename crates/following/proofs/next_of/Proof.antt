@@ -1,11 +1,11 @@
--- `seeking::next_of` meets its contract: the setting is a plan or not, and is left accordingly.
+-- `following::next_of` meets its contract: the setting is a plan or not, and is left accordingly.
 -- Assumes nothing.
 use mathlib.Core.Path.{sym, _∙_}
 use borrow.Author.Needs.{needs}
 use Rattle.orienting.proofs.Readies.{ready-ways, ready-notes}
-use Rattle.seeking.proofs.Seeks.{setting-room, seek-plan, seek-other, seek-found}
-use Rattle.seeking.proofs.next_of.Statement.{statement}
-use Rattle.seeking.proofs.next_of.Tie as tie
+use Rattle.following.proofs.Nexts.{setting-room, seek-plan, seek-other, seek-found}
+use Rattle.following.proofs.next_of.Statement.{statement}
+use Rattle.following.proofs.next_of.Tie as tie
 
 shut-in-basin-requires : tie.Need-shut-in-basin-requires
 shut-in-basin-requires c κs = let s = c .before .before .before .before .before .before .before .before .before .before .before .before in ready-ways _ (s .pre .0) (setting-room (s .args .n) (s .args .kinds .now) (s .args .a .now) (s .args .b .now) (s .pre .1))

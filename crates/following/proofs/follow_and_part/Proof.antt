@@ -1,13 +1,13 @@
--- `seeking::follow_and_part` meets its contract: the setting is left at the gate where it stopped or before.
+-- `following::follow_and_part` meets its contract: the setting is left at the gate where it stopped or before.
 -- Assumes nothing.
 use native.Mathlib.Omega.{arith}
 use mathlib.Core.Path.{_∙_}
 use lib.ListN.{length-set}
 use borrow.Author.Needs.{needs}
 use Rattle.orienting.proofs.Readies.{ready-ways, ready-notes}
-use Rattle.seeking.proofs.Seeks.{follow-start, follow-connected, follow-length, follow-below, follow-partable, follow-found}
-use Rattle.seeking.proofs.follow_and_part.Statement.{statement}
-use Rattle.seeking.proofs.follow_and_part.Tie as tie
+use Rattle.following.proofs.Nexts.{follow-start, follow-connected, follow-length, follow-below, follow-partable, follow-found}
+use Rattle.following.proofs.follow_and_part.Statement.{statement}
+use Rattle.following.proofs.follow_and_part.Tie as tie
 
 slice-aggregate-orient : tie.Need-slice-aggregate-orient
 slice-aggregate-orient c = search needs

@@ -1,0 +1,2 @@
+-- The laws of the search for the next plan.
+pub mod Nexts
