@@ -2,7 +2,7 @@
 use planner_rows::next_plan;
 use replies::Answer;
 ghost use Rattle.tables.specs.Rows.{netOf};
-ghost use Rattle.planner_laws.specs.Demands.{DemandOver};
+ghost use Rattle.planner_laws.specs.Demands.{NextOfTwo};
 
 // Two answers of next.
 pub struct Both {
@@ -10,7 +10,7 @@ pub struct Both {
     pub second: Answer,
 }
 
-// Demand 3 over the running call: asks next of two settings, each with lent buffers of its own.
+// Asks next of two settings, each with lent buffers of its own: what the two calls promise, and demand 3.
 pub fn next_of_two(
     basins: u16,
     kinds: &[u8],
@@ -23,7 +23,7 @@ pub fn next_of_two(
     plan2: &mut [u8],
     marks2: &mut [u8],
 ) -> Both
-    ensures { λ r. ⌜ DemandOver (netOf basins (now (kinds .entry)) (now (a .entry)) (now (b .entry))) (now (s .entry)) (now (t .entry))
+    ensures { λ r. ⌜ NextOfTwo (netOf basins (now (kinds .entry)) (now (a .entry)) (now (b .entry))) (now (s .entry)) (now (t .entry))
         (now (plan1 .entry)) (now (marks1 .entry)) (now (plan2 .entry)) (now (marks2 .entry))
         (now (plan1 .exit)) (now (marks1 .exit)) (now (plan2 .exit)) (now (marks2 .exit))
         (r .first) (r .second) ⌝ }
