@@ -5,7 +5,7 @@ use Prim.Native.Nat.{ℕ}
 use mathlib.Core.Path.{_≡_, refl, sym, ap, subst, subst⁻¹, _∙_}
 use mathlib.Core.Bool.{true}
 use mathlib.Core.List.{List}
-use mathlib.Core.Option.{none, some}
+use mathlib.Core.Option.{none}
 use lib.ListN.{length, take, drop}
 use lib.Seq.{take-at}
 use Rattle.network.specs.declared.Reach.{Reach}
@@ -17,7 +17,7 @@ use Rattle.file_records.specs.declared.WriteAnswer.{WriteAnswer}
 use Rattle.file_records.specs.declared.WriteAnswer.the-variants.{Refused as Unwritten, Written}
 use Rattle.tables.specs.Rows.{netOf}
 use lib.Pow.{areBytes}
-use Rattle.netfile_format.specs.Files.{fileOf, Reading, refused, read, readFile}
+use Rattle.netfile_format.specs.Files.{fileOf, Reading, refused, readFile}
 use Rattle.netfile_format.specs.Answers.{roomOf, readAnswer, withRoom, reachesRead, RowsFilled, NetworkRead, writeFault, NetworkWritten}
 use Rattle.file_records.specs.Puts.{Wrote, roomFor, WroteWhole}
 use Rattle.network.specs.Replies.{firstOf}
@@ -41,7 +41,7 @@ module _ (N : Network) {out out′ : List ℕ} where
       ∙ ap (λ o. networkAgain o room N) (sym sound)
 
   -- over rows
-  module _ (kinds a b : List ℕ) where
+  module _ {kinds a b : List ℕ} where
     pub rows-unwritten : {x : Refusal} → NetworkWritten N out (Unwritten x) out′ → NetworkWriteRead N out kinds a b (Refused x) out′ kinds a b
     rows-unwritten w =
         let e = unwritten-again (roomOf kinds a b) w in
@@ -59,7 +59,7 @@ module _ (N : Network) {out out′ : List ℕ} where
         record { answer = c .answer ∙ ap readAnswer e; rows = subst (λ y. RowsFilled (reachesRead y) kinds a b kinds′ a′ b′) e (c .rows); file = w .bytes }
 
   -- over a table of records
-  module _ (t : List Reach) where
+  module _ {t : List Reach} where
     pub table-unwritten : {x : Refusal} → NetworkWritten N out (Unwritten x) out′ → TableWriteRead N out t (Refused x) out′ t
     table-unwritten w = let e = unwritten-again (length t) w in record { answer = sym (ap readAnswer e); table = sym (ap (λ y. leftIn y t) e); file = w .bytes }
 
@@ -84,10 +84,11 @@ module _ (file out : List ℕ) where
       was : WasWritten file (C .network)
       was = write-read file (C .network) bytes (room-kept room (readFile file) (C .network) (C .is))
 
+module _ {file out : List ℕ} where
   -- over rows
-  module _ (kinds a b : List ℕ) {kinds′ a′ b′ : List ℕ} where
+  module _ {kinds a b kinds′ a′ b′ : List ℕ} where
     pub rows-unread : {r : Refusal} → NetworkRead file kinds a b (Refused r) kinds′ a′ b′ → NetworkReadWrite file kinds a b out (Unwritten r) kinds′ a′ b′ out
-    rows-unread c = record { again = unread (withRoom (roomOf kinds a b) (readFile file)) (c .answer); rows = c .rows }
+    rows-unread c = record { again = unread file out (withRoom (roomOf kinds a b) (readFile file)) (c .answer); rows = c .rows }
 
     pub rows-written-again :
         {n m : ℕ} {r : WriteAnswer} {out′ : List ℕ} → areBytes file ≡ true → NetworkRead file kinds a b (Read n m) kinds′ a′ b′
@@ -95,21 +96,21 @@ module _ (file out : List ℕ) where
     rows-written-again {n} {m} {r} {out′} bytes c w =
         record {
           again =
-              file-again (roomOf kinds a b) (counted file kinds a b kinds′ a′ b′ n m c) bytes
+              file-again file out (roomOf kinds a b) (counted file kinds a b kinds′ a′ b′ n m c) bytes
               (subst (λ N. NetworkWritten N out r out′) (same-network file kinds a b kinds′ a′ b′ n m c) w);
           rows = c .rows;
         }
 
   -- over a table of records
-  module _ (t : List Reach) {t′ : List Reach} where
+  module _ {t t′ : List Reach} where
     pub table-unread : {r : Refusal} → ReadTable file t (Refused r) t′ → TableReadWrite file t out (Unwritten r) t′ out
-    table-unread c = record { again = unread (withRoom (length t) (readFile file)) (c .answer); table = c .table }
+    table-unread c = record { again = unread file out (withRoom (length t) (readFile file)) (c .answer); table = c .table }
 
     pub table-written-again :
         {n m : ℕ} {r : WriteAnswer} {out′ : List ℕ} → areBytes file ≡ true → ReadTable file t (Read n m) t′ → NetworkWritten (net n (take m t′)) out r out′
         → TableReadWrite file t out r t′ out′
     table-written-again {n} {m} {r} {out′} bytes c w =
-        record { again = file-again (length t) C bytes (subst (λ N. NetworkWritten N out r out′) same w); table = c .table }
+        record { again = file-again file out (length t) C bytes (subst (λ N. NetworkWritten N out r out′) same w); table = c .table }
       where
         C : Counted (withRoom (length t) (readFile file)) n m
         C = answer-read (withRoom (length t) (readFile file)) n m (sym (c .answer))

@@ -79,8 +79,7 @@ returns : tie.Need-returns
 returns c =
     let s = c .before .before .before .before .before .before .before .before .before .before .before .before .before .before .before .before .before .before .args in
     let k = c .before .before .before .before .before .before .before .before .before in
-    rows-unread (s .file .now) (s .out .now) (s .kinds .now) (s .a .now) (s .b .now)
-    (subst (Got k) (c .before .r .given .1) (k .read-network .ensures))
+    rows-unread (subst (Got k) (c .before .r .given .1) (k .read-network .ensures))
 
 same-length-4 : tie.Need-same-length-4
 same-length-4 c = search needs
@@ -97,7 +96,7 @@ same-length-7 c = search needs
 returns-2 : tie.Need-returns-2
 returns-2 c =
     let s = c .before .before .before .before .before .before .before .before .before .before .before .before .before .before .before .before .before .before .before .before .before .before .before .before .before .args in
-    rows-written-again (s .file .now) (s .out .now) (s .kinds .now) (s .a .now) (s .b .now)
+    rows-written-again
     (bytes-make (s .file .now) (λ i. c .before .before .before .before .before .before .before .before .before .before .before .before .before .before .before .before .before .before .before .before .before .before .before .before .shared-slice-known .given i .fits))
     (was-read (c .before .before .before .before .before .before .before .before)) (c .before .before .write-network .ensures)
 

@@ -56,7 +56,7 @@ returns : tie.Need-returns
 returns c =
     let s = c .before .before .before .before .before .before .before .before .before .before .before .before .before .before in
     let k = c .before .before .before .before .before in
-    rows-unwritten (net s) (s .args .kinds2 .now) (s .args .a2 .now) (s .args .b2 .now) (subst (Wrote k) (c .before .r .given .1) (k .write-network .ensures))
+    rows-unwritten (net s) (subst (Wrote k) (c .before .r .given .1) (k .write-network .ensures))
 
 same-length-2 : tie.Need-same-length-2
 same-length-2 c = search needs
@@ -73,8 +73,7 @@ same-length-5 c = search needs
 returns-2 : tie.Need-returns-2
 returns-2 c =
     let s = c .before .before .before .before .before .before .before .before .before .before .before .before .before .before .before .before .before .before .before .before .before .before .before .before .before in
-    rows-read-again (net s) (s .args .kinds2 .now) (s .args .a2 .now) (s .args .b2 .now)
-    (wrote (c .before .before .before .before .before .before .before .before .before .before .before .before)) (c .before .before .before .before .before .before .read-network .ensures)
+    rows-read-again (net s) (wrote (c .before .before .before .before .before .before .before .before .before .before .before .before)) (c .before .before .before .before .before .before .read-network .ensures)
 
 pub write-then-read-spec : {M : Type 1} → statement M
 write-then-read-spec =
