@@ -1,24 +1,28 @@
--- Demand 3 over the call of next, from what the call promises.
+-- Demand 3 over the call of next and over a walker's step, from what the calls promise.
 -- Assumes nothing.
 use Prim.Native.Nat.{ℕ}
-use mathlib.Core.Path.{_≡_, refl, ap, subst, subst⁻¹, _∙_}
+use mathlib.Core.Path.{_≡_, refl, sym, ap, subst⁻¹, _∙_}
 use mathlib.Core.Bool.{true}
 use mathlib.Core.Option.{Option, none, some}
 use mathlib.Core.List.{List}
 use lib.ListN.{length, take, drop}
 use lib.Seq.{take-at}
 use borrow.Author.Tests.{le-leb}
-use Rattle.network.specs.Networks.{Network, Accepted}
+use Rattle.network.specs.declared.Refusal.{Refusal}
+use Rattle.network.specs.Networks.{Network, tableFault, Accepted}
 use Rattle.network.specs.Settings.{gateCount, isSetting, settingFault}
 use Rattle.network.specs.Marks.{markBytes}
-use Rattle.network.specs.Replies.{Outcome, plan, shutIn, lone, refused, shutInFinding, loneFinding, chosen, answer, nextAnswer, roomFault, nextReply}
+use Rattle.network.specs.Replies.{Outcome, plan, shutIn, lone, refused, shutInFinding, loneFinding, chosen, answer, nextAnswer, unless, roomFault, nextReply, planAfter}
 use Rattle.network.specs.Plans.{nextPlan}
 use Rattle.network.proofs.Marks.{length-marks}
 use Rattle.network.proofs.Order.{setting-length, plan-setting, next-is-plan, next-is-later, next-is-earliest}
-use Rattle.network.proofs.Replies.{Trichotomy, plans, no-way, one-bridge, trichotomy, next-given, last-plan, given-if-later, demand-3}
+use Rattle.network.proofs.Replies.{Trichotomy, plans, no-way, one-bridge, trichotomy, unless-plan, next-given, last-plan, given-if-later, demand-3}
 use Rattle.replies.specs.declared.Answer.{Answer}
-use Rattle.replies.specs.Answers.{Replied}
-use Rattle.planner_laws.specs.Demands.{readReply, Asked, NextShown, DemandThree}
+use Rattle.replies.specs.Answers.{Replied, NextCall}
+use Rattle.walker.specs.declared.Stepped.{Stepped}
+use Rattle.walker.specs.Walkers.{settingIn, stepReply, Stepping}
+use Rattle.walker.proofs.Steps.{step-setting, step-rest}
+use Rattle.planner_laws.specs.Demands.{readReply, Asked, NextShown, DemandThree, DemandOver, NextOfTwo, Walked}
 
 -- a reply whose plan and marks have the lengths that the network has
 data Sized (N : Network) : Outcome → Type 0 where
@@ -57,18 +61,25 @@ next-sized N ok s = go (trichotomy N ok)
     go (no-way n k f) = subst⁻¹ (Sized N) (f (nextPlan N s)) (sized-shut (length-marks _))
     go (one-bridge i e y k f) = subst⁻¹ (Sized N) (f (nextPlan N s)) (sized-lone (length-marks _))
 
--- where nothing is refused by number before the search
-next-roomy : (N : Network) (s planBuffer marksBuffer : List ℕ) → Asked N s planBuffer marksBuffer → nextReply N s (length planBuffer) (length marksBuffer) ≡ nextAnswer N s
-unfolding nextReply settingFault roomFault
-next-roomy N s planBuffer marksBuffer a =
-    rw (a .accepted, a .fits, le-leb (gateCount N) (length planBuffer) (a .plan-room), le-leb markBytes (length marksBuffer) (a .marks-room))
+unless-sized : (N : Network) (f : Option Refusal) {o : Outcome} → (f ≡ none → Sized N o) → Sized N (unless f o)
+unless-sized N none h = h refl
+unless-sized N (some r) h = sized-refused
 
--- what a caller of next reads is the reply of the definition
-pub next-read : (N : Network) (s planBuffer marksBuffer : List ℕ) {plan′ marks′ : List ℕ} {r : Answer} → Asked N s planBuffer marksBuffer
-    → Replied (nextReply N s (length planBuffer) (length marksBuffer)) planBuffer marksBuffer plan′ marks′ r → readReply N r plan′ marks′ ≡ nextAnswer N s
-next-read N s planBuffer marksBuffer {plan′} {marks′} {r} a w =
-    read-back N (nextAnswer N s) (next-sized N (a .accepted) s)
-    (subst (λ (o : Outcome). Replied o planBuffer marksBuffer plan′ marks′ r) (next-roomy N s planBuffer marksBuffer a) w)
+reply-sized : (N : Network) (s : List ℕ) (planLength marksLength : ℕ) → Sized N (nextReply N s planLength marksLength)
+unfolding nextReply
+reply-sized N s planLength marksLength =
+    unless-sized N (tableFault N) (λ ok. unless-sized N (settingFault N s) (λ fits. unless-sized N (roomFault N planLength marksLength) (λ room. next-sized N ok s)))
+
+module _ (N : Network) (s : List ℕ) {planBuffer marksBuffer : List ℕ} where
+  -- what a caller of next reads is the reply of the definition, whatever the input
+  pub next-read : {plan′ marks′ : List ℕ} {r : Answer} → NextCall N s planBuffer marksBuffer r plan′ marks′ → readReply N r plan′ marks′ ≡ nextReply N s (length planBuffer) (length marksBuffer)
+  next-read = read-back N (nextReply N s (length planBuffer) (length marksBuffer)) (reply-sized N s (length planBuffer) (length marksBuffer))
+
+  -- where nothing is refused by number before the search
+  next-roomy : Asked N s planBuffer marksBuffer → nextReply N s (length planBuffer) (length marksBuffer) ≡ nextAnswer N s
+  unfolding nextReply settingFault roomFault
+  next-roomy a =
+      rw (a .accepted, a .fits, le-leb (gateCount N) (length planBuffer) (a .plan-room), le-leb markBytes (length marksBuffer) (a .marks-room))
 
 next-shown : (N : Network) → Accepted N → (s : List ℕ) → NextShown N s (nextAnswer N s)
 next-shown N ok s =
@@ -81,8 +92,66 @@ next-shown N ok s =
       is-last = last-plan N ok s;
     }
 
-pub demand-three : (N : Network) (s t : List ℕ) → Accepted N → isSetting N s ≡ true → isSetting N t ≡ true → {o o′ : Outcome} → o ≡ nextAnswer N s → o′ ≡ nextAnswer N t → DemandThree N s t o o′
+demand-three : (N : Network) (s t : List ℕ) → Accepted N → isSetting N s ≡ true → isSetting N t ≡ true → {o o′ : Outcome} → o ≡ nextAnswer N s → o′ ≡ nextAnswer N t → DemandThree N s t o o′
 demand-three N s t ok hs ht {o} {o′} e f =
     subst⁻¹ (λ (x : Outcome). DemandThree N s t x o′) e
     (subst⁻¹ (λ (y : Outcome). DemandThree N s t (nextAnswer N s) y) f
     (record { equal = demand-3 N ok s t hs ht; first-shown = next-shown N ok s; second-shown = next-shown N ok t }))
+
+-- ---- two calls of next, on rows (`planner_rows::next_plan`) or on records (`planner::next_plan`): both promise `NextCall` of the lent table's network,
+-- and that is all that is asked here
+
+module _ (N : Network) (s t : List ℕ) {plan₁ marks₁ plan₂ marks₂ plan₁′ marks₁′ plan₂′ marks₂′ : List ℕ} {r₁ r₂ : Answer} where
+  pub demand-over :
+      NextCall N s plan₁ marks₁ r₁ plan₁′ marks₁′ → NextCall N t plan₂ marks₂ r₂ plan₂′ marks₂′ → DemandOver N s t plan₁ marks₁ plan₂ marks₂ plan₁′ marks₁′ plan₂′ marks₂′ r₁ r₂
+  demand-over c d a b =
+      demand-three N s t (a .accepted) (a .fits) (b .fits) (next-read N s c ∙ next-roomy N s a) (next-read N t d ∙ next-roomy N t b)
+
+  pub next-of-two :
+      NextCall N s plan₁ marks₁ r₁ plan₁′ marks₁′ → NextCall N t plan₂ marks₂ r₂ plan₂′ marks₂′ → NextOfTwo N s t plan₁ marks₁ plan₂ marks₂ plan₁′ marks₁′ plan₂′ marks₂′ r₁ r₂
+  next-of-two c d = record { first-call = c; second-call = d; demand = demand-over c d }
+
+-- ---- a walker's steps, on rows (`Walker::step_rows`) or on records (`Walker::step`): both promise `Stepping` of the lent table's network
+
+-- a plan replied to any input is the next plan
+plan-replied : (N : Network) (s : List ℕ) (planLength marksLength : ℕ) {p : List ℕ} → nextReply N s planLength marksLength ≡ plan p → nextPlan N s ≡ some p
+unfolding nextReply
+plan-replied N s planLength marksLength {p} e =
+    let room = unless (roomFault N planLength marksLength) (nextAnswer N s) in
+    let table = unless-plan (tableFault N) (unless (settingFault N s) room) e in
+    let fits = unless-plan (settingFault N s) room (table .1) in
+    (next-given N (table .0) s p) .0 (unless-plan (roomFault N planLength marksLength) (nextAnswer N s) (fits .1) .1)
+
+-- a reply without a plan leaves the walker
+none-walked : (o : Outcome) (w : List ℕ) → ((p : List ℕ) → o ≡ plan p → ⊥) → planAfter o w ≡ w
+none-walked (plan p) w h = absurd (h p refl)
+none-walked (shutIn m c) w h = refl
+none-walked (lone i m c) w h = refl
+none-walked (refused r) w h = refl
+
+-- demand 3 of the settings in two walkers
+pub step-demand :
+    (N : Network) (w v : List ℕ) {plan₁ marks₁ plan₂ marks₂ plan₁′ marks₁′ plan₂′ marks₂′ : List ℕ} {r₁ r₂ : Stepped}
+    → Stepping N w plan₁ marks₁ plan₁′ marks₁′ r₁ → Stepping N v plan₂ marks₂ plan₂′ marks₂′ r₂
+    → DemandOver N (settingIn N w) (settingIn N v) plan₁ marks₁ plan₂ marks₂ plan₁′ marks₁′ plan₂′ marks₂′ (r₁ .answer) (r₂ .answer)
+unfolding stepReply
+step-demand N w v c d = demand-over N (settingIn N w) (settingIn N v) (c .replied) (d .replied)
+
+-- what a step does to its walker
+pub step-walked :
+    (N : Network) (w : List ℕ) {buffer marks buffer′ marks′ : List ℕ} {r : Stepped} → Stepping N w buffer marks buffer′ marks′ r
+    → Walked N w (readReply N (r .answer) buffer′ marks′) ((r .walker) .setting)
+unfolding stepReply
+step-walked N w {buffer} {marks} {buffer′} {marks′} {r} c =
+    record {
+      is-setting = λ p e. ap (settingIn N) (c .walked ∙ ap (λ (o : Outcome). planAfter o w) (replied p e)) ∙ step-setting N w (length buffer) (length marks) (replied p e);
+      is-next = λ p e. plan-replied N (settingIn N w) (length buffer) (length marks) (replied p e);
+      rest = ap (drop (gateCount N)) (c .walked) ∙ step-rest N w (length buffer) (length marks);
+      is-same = λ h. c .walked ∙ none-walked (stepReply N w (length buffer) (length marks)) w (λ p e. h p (same ∙ e));
+    }
+  where
+    same : readReply N (r .answer) buffer′ marks′ ≡ stepReply N w (length buffer) (length marks)
+    same = next-read N (settingIn N w) (c .replied)
+
+    replied : (p : List ℕ) → readReply N (r .answer) buffer′ marks′ ≡ plan p → stepReply N w (length buffer) (length marks) ≡ plan p
+    replied p e = sym same ∙ e

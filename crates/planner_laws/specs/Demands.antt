@@ -1,4 +1,4 @@
--- Demand 3, said of what a caller of next gets: the answer, and the plan or the marks in the lent buffers.
+-- Demand 3, said of what a caller of next or of a walker's step gets: the answer, and the plan or the marks in the lent buffers.
 -- Assumes nothing.
 use Prim.Native.Nat.{ℕ, _≤_}
 use mathlib.Core.Path.{_≡_}
@@ -6,7 +6,7 @@ use mathlib.Core.Bool.{true, false}
 use mathlib.Core.Logic.{_↔_}
 use mathlib.Core.Option.{some}
 use mathlib.Core.List.{List}
-use lib.ListN.{length, take}
+use lib.ListN.{length, take, drop}
 use Rattle.network.specs.declared.Refusal.the-variants.{LastPlan}
 use Rattle.network.specs.Networks.{Network, Accepted}
 use Rattle.network.specs.Settings.{gateCount, isSetting, before}
@@ -17,6 +17,8 @@ use Rattle.replies.specs.declared.Verdict.{Verdict}
 use Rattle.replies.specs.declared.Verdict.the-variants.{Plan, ShutIn, Lone}
 use Rattle.replies.specs.declared.Answer.{Answer}
 use Rattle.replies.specs.declared.Answer.the-variants as A
+use Rattle.replies.specs.Answers.{NextCall}
+use Rattle.walker.specs.Walkers.{settingIn}
 
 -- The reply that a caller reads: the first bytes of the plan buffer, one for each gated reach, or the 32 bytes of marks.
 abbrev pub readVerdict : Network → Verdict → List ℕ → List ℕ → Outcome
@@ -59,3 +61,17 @@ pub record DemandThree (N : Network) (s t : List ℕ) (o o′ : Outcome) : Type 
 abbrev pub DemandOver : Network → List ℕ → List ℕ → List ℕ → List ℕ → List ℕ → List ℕ → List ℕ → List ℕ → List ℕ → List ℕ → Answer → Answer → Type 0
 DemandOver N s t plan₁ marks₁ plan₂ marks₂ plan₁′ marks₁′ plan₂′ marks₂′ r₁ r₂ =
     Asked N s plan₁ marks₁ → Asked N t plan₂ marks₂ → DemandThree N s t (readReply N r₁ plan₁′ marks₁′) (readReply N r₂ plan₂′ marks₂′)
+
+-- What asking next of two settings promises: of either what next promises of any input, refused or not, and demand 3.
+pub record NextOfTwo (N : Network) (s t plan₁ marks₁ plan₂ marks₂ plan₁′ marks₁′ plan₂′ marks₂′ : List ℕ) (r₁ r₂ : Answer) : Type 0 where
+  pub first-call : NextCall N s plan₁ marks₁ r₁ plan₁′ marks₁′
+  pub second-call : NextCall N t plan₂ marks₂ r₂ plan₂′ marks₂′
+  pub demand : DemandOver N s t plan₁ marks₁ plan₂ marks₂ plan₁′ marks₁′ plan₂′ marks₂′ r₁ r₂
+
+-- What a step with the reply o does to the walker w: "a given plan becomes the setting of the walker after it", and is the next plan of the setting before;
+-- the bytes past the gated reaches "neither count nor change"; where no plan is given, w′ "is the same walker".
+pub record Walked (N : Network) (w : List ℕ) (o : Outcome) (w′ : List ℕ) : Type 0 where
+  pub is-setting : (p : List ℕ) → o ≡ plan p → settingIn N w′ ≡ p
+  pub is-next : (p : List ℕ) → o ≡ plan p → nextPlan N (settingIn N w) ≡ some p
+  pub rest : drop (gateCount N) w′ ≡ drop (gateCount N) w
+  pub is-same : ((p : List ℕ) → o ≡ plan p → ⊥) → w′ ≡ w

@@ -1,8 +1,10 @@
-// Demand 3 over the running call. The proof cites only what next promises.
+// Demand 3 over the running calls. The proofs cite only what next promises.
+use network::Reach;
 use planner_rows::next_plan;
 use replies::Answer;
+ghost use Rattle.network.specs.Networks.{net};
 ghost use Rattle.tables.specs.Rows.{netOf};
-ghost use Rattle.planner_laws.specs.Demands.{DemandOver};
+ghost use Rattle.planner_laws.specs.Demands.{NextOfTwo};
 
 // Two answers of next.
 pub struct Both {
@@ -10,7 +12,7 @@ pub struct Both {
     pub second: Answer,
 }
 
-// Demand 3 over the running call: asks next of two settings, each with lent buffers of its own.
+// Asks next of two settings, each with lent buffers of its own: what the two calls promise, and demand 3.
 pub fn next_of_two(
     basins: u16,
     kinds: &[u8],
@@ -23,12 +25,33 @@ pub fn next_of_two(
     plan2: &mut [u8],
     marks2: &mut [u8],
 ) -> Both
-    ensures { λ r. ⌜ DemandOver (netOf basins (now (kinds .entry)) (now (a .entry)) (now (b .entry))) (now (s .entry)) (now (t .entry))
+    ensures { λ r. ⌜ NextOfTwo (netOf basins (now (kinds .entry)) (now (a .entry)) (now (b .entry))) (now (s .entry)) (now (t .entry))
         (now (plan1 .entry)) (now (marks1 .entry)) (now (plan2 .entry)) (now (marks2 .entry))
         (now (plan1 .exit)) (now (marks1 .exit)) (now (plan2 .exit)) (now (marks2 .exit))
         (r .first) (r .second) ⌝ }
 {
     let first = next_plan(basins, kinds, a, b, s, plan1, marks1);
     let second = next_plan(basins, kinds, a, b, t, plan2, marks2);
+    Both { first, second }
+}
+
+// The same over a lent table. The borrow checker does not cover a slice of structs, so this is proved by a walk of its code, by hand.
+pub fn next_of_two_records(
+    basins: u16,
+    table: &[Reach],
+    s: &[u8],
+    t: &[u8],
+    plan1: &mut [u8],
+    marks1: &mut [u8],
+    plan2: &mut [u8],
+    marks2: &mut [u8],
+) -> Both
+    ensures { λ r. ⌜ NextOfTwo (net basins (now (table .entry))) (now (s .entry)) (now (t .entry))
+        (now (plan1 .entry)) (now (marks1 .entry)) (now (plan2 .entry)) (now (marks2 .entry))
+        (now (plan1 .exit)) (now (marks1 .exit)) (now (plan2 .exit)) (now (marks2 .exit))
+        (r .first) (r .second) ⌝ }
+{
+    let first = planner::next_plan(basins, table, s, plan1, marks1);
+    let second = planner::next_plan(basins, table, t, plan2, marks2);
     Both { first, second }
 }

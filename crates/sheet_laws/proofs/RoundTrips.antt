@@ -1,11 +1,13 @@
--- Writing and reading one after the other, by what the calls promise; and that every accepted network has exactly one reply sheet.
+-- Writing and reading one after the other, by what the calls promise of any network, so that the laws hold of the calls on rows (`sheet_rows`,
+-- `planner_rows::check`) and on records (`sheet`, `planner::check`) alike; and that every accepted network has exactly one reply sheet.
+-- Where the first call refuses, its refusal is handed on and the second is not made.
 -- Assumes nothing.
 use Prim.Native.Nat.{ℕ, _≤_}
 use native.Mathlib.Omega.{arith}
 use mathlib.Core.Path.{_≡_, refl, sym, ap, subst, _∙_}
 use mathlib.Core.Bool.{Bool, true, false, cond, true≢false}
 use mathlib.Core.List.{List}
-use mathlib.Core.Option.{none, some}
+use mathlib.Core.Option.{Option, none, some}
 use lib.ListN.{length, take, drop, length-append}
 use lib.Seq.{take-at}
 use lib.Dec.{leb}
@@ -27,12 +29,12 @@ use lib.Pow.{areBytes}
 use Rattle.file_records.specs.Puts.{Wrote, roomFor, WroteWhole}
 use Rattle.replies.specs.declared.CheckAnswer.{CheckAnswer}
 use Rattle.replies.specs.declared.CheckAnswer.the-variants as C
-use Rattle.replies.specs.Answers.{checkOf}
+use Rattle.replies.specs.Answers.{checkOf, CheckCall}
 use Rattle.sheet_format.specs.declared.SheetAnswer.{SheetAnswer}
 use Rattle.sheet_format.specs.declared.SheetAnswer.the-variants.{Refused, Read}
 use Rattle.sheet_format.specs.Sheets.{sheetOf, outcomeSheet, replySheet}
 use Rattle.sheet_format.specs.Readings.{SheetReading, sheetRefused, sheetSays, unlessFault, readRecords, readSheet, sheetWithRoom}
-use Rattle.sheet_format.specs.Answers.{sheetAnswer, settingRead, Got, planFault, sheetFault, replyFault, SheetWritten, ReplyWritten}
+use Rattle.sheet_format.specs.Answers.{sheetAnswer, settingRead, Got, planFault, sheetFault, replyFault, SheetRead, SheetWritten, ReplyWritten}
 use Rattle.sheet_laws.specs.Laws.{SheetWriteRead, sheetAgain, SheetReadWrite, checkedBack, SheetReadCheck, replyRead, ReplyWriteRead, Replies, says-plan, says-shut-in, says-lone}
 use Rattle.sheet_format.proofs.Sheets.{read-write, write-read, was-read}
 use Rattle.file_records.proofs.Puts.{first-assoc, first-of-none, put-refused, unwritten, written, written-front}
@@ -42,39 +44,42 @@ use Rattle.sheet_plans.proofs.Replies.{First, is-plan, is-shut, is-bridge, firs
 
 -- ---- written, then read
 
-module _ (N : Network) (s out setting out′ : List ℕ) where
-  pub trip-refused : (r : Refusal) → SheetWritten N s out (Unwritten r) out′ → SheetWriteRead N s out setting (Refused r) out′ setting
-  trip-refused r p =
+-- a sheet f that is read as x, unless the writer refuses
+module _ (N : Network) (o : Option Refusal) (f : List ℕ) (x : SheetReading) {out out′ setting : List ℕ} where
+  unwritten-got : {e : Refusal} → Wrote o f out (Unwritten e) out′ → Got (unlessFault o (sheetWithRoom (length setting) x)) setting (Refused e) setting
+  unwritten-got {e} p = got-refused setting e (ap (λ o. unlessFault o (sheetWithRoom (length setting) x)) (unwritten o f out out′ e p))
+
+  written-got :
+      {n : ℕ} {r : SheetAnswer} {setting′ : List ℕ} → Wrote o f out (Written n) out′ → (o ≡ none → readSheet N f ≡ x) → SheetRead N (take n out′) setting r setting′
+      → Got (unlessFault o (sheetWithRoom (length setting) x)) setting r setting′
+  written-got {n} {r} {setting′} p same g =
+      let sound : o ≡ none = written o f out out′ n p in
+      subst (λ y. Got y setting r setting′)
+      (ap (λ h. sheetWithRoom (length setting) (readSheet N h)) (written-front o f out out′ n p)
+      ∙ ap (sheetWithRoom (length setting)) (same sound)
+      ∙ ap (λ o. unlessFault o (sheetWithRoom (length setting) x)) (sym sound)) g
+
+-- what is written is the sheet of a plan
+its-plan : (N : Network) (s : List ℕ) (room : ℕ) → sheetFault N s room ≡ none → Plan N s
+its-plan N s room sound =
+    no-fault N s (tableFault N) (isPlan N s) refl refl
+    (first-of-none (firstOf (tableFault N) (planFault N s)) (roomFor (sheetOf N s) room)
+    (sym (first-assoc (tableFault N) (planFault N s) (roomFor (sheetOf N s) room)) ∙ sound))
+
+module _ (N : Network) (s : List ℕ) {out out′ setting : List ℕ} where
+  pub plan-unwritten : {x : Refusal} → SheetWritten N s out (Unwritten x) out′ → SheetWriteRead N s out setting (Refused x) out′ setting
+  plan-unwritten p = record { again = unwritten-got N (sheetFault N s (length out)) (sheetOf N s) (sheetSays s) p; sheet = p .bytes }
+
+  pub plan-read-again :
+      {n : ℕ} {r : SheetAnswer} {setting′ : List ℕ} → SheetWritten N s out (Written n) out′ → SheetRead N (take n out′) setting r setting′
+      → SheetWriteRead N s out setting r out′ setting′
+  plan-read-again p g =
       record {
-        again = got-refused setting r (ap (λ o. unlessFault o (sheetWithRoom (length setting) (sheetSays s))) (unwritten (sheetFault N s (length out)) (sheetOf N s) out out′ r p));
+        again =
+            written-got N (sheetFault N s (length out)) (sheetOf N s) (sheetSays s) p
+            (λ sound. let p = its-plan N s (length out) sound in read-write N s (p .accepted-net) (p .is-plan)) g;
         sheet = p .bytes;
       }
-
-  module _ (n : ℕ) (p : SheetWritten N s out (Written n) out′) where
-    sound : sheetFault N s (length out) ≡ none
-    sound = written (sheetFault N s (length out)) (sheetOf N s) out out′ n p
-
-    its-plan : Plan N s
-    its-plan =
-        no-fault N s (tableFault N) (isPlan N s) refl refl
-        (first-of-none (firstOf (tableFault N) (planFault N s)) (roomFor (sheetOf N s) (length out))
-        (sym (first-assoc (tableFault N) (planFault N s) (roomFor (sheetOf N s) (length out))) ∙ sound))
-
-    same : readSheet N (take n out′) ≡ sheetSays s
-    same =
-        ap (readSheet N) (written-front (sheetFault N s (length out)) (sheetOf N s) out out′ n p)
-        ∙ read-write N s (its-plan .accepted-net) (its-plan .is-plan)
-
-    pub trip-read :
-        (r : SheetAnswer) (setting′ : List ℕ) → Got (sheetWithRoom (length setting) (readSheet N (take n out′))) setting r setting′
-        → SheetWriteRead N s out setting r out′ setting′
-    trip-read r setting′ g =
-        record {
-          again =
-              subst (λ x. Got x setting r setting′)
-              (ap (sheetWithRoom (length setting)) same ∙ ap (λ o. unlessFault o (sheetWithRoom (length setting) (sheetSays s))) (sym sound)) g;
-          sheet = p .bytes;
-        }
 
 -- ---- read, then written or checked
 
@@ -96,29 +101,27 @@ check-yes : (N : Network) (s : List ℕ) → Accepted N → isPlan N s ≡ true 
 unfolding checkOf checkFault settingFault
 check-yes N s ok p = rw (ok, plan-setting N s p, p)
 
-module _ (N : Network) (f setting setting′ : List ℕ) where
-  abbrev got : SheetReading
-  got = sheetWithRoom (length setting) (readSheet N f)
+-- what a sheet is read as with the room of the buffer
+abbrev got : Network → List ℕ → List ℕ → SheetReading
+got N f setting = sheetWithRoom (length setting) (readSheet N f)
 
-  pub trip-unread : (out : List ℕ) (r : Refusal) → Got got setting (Refused r) setting′ → SheetReadWrite N f setting out (Unwritten r) setting′ out
-  trip-unread out r g =
-      record {
-        again = put-refused f out r (ap (λ x. sheetAgain x f (length out)) (refused-is got r (g .answer)));
-        bytes = g .bytes;
-      }
+module _ (N : Network) (f : List ℕ) {setting setting′ : List ℕ} where
+  pub sheet-unread : {out : List ℕ} {x : Refusal} → SheetRead N f setting (Refused x) setting′ → SheetReadWrite N f setting out (Unwritten x) setting′ out
+  sheet-unread {out} {x} g =
+      record { again = put-refused f out x (ap (λ y. sheetAgain y f (length out)) (refused-is (got N f setting) x (g .answer))); bytes = g .bytes }
 
-  pub trip-unchecked : (r : Refusal) → Got got setting (Refused r) setting′ → SheetReadCheck N f setting (C.Refused r) setting′
-  trip-unchecked r g = record { answer = sym (ap checkedBack (refused-is got r (g .answer))); bytes = g .bytes }
+  pub sheet-unchecked : {x : Refusal} → SheetRead N f setting (Refused x) setting′ → SheetReadCheck N f setting (C.Refused x) setting′
+  sheet-unchecked {x} g = record { answer = sym (ap checkedBack (refused-is (got N f setting) x (g .answer))); bytes = g .bytes }
 
-  module _ (n : ℕ) (g : Got got setting (Read n) setting′) where
+  module _ {n : ℕ} (g : SheetRead N f setting (Read n) setting′) where
     abbrev s : List ℕ
-    s = settingRead got
+    s = settingRead (got N f setting)
 
-    is : got ≡ sheetSays s
-    is = counted got n (g .answer) .0
+    is : got N f setting ≡ sheetSays s
+    is = counted (got N f setting) n (g .answer) .0
 
     size-read : n ≡ length s
-    size-read = counted got n (g .answer) .1
+    size-read = counted (got N f setting) n (g .answer) .1
 
     sheet-is : readSheet N f ≡ sheetSays s
     sheet-is = room-kept (length setting) (readSheet N f) s is
@@ -132,15 +135,15 @@ module _ (N : Network) (f setting setting′ : List ℕ) where
     plan-fault : planFault N s ≡ none
     plan-fault = rw (was-read N f s sheet-is .is-plan)
 
-    pub trip-written :
-        areBytes f ≡ true → (out : List ℕ) (r : WriteAnswer) (out′ : List ℕ)
-        → Wrote (sheetFault N (take n setting′) (length out)) (sheetOf N (take n setting′)) out r out′ → SheetReadWrite N f setting out r setting′ out′
-    trip-written b out r out′ p =
+    pub sheet-written-again :
+        {out : List ℕ} {r : WriteAnswer} {out′ : List ℕ} → areBytes f ≡ true → SheetWritten N (take n setting′) out r out′
+        → SheetReadWrite N f setting out r setting′ out′
+    sheet-written-again {out} {r} {out′} b p =
         record {
           again =
               subst (λ x. Wrote (sheetAgain x f (length out)) f out r out′) (sym is)
               (subst (λ h. WroteWhole h out r out′) (sym (write-read N f s b sheet-is))
-              (subst (λ o. Wrote o (sheetOf N s) out r out′) fault (subst (λ t. Wrote (sheetFault N t (length out)) (sheetOf N t) out r out′) front p)));
+              (subst (λ o. Wrote o (sheetOf N s) out r out′) fault (subst (λ t. SheetWritten N t out r out′) front p)));
           bytes = g .bytes;
         }
       where
@@ -149,11 +152,11 @@ module _ (N : Network) (f setting setting′ : List ℕ) where
             ap (λ o. firstOf o (firstOf (planFault N s) (roomFor (sheetOf N s) (length out)))) (was-read N f s sheet-is .accepted)
             ∙ ap (λ o. firstOf o (roomFor (sheetOf N s) (length out))) plan-fault
 
-    pub trip-checked : (v : CheckAnswer) → v ≡ checkOf N (take n setting′) → SheetReadCheck N f setting v setting′
-    trip-checked v e =
+    pub sheet-checked : {v : CheckAnswer} → CheckCall N (take n setting′) v → SheetReadCheck N f setting v setting′
+    sheet-checked e =
         record {
           answer =
-              e
+              e .answer
               ∙ ap (checkOf N) front
               ∙ check-yes N s (was-read N f s sheet-is .accepted) (was-read N f s sheet-is .is-plan)
               ∙ sym (ap checkedBack is);
@@ -205,27 +208,17 @@ pub read-reply : (N : Network) → Accepted N → readSheet N (replySheet N) ≡
 unfolding replySheet
 read-reply N ok = read-outcome N ok (first-cases N ok)
 
-module _ (N : Network) (out setting out′ : List ℕ) where
-  pub trip-unreplied : (r : Refusal) → ReplyWritten N out (Unwritten r) out′ → ReplyWriteRead N out setting (Refused r) out′ setting
-  trip-unreplied r p =
-      record {
-        again =
-            got-refused setting r
-            (ap (λ o. unlessFault o (sheetWithRoom (length setting) (replyRead (firstAnswer N)))) (unwritten (replyFault N (length out)) (replySheet N) out out′ r p));
-        sheet = p .bytes;
-      }
+module _ (N : Network) {out out′ setting : List ℕ} where
+  pub reply-unwritten : {x : Refusal} → ReplyWritten N out (Unwritten x) out′ → ReplyWriteRead N out setting (Refused x) out′ setting
+  reply-unwritten p = record { again = unwritten-got N (replyFault N (length out)) (replySheet N) (replyRead (firstAnswer N)) p; sheet = p .bytes }
 
-  pub trip-replied :
-      (n : ℕ) → ReplyWritten N out (Written n) out′ → (r : SheetAnswer) (setting′ : List ℕ)
-      → Got (sheetWithRoom (length setting) (readSheet N (take n out′))) setting r setting′ → ReplyWriteRead N out setting r out′ setting′
-  trip-replied n p r setting′ g =
-      let sound : replyFault N (length out) ≡ none = written (replyFault N (length out)) (replySheet N) out out′ n p in
-      let same : readSheet N (take n out′) ≡ replyRead (firstAnswer N) =
-      ap (readSheet N) (written-front (replyFault N (length out)) (replySheet N) out out′ n p)
-      ∙ read-reply N (first-of-none (tableFault N) (roomFor (replySheet N) (length out)) sound) in
+  pub reply-read-again :
+      {n : ℕ} {r : SheetAnswer} {setting′ : List ℕ} → ReplyWritten N out (Written n) out′ → SheetRead N (take n out′) setting r setting′
+      → ReplyWriteRead N out setting r out′ setting′
+  reply-read-again p g =
       record {
         again =
-            subst (λ x. Got x setting r setting′)
-            (ap (sheetWithRoom (length setting)) same ∙ ap (λ o. unlessFault o (sheetWithRoom (length setting) (replyRead (firstAnswer N)))) (sym sound)) g;
+            written-got N (replyFault N (length out)) (replySheet N) (replyRead (firstAnswer N)) p
+            (λ sound. read-reply N (first-of-none (tableFault N) (roomFor (replySheet N) (length out)) sound)) g;
         sheet = p .bytes;
       }

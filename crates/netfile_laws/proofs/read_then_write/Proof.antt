@@ -8,7 +8,7 @@ use Rattle.netfile_format.specs.declared.ReadAnswer.{ReadAnswer}
 use Rattle.netfile_format.specs.declared.ReadAnswer.the-variants.{Read}
 use Rattle.netfile_format.specs.Answers.{NetworkRead}
 use Rattle.file_records.proofs.Records.{bytes-make}
-use Rattle.netfile_laws.proofs.RoundTrips.{trip-unread, trip-written}
+use Rattle.netfile_laws.proofs.RoundTrips.{rows-unread, rows-written-again}
 use Rattle.netfile_format.proofs.Calls.{rows-long}
 use borrow.Author.Needs.{needs}
 use Rattle.netfile_laws.proofs.read_then_write.Statement.{statement}
@@ -79,9 +79,7 @@ returns : tie.Need-returns
 returns c =
     let s = c .before .before .before .before .before .before .before .before .before .before .before .before .before .before .before .before .before .before .args in
     let k = c .before .before .before .before .before .before .before .before .before in
-    let rows = k .read-network .last .1 in
-    trip-unread (s .file .now) (s .kinds .now) (s .a .now) (s .b .now) (rows .0) (rows .1 .0) (rows .1 .1 .0) (s .out .now) _
-    (subst (Got k) (c .before .r .given .1) (k .read-network .ensures))
+    rows-unread (subst (Got k) (c .before .r .given .1) (k .read-network .ensures))
 
 same-length-4 : tie.Need-same-length-4
 same-length-4 c = search needs
@@ -98,11 +96,9 @@ same-length-7 c = search needs
 returns-2 : tie.Need-returns-2
 returns-2 c =
     let s = c .before .before .before .before .before .before .before .before .before .before .before .before .before .before .before .before .before .before .before .before .before .before .before .before .before .args in
-    let rows = c .before .before .before .before .before .before .before .before .before .before .before .before .before .before .before .before .read-network .last .1 in
-    let written = c .before .before .write-network in
-    trip-written (s .file .now) (s .kinds .now) (s .a .now) (s .b .now) (rows .0) (rows .1 .0) (rows .1 .1 .0) _ _ (was-read (c .before .before .before .before .before .before .before .before))
+    rows-written-again
     (bytes-make (s .file .now) (λ i. c .before .before .before .before .before .before .before .before .before .before .before .before .before .before .before .before .before .before .before .before .before .before .before .before .shared-slice-known .given i .fits))
-    (s .out .now) (written .result) (written .last .1 .1 .1 .1 .0) (written .ensures)
+    (was-read (c .before .before .before .before .before .before .before .before)) (c .before .before .write-network .ensures)
 
 pub read-then-write-spec : {M : Type 1} → statement M
 read-then-write-spec =

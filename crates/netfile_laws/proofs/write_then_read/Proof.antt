@@ -9,7 +9,8 @@ use Rattle.file_records.specs.declared.WriteAnswer.the-variants.{Written}
 use Rattle.network.specs.Networks.{Network}
 use Rattle.tables.specs.Rows.{netOf}
 use Rattle.netfile_format.specs.Answers.{NetworkWritten}
-use Rattle.netfile_laws.proofs.RoundTrips.{trip-refused, trip-fits, trip-read}
+use Rattle.file_records.proofs.Puts.{written-fits}
+use Rattle.netfile_laws.proofs.RoundTrips.{rows-unwritten, rows-read-again}
 use borrow.Author.Needs.{needs}
 use Rattle.netfile_laws.proofs.write_then_read.Statement.{statement}
 use Rattle.netfile_laws.proofs.write_then_read.Tie as tie
@@ -28,10 +29,7 @@ wrote c = subst (Wrote (c .before .before .before .before)) (c .n .given .1) (c 
 
 -- the buffer is as long as that
 fits : (c : tie.After-known-told2) → c .before .n .given .0 .0 ≤ length (c .before .before .before .before .before .write-network .last .1 .1 .1 .1 .0)
-fits c =
-    let s = c .before .before .before .before .before .before .before .before .before .before .before .before .before .before in
-    trip-fits (net s) (s .args .out .now) (s .args .kinds2 .now) (s .args .a2 .now) (s .args .b2 .now)
-    (c .before .before .before .before .before .write-network .last .1 .1 .1 .1 .0) _ (wrote (c .before))
+fits c = written-fits _ _ _ _ _ (wrote (c .before))
 
 write-network-requires : tie.Need-write-network-requires
 write-network-requires c κs = search needs
@@ -58,8 +56,7 @@ returns : tie.Need-returns
 returns c =
     let s = c .before .before .before .before .before .before .before .before .before .before .before .before .before .before in
     let k = c .before .before .before .before .before in
-    trip-refused (net s) (s .args .out .now) (s .args .kinds2 .now) (s .args .a2 .now) (s .args .b2 .now) (k .write-network .last .1 .1 .1 .1 .0) _
-    (subst (Wrote k) (c .before .r .given .1) (k .write-network .ensures))
+    rows-unwritten (net s) (subst (Wrote k) (c .before .r .given .1) (k .write-network .ensures))
 
 same-length-2 : tie.Need-same-length-2
 same-length-2 c = search needs
@@ -76,10 +73,7 @@ same-length-5 c = search needs
 returns-2 : tie.Need-returns-2
 returns-2 c =
     let s = c .before .before .before .before .before .before .before .before .before .before .before .before .before .before .before .before .before .before .before .before .before .before .before .before .before in
-    let again = c .before .before .before .before .before .before .read-network in
-    let rows = again .last .1 in
-    trip-read (net s) (s .args .out .now) (s .args .kinds2 .now) (s .args .a2 .now) (s .args .b2 .now)
-    (c .before .before .before .before .before .before .before .before .before .before .before .before .before .before .before .before .write-network .last .1 .1 .1 .1 .0) _ (wrote (c .before .before .before .before .before .before .before .before .before .before .before .before)) (again .result) (rows .0) (rows .1 .0) (rows .1 .1 .0) (again .ensures)
+    rows-read-again (net s) (wrote (c .before .before .before .before .before .before .before .before .before .before .before .before)) (c .before .before .before .before .before .before .read-network .ensures)
 
 pub write-then-read-spec : {M : Type 1} → statement M
 write-then-read-spec =

@@ -1,7 +1,7 @@
--- `planner_laws::next_of_two` meets its contract, which is demand 3: it follows from what next promises, and from nothing else of it.
+-- `planner_laws::next_of_two` meets its contract: demand 3 follows from what next promises, and from nothing else of it.
 -- Assumes nothing.
 use Rattle.tables.specs.Rows.{netOf}
-use Rattle.planner_laws.proofs.Demands.{next-read, demand-three}
+use Rattle.planner_laws.proofs.Demands.{next-of-two}
 use borrow.Author.Needs.{needs}
 use Rattle.planner_laws.proofs.next_of_two.Statement.{statement}
 use Rattle.planner_laws.proofs.next_of_two.Tie as tie
@@ -25,11 +25,9 @@ same-length-4 : tie.Need-same-length-4
 same-length-4 c = search needs
 
 returns : tie.Need-returns
-returns c = let s = (c .before .before .before .before .before .before .before .before .before .before .before .before .before .before .before .before .before .before .before .before .before .before .before) in
-    λ asked-s asked-t.
-    demand-three (netOf (s .args .basins) (s .args .kinds .now) (s .args .a .now) (s .args .b .now)) (s .args .s .now) (s .args .t .now) (asked-s .accepted) (asked-s .fits) (asked-t .fits)
-    (next-read (netOf (s .args .basins) (s .args .kinds .now) (s .args .a .now) (s .args .b .now)) (s .args .s .now) (s .args .plan1 .now) (s .args .marks1 .now) asked-s ((c .before .before .before .before .before .before .before .before .before .before .before) .next-plan .ensures))
-    (next-read (netOf (s .args .basins) (s .args .kinds .now) (s .args .a .now) (s .args .b .now)) (s .args .t .now) (s .args .plan2 .now) (s .args .marks2 .now) asked-t ((c .before .before .before .before) .next-plan2 .ensures))
+returns c =
+    let s = c .before .before .before .before .before .before .before .before .before .before .before .before .before .before .before .before .before .before .before .before .before .before .before .args in
+    next-of-two (netOf (s .basins) (s .kinds .now) (s .a .now) (s .b .now)) (s .s .now) (s .t .now) (c .before .before .before .before .before .before .before .before .before .before .before .next-plan .ensures) (c .before .before .before .before .next-plan2 .ensures)
 
 pub next-of-two-spec : {M : Type 1} → statement M
 next-of-two-spec =

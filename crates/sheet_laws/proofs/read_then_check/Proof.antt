@@ -8,7 +8,7 @@ use Rattle.tables.specs.Rows.{netOf}
 use Rattle.sheet_format.specs.declared.SheetAnswer.{SheetAnswer}
 use Rattle.sheet_format.specs.declared.SheetAnswer.the-variants.{Read}
 use Rattle.sheet_format.specs.Answers.{SheetRead}
-use Rattle.sheet_laws.proofs.RoundTrips.{read-fits, trip-unchecked, trip-checked}
+use Rattle.sheet_laws.proofs.RoundTrips.{read-fits, sheet-unchecked, sheet-checked}
 use Rattle.sheet_laws.proofs.read_then_check.Statement.{statement}
 use Rattle.sheet_laws.proofs.read_then_check.Tie as tie
 
@@ -37,14 +37,12 @@ enum-known-n c = search needs
 slice-reshare-prefix-check : tie.Need-slice-reshare-prefix-check
 slice-reshare-prefix-check c =
     let s = c .before .before .before .before .before .before .before .before .before .before .before .before in
-    read-fits (net s) (s .args .sheet .now) (s .args .setting .now) (c .before .before .before .before .before .read-sheet .last .1 .1 .1 .1 .1 .0) _ (was-read (c .before))
+    read-fits (net s) (s .args .sheet .now) (was-read (c .before))
 
 slice-aggregate-check : tie.Need-slice-aggregate-check
 slice-aggregate-check c =
     let s = c .before .before .before .before .before .before .before .before .before .before .before .before .before in
-    sym
-    (length-take-le _ _
-    (read-fits (net s) (s .args .sheet .now) (s .args .setting .now) (c .before .before .before .before .before .before .read-sheet .last .1 .1 .1 .1 .1 .0) _ (was-read (c .before .before))))
+    sym (length-take-le _ _ (read-fits (net s) (s .args .sheet .now) (was-read (c .before .before))))
 
 check-requires : tie.Need-check-requires
 check-requires c κs = search needs
@@ -56,8 +54,7 @@ returns : tie.Need-returns
 returns c =
     let s = c .before .before .before .before .before .before .before .before .before .before .before .before in
     let k = c .before .before .before .before .before in
-    trip-unchecked (net s) (s .args .sheet .now) (s .args .setting .now) (k .read-sheet .last .1 .1 .1 .1 .1 .0) _
-    (subst (GotAs k) (c .before .r .given .1) (k .read-sheet .ensures))
+    sheet-unchecked (net s) (s .args .sheet .now) (subst (GotAs k) (c .before .r .given .1) (k .read-sheet .ensures))
 
 same-length-2 : tie.Need-same-length-2
 same-length-2 c = search needs
@@ -65,7 +62,7 @@ same-length-2 c = search needs
 returns-2 : tie.Need-returns-2
 returns-2 c =
     let s = c .before .before .before .before .before .before .before .before .before .before .before .before .before .before in
-    trip-checked (net s) (s .args .sheet .now) (s .args .setting .now) (c .before .before .before .before .before .before .before .read-sheet .last .1 .1 .1 .1 .1 .0) _ (was-read (c .before .before .before)) (c .check .result) (c .check .ensures .answer)
+    sheet-checked (net s) (s .args .sheet .now) (was-read (c .before .before .before)) (c .check .ensures)
 
 pub read-then-check-spec : {M : Type 1} → statement M
 read-then-check-spec =

@@ -9,7 +9,7 @@ use Rattle.file_records.proofs.Records.{bytes-make}
 use Rattle.sheet_format.specs.declared.SheetAnswer.{SheetAnswer}
 use Rattle.sheet_format.specs.declared.SheetAnswer.the-variants.{Read}
 use Rattle.sheet_format.specs.Answers.{SheetRead}
-use Rattle.sheet_laws.proofs.RoundTrips.{read-fits, trip-unread, trip-written}
+use Rattle.sheet_laws.proofs.RoundTrips.{read-fits, sheet-unread, sheet-written-again}
 use Rattle.sheet_laws.proofs.read_then_write.Statement.{statement}
 use Rattle.sheet_laws.proofs.read_then_write.Tie as tie
 
@@ -38,14 +38,12 @@ enum-known-n c = search needs
 slice-reshare-prefix-write-sheet : tie.Need-slice-reshare-prefix-write-sheet
 slice-reshare-prefix-write-sheet c =
     let s = c .before .before .before .before .before .before .before .before .before .before .before .before .before in
-    read-fits (net s) (s .args .sheet .now) (s .args .setting .now) (c .before .before .before .before .before .read-sheet .last .1 .1 .1 .1 .1 .0) _ (was-read (c .before))
+    read-fits (net s) (s .args .sheet .now) (was-read (c .before))
 
 slice-aggregate-write-sheet : tie.Need-slice-aggregate-write-sheet
 slice-aggregate-write-sheet c =
     let s = c .before .before .before .before .before .before .before .before .before .before .before .before .before .before in
-    sym
-    (length-take-le _ _
-    (read-fits (net s) (s .args .sheet .now) (s .args .setting .now) (c .before .before .before .before .before .before .read-sheet .last .1 .1 .1 .1 .1 .0) _ (was-read (c .before .before))))
+    sym (length-take-le _ _ (read-fits (net s) (s .args .sheet .now) (was-read (c .before .before))))
 
 write-sheet-requires : tie.Need-write-sheet-requires
 write-sheet-requires c κs = search needs
@@ -57,8 +55,7 @@ returns : tie.Need-returns
 returns c =
     let s = c .before .before .before .before .before .before .before .before .before .before .before .before .before in
     let k = c .before .before .before .before .before in
-    trip-unread (net s) (s .args .sheet .now) (s .args .setting .now) (k .read-sheet .last .1 .1 .1 .1 .1 .0) (s .args .out .now) _
-    (subst (GotAs k) (c .before .r .given .1) (k .read-sheet .ensures))
+    sheet-unread (net s) (s .args .sheet .now) (subst (GotAs k) (c .before .r .given .1) (k .read-sheet .ensures))
 
 same-length-2 : tie.Need-same-length-2
 same-length-2 c = search needs
@@ -69,9 +66,8 @@ same-length-3 c = search needs
 returns-2 : tie.Need-returns-2
 returns-2 c =
     let s = c .before .before .before .before .before .before .before .before .before .before .before .before .before .before .before .before .before .before in
-    let wrote = c .before .before .write-sheet in
-    trip-written (net s) (s .args .sheet .now) (s .args .setting .now) (c .before .before .before .before .before .before .before .before .before .before .read-sheet .last .1 .1 .1 .1 .1 .0) _ (was-read (c .before .before .before .before .before .before))
-    (bytes-make (s .args .sheet .now) (λ i. c .before .before .before .before .before .before .before .before .before .before .before .before .before .before .shared-slice-known4 .given i .fits)) (s .args .out .now) (wrote .result) (wrote .last .1 .1 .1 .1 .1 .0) (wrote .ensures)
+    sheet-written-again (net s) (s .args .sheet .now) (was-read (c .before .before .before .before .before .before))
+    (bytes-make (s .args .sheet .now) (λ i. c .before .before .before .before .before .before .before .before .before .before .before .before .before .before .shared-slice-known4 .given i .fits)) (c .before .before .write-sheet .ensures)
 
 pub read-then-write-spec : {M : Type 1} → statement M
 read-then-write-spec =

@@ -9,7 +9,7 @@ use Rattle.file_records.specs.declared.WriteAnswer.{WriteAnswer}
 use Rattle.file_records.specs.declared.WriteAnswer.the-variants.{Written}
 use Rattle.sheet_format.specs.Answers.{ReplyWritten}
 use Rattle.file_records.proofs.Puts.{written-fits}
-use Rattle.sheet_laws.proofs.RoundTrips.{trip-unreplied, trip-replied}
+use Rattle.sheet_laws.proofs.RoundTrips.{reply-unwritten, reply-read-again}
 use Rattle.sheet_laws.proofs.reply_then_read.Statement.{statement}
 use Rattle.sheet_laws.proofs.reply_then_read.Tie as tie
 
@@ -51,8 +51,7 @@ returns : tie.Need-returns
 returns c =
     let s = c .before .before .before .before .before .before .before .before .before .before .before .before in
     let k = c .before .before .before .before .before in
-    trip-unreplied (net s) (s .args .out .now) (s .args .setting .now) (k .write-reply .last .1 .1 .1 .1 .0) _
-    (subst (Wrote k) (c .before .r .given .1) (k .write-reply .ensures))
+    reply-unwritten (net s) (subst (Wrote k) (c .before .r .given .1) (k .write-reply .ensures))
 
 same-length-2 : tie.Need-same-length-2
 same-length-2 c = search needs
@@ -63,9 +62,7 @@ same-length-3 c = search needs
 returns-2 : tie.Need-returns-2
 returns-2 c =
     let s = c .before .before .before .before .before .before .before .before .before .before .before .before .before .before .before .before .before in
-    let again = c .before .before .read-sheet in
-    trip-replied (net s) (s .args .out .now) (s .args .setting .now) (c .before .before .before .before .before .before .before .before .before .before .write-reply .last .1 .1 .1 .1 .0) _ (wrote (c .before .before .before .before .before .before))
-    (again .result) (again .last .1 .1 .1 .1 .1 .0) (again .ensures)
+    reply-read-again (net s) (wrote (c .before .before .before .before .before .before)) (c .before .before .read-sheet .ensures)
 
 pub reply-then-read-spec : {M : Type 1} → statement M
 reply-then-read-spec =

@@ -9,7 +9,7 @@ use Rattle.file_records.specs.declared.WriteAnswer.{WriteAnswer}
 use Rattle.file_records.specs.declared.WriteAnswer.the-variants.{Written}
 use Rattle.sheet_format.specs.Answers.{SheetWritten}
 use Rattle.file_records.proofs.Puts.{written-fits}
-use Rattle.sheet_laws.proofs.RoundTrips.{trip-refused, trip-read}
+use Rattle.sheet_laws.proofs.RoundTrips.{plan-unwritten, plan-read-again}
 use Rattle.sheet_laws.proofs.write_then_read.Statement.{statement}
 use Rattle.sheet_laws.proofs.write_then_read.Tie as tie
 
@@ -51,8 +51,7 @@ returns : tie.Need-returns
 returns c =
     let s = c .before .before .before .before .before .before .before .before .before .before .before .before .before in
     let k = c .before .before .before .before .before in
-    trip-refused (net s) (s .args .setting .now) (s .args .out .now) (s .args .again .now) (k .write-sheet .last .1 .1 .1 .1 .1 .0) _
-    (subst (Wrote k) (c .before .r .given .1) (k .write-sheet .ensures))
+    plan-unwritten (net s) (s .args .setting .now) (subst (Wrote k) (c .before .r .given .1) (k .write-sheet .ensures))
 
 same-length-2 : tie.Need-same-length-2
 same-length-2 c = search needs
@@ -63,9 +62,7 @@ same-length-3 c = search needs
 returns-2 : tie.Need-returns-2
 returns-2 c =
     let s = c .before .before .before .before .before .before .before .before .before .before .before .before .before .before .before .before .before .before in
-    let again = c .before .before .read-sheet in
-    trip-read (net s) (s .args .setting .now) (s .args .out .now) (s .args .again .now) (c .before .before .before .before .before .before .before .before .before .before .write-sheet .last .1 .1 .1 .1 .1 .0) _ (wrote (c .before .before .before .before .before .before))
-    (again .result) (again .last .1 .1 .1 .1 .1 .0) (again .ensures)
+    plan-read-again (net s) (s .args .setting .now) (wrote (c .before .before .before .before .before .before)) (c .before .before .read-sheet .ensures)
 
 pub write-then-read-spec : {M : Type 1} → statement M
 write-then-read-spec =
