@@ -57,7 +57,7 @@ pub record DemandThree (N : Network) (s t : List ℕ) (o o′ : Outcome) : Type 
   pub first-shown : NextShown N s o
   pub second-shown : NextShown N t o′
 
--- Demand 3 over two calls of next, with buffers of their own that held anything: what their callers read.
+-- Demand 3 over two calls of next, or two steps of walkers, with buffers of their own that held anything: what their callers read.
 abbrev pub DemandOver : Network → List ℕ → List ℕ → List ℕ → List ℕ → List ℕ → List ℕ → List ℕ → List ℕ → List ℕ → List ℕ → Answer → Answer → Type 0
 DemandOver N s t plan₁ marks₁ plan₂ marks₂ plan₁′ marks₁′ plan₂′ marks₂′ r₁ r₂ =
     Asked N s plan₁ marks₁ → Asked N t plan₂ marks₂ → DemandThree N s t (readReply N r₁ plan₁′ marks₁′) (readReply N r₂ plan₂′ marks₂′)
@@ -68,8 +68,8 @@ pub record NextOfTwo (N : Network) (s t plan₁ marks₁ plan₂ marks₂ plan�
   pub second-call : NextCall N t plan₂ marks₂ r₂ plan₂′ marks₂′
   pub demand : DemandOver N s t plan₁ marks₁ plan₂ marks₂ plan₁′ marks₁′ plan₂′ marks₂′ r₁ r₂
 
--- What a step with the reply o does to the walker w: "a given plan becomes the setting of the walker after it", and is the next plan of the setting before;
--- the bytes past the gated reaches "neither count nor change"; where no plan is given, w′ "is the same walker".
+-- What a step with the reply o does to the walker w: "a given plan becomes the setting of the walker after it", and is the next plan of the setting before it;
+-- the bytes past the gated reaches "neither count nor change"; "after a refusal that is the same walker", and so wherever no plan is given.
 pub record Walked (N : Network) (w : List ℕ) (o : Outcome) (w′ : List ℕ) : Type 0 where
   pub is-setting : (p : List ℕ) → o ≡ plan p → settingIn N w′ ≡ p
   pub is-next : (p : List ℕ) → o ≡ plan p → nextPlan N (settingIn N w) ≡ some p
