@@ -13,7 +13,7 @@ pub struct Both {
 }
 
 // Asks next of two settings, each with lent buffers of its own: what the two calls promise, and demand 3.
-pub fn next_of_two(
+pub fn next_of_two_rows(
     basins: u16,
     kinds: &[u8],
     a: &[u16],
@@ -36,7 +36,7 @@ pub fn next_of_two(
 }
 
 // The same over a lent table. The borrow checker does not cover a slice of structs, so this is proved by a walk of its code, by hand.
-pub fn next_of_two_records(
+pub fn next_of_two(
     basins: u16,
     table: &[Reach],
     s: &[u8],
