@@ -8,7 +8,7 @@ use lib.ListN.{length, take}
 use lib.Seq.{length-take-le}
 use borrow.Author.Needs.{needs}
 use Rattle.network.specs.Networks.{maxReaches}
-use Rattle.listing.specs.Priming.{Spare}
+use Rattle.priming.specs.Priming.{Spare}
 use Rattle.listing_state.proofs.Sizes.{lister-size}
 use Rattle.listing.proofs.Steps.{primed-kept}
 use Rattle.listing.proofs.fill_in.Statement.{statement}
