@@ -59,10 +59,10 @@ fn line_after(
     b: &[u16],
     under: &mut [u8],
     ways: &mut [u8],
-    head: &[u16],
-    next: &[u16],
-    seen: &mut [u8],
-    queue: &mut [u16],
+    head: &[u16; MAX_BASINS],
+    next: &[u16; HALF_EDGES],
+    seen: &mut [u8; MAX_BASINS],
+    queue: &mut [u16; MAX_BASINS],
 ) -> Lister
     requires { ⌜ g ≡ gatesHeld (stateNet l (now kinds) (now a) (now b)) ⌝ }
     requires { ⌜ Kept (l .basins) (now kinds) (now a) (now b) (Due.Plan left) (take g (l .setting)) (now under) (now ways) (now head) (now next)
@@ -102,10 +102,10 @@ fn turned(
     b: &[u16],
     under: &mut [u8],
     ways: &mut [u8],
-    head: &[u16],
-    next: &[u16],
-    seen: &mut [u8],
-    queue: &mut [u16],
+    head: &[u16; MAX_BASINS],
+    next: &[u16; HALF_EDGES],
+    seen: &mut [u8; MAX_BASINS],
+    queue: &mut [u16; MAX_BASINS],
 ) -> Lister
     requires { ⌜ g ≡ gatesHeld (stateNet l (now kinds) (now a) (now b)) ⌝ }
     requires { ⌜ Kept (l .basins) (now kinds) (now a) (now b) (l .due) (take g (l .setting)) (now under) (now ways) (now head) (now next)
@@ -152,10 +152,10 @@ fn print_lines(
     out: &mut [u8],
     under: &mut [u8],
     ways: &mut [u8],
-    head: &[u16],
-    next: &[u16],
-    seen: &mut [u8],
-    queue: &mut [u16],
+    head: &[u16; MAX_BASINS],
+    next: &[u16; HALF_EDGES],
+    seen: &mut [u8; MAX_BASINS],
+    queue: &mut [u16; MAX_BASINS],
 ) -> Filled
     requires { ⌜ g ≡ gatesHeld (stateNet l (now kinds) (now a) (now b)) ⌝ }
     requires { ⌜ Kept (l .basins) (now kinds) (now a) (now b) (l .due) (take g (l .setting)) (now under) (now ways) (now head) (now next)
@@ -204,10 +204,10 @@ fn fill_in(
     out: &mut [u8],
     under: &mut [u8],
     ways: &mut [u8],
-    head: &mut [u16],
-    next: &mut [u16],
-    seen: &mut [u8],
-    queue: &mut [u16],
+    head: &mut [u16; MAX_BASINS],
+    next: &mut [u16; HALF_EDGES],
+    seen: &mut [u8; MAX_BASINS],
+    queue: &mut [u16; MAX_BASINS],
 ) -> Filled
     requires { ⌜ Space (now ways) (now head) (now next) (now seen) (now queue) ⌝ }
     requires { ⌜ length (now under) ≡ maxReaches ⌝ }

@@ -2,14 +2,13 @@
 -- Assumes nothing.
 use native.Mathlib.Omega.{arith}
 use mathlib.Core.Path.{sym}
-use borrow.Author.Needs.{needs}
 use Rattle.listing_state.proofs.Sizes.{lister-size}
 use Rattle.line_steps.proofs.Steps.{after-last, after-next}
 use Rattle.line_steps.proofs.after_step.Statement.{statement}
 use Rattle.line_steps.proofs.after_step.Tie as tie
 
 returns : tie.Need-returns
-returns c = let s = c .before .before .before .before .args in after-last (s .kinds .now) (s .ways .now) (s .r) (s .l) (s .left) (s .g) (c .if1 .taken)
+returns c = let s = c .before .before .before .before .args in after-last (s .kinds .now) (s .ways .now) (s .r) (s .l) (s .left) (s .g) (omega (arith, c .if1 .taken))
 
 slice-aggregate-rewrite : tie.Need-slice-aggregate-rewrite
 slice-aggregate-rewrite c = let s = c .before .before .before .before .before in sym (lister-size (s .args .l) (s .good .0))

@@ -15,19 +15,19 @@ cast-advance : tie.Need-cast-advance
 cast-advance c = search needs
 
 array-share-prefix-setting : tie.Need-array-share-prefix-setting
-array-share-prefix-setting c = let s = c .before .before .before .before .before .before .before .before .before .before .before in omega (arith, s .pre .0, lister-size (s .args .l) (s .good .0))
+array-share-prefix-setting c = let s = c .before .before .before .before .before .before .before in omega (arith, s .pre .0, lister-size (s .args .l) (s .good .0))
 
 slice-aggregate-advance : tie.Need-slice-aggregate-advance
-slice-aggregate-advance c = let s = c .before .before .before .before .before .before .before .before .before .before .before .before in sym (length-take-le _ (s .args .l .setting) (omega (arith, s .pre .0, lister-size (s .args .l) (s .good .0))))
+slice-aggregate-advance c = let s = c .before .before .before .before .before .before .before .before in sym (length-take-le _ (s .args .l .setting) (omega (arith, s .pre .0, lister-size (s .args .l) (s .good .0))))
 
 advance-requires : tie.Need-advance-requires
-advance-requires c κs = let k = known (c .before .before .before .before .before .before .before .before .before .before .before .before .before .before .before .before .pre .1) (c .before .before .before .before .before .before .if1 .taken) in (k .ready, (k .stands, k .spare))
+advance-requires c κs = let k = known (c .before .before .before .before .before .before .before .before .before .before .before .before .before .before .pre .1) (c .before .before .before .before .before .before .before .before .if1 .taken) in (k .ready, (k .stands, k .spare))
 
 after-step-requires : tie.Need-after-step-requires
 after-step-requires c κs =
-    let s = c .before .before .before .before .before .before .before .before .before .before .before .before .before .before .before .before .before .before .before .before .before .before .before .before .before .before in
-    let k = known (s .pre .1) (c .before .before .before .before .before .before .before .before .before .before .before .before .before .before .before .before .if1 .taken) in
-    let t = c .before .before .before .before .before .before .before .before .before .advance in (
+    let s = c .before .before .before .before .before .before .before .before .before .before .before .before .before .before .before .before .before .before .before .before in
+    let k = known (s .pre .1) (c .before .before .before .before .before .before .before .before .before .before .before .before .before .before .if1 .taken) in
+    let t = c .before .before .before .before .before .advance in (
       t .kept .1 .1 .1 .1 .1 .1 .0 ∙ k .ready .ways-full ∙ k .stands .level .ends-a,
       (
         gates-held (s .args .l) (s .args .kinds .now) (s .args .a .now) (s .args .b .now) (s .args .ways .now) (s .args .left) (s .args .g) (s .pre .0) (k .stands),
@@ -44,18 +44,12 @@ same-length c = search needs
 same-length-2 : tie.Need-same-length-2
 same-length-2 c = search needs
 
-same-length-3 : tie.Need-same-length-3
-same-length-3 c = search needs
-
-same-length-4 : tie.Need-same-length-4
-same-length-4 c = search needs
-
 returns : tie.Need-returns
 returns c =
-    let s = c .before .before .before .before .before .before .before .before .before .before .before .before .before .before .before .before .before .before .before .before .before .before .before .before .before .before .before in
-    let taken = c .before .before .before .before .before .before .before .before .before .before .before .before .before .before .before .before .before .if1 .taken in
+    let s = c .before .before .before .before .before .before .before .before .before .before .before .before .before .before .before .before .before .before .before .before .before in
+    let taken = c .before .before .before .before .before .before .before .before .before .before .before .before .before .before .before .if1 .taken in
     let k = known (s .pre .1) taken in
-    let t = c .before .before .before .before .before .before .before .before .before .before .advance in
+    let t = c .before .before .before .before .before .before .advance in
     let l = t .kept in (
       step-line (s .args .l) (s .args .kinds .now) (s .args .a .now) (s .args .b .now) (s .args .ways .now) (s .args .left) (s .args .g) (s .pre .0) (k .stands) (t .ensures) (c .after-step .ensures),
       kept taken (ready-notes _ _ (ready-ways _ (k .ready) (l .1 .1 .1 .1 .1 .1 .0)) (l .1 .1 .1 .1 .1 .1 .1 .1 .1 .0) (l .1 .1 .1 .1 .1 .1 .1 .1 .1 .1 .0))
@@ -64,10 +58,10 @@ returns c =
     )
 
 asked-requires : tie.Need-asked-requires
-asked-requires c κs = c .before .before .before .before .before .before .before .before .before .before .pre .0
+asked-requires c κs = c .before .before .before .before .before .before .pre .0
 
 returns-2 : tie.Need-returns-2
 returns-2 c = (c .asked .ensures, unknown (c .before .if1 .left))
 
 pub line-after-spec : {M : Type 1} → statement M
-line-after-spec = tie.close (tie.spec cast-advance array-share-prefix-setting slice-aggregate-advance advance-requires after-step-requires same-length same-length-2 same-length-3 same-length-4 returns asked-requires returns-2)
+line-after-spec = tie.close (tie.spec cast-advance array-share-prefix-setting slice-aggregate-advance advance-requires after-step-requires same-length same-length-2 returns asked-requires returns-2)
