@@ -73,13 +73,11 @@ fn line_after(
 {
     if standing {
         let basins = l.basins;
-        let setting = l.setting;
         let r = stepping::advance(
             basins as usize,
             kinds,
             a,
             b,
-            &setting[..g],
             under,
             ways,
             head,
