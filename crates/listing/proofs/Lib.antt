@@ -3,4 +3,3 @@ pub mod Turns
 pub mod Fills
 pub mod Printed
 pub mod Steps
-pub mod Priming

@@ -1,8 +1,9 @@
 -- The state after the line of a plan, from a step in working memory that stands at it.
 -- Assumes nothing.
-use Prim.Native.Nat.{ℕ, zero, suc, _≤_, _<_}
+use Prim.Native.Nat.{ℕ, zero, suc, _≤_}
 use native.Mathlib.Omega.{arith}
 use mathlib.Core.Path.{_≡_, refl, sym, ap, subst, subst⁻¹, _∙_}
+use mathlib.Core.Logic.{⊎-elim}
 use mathlib.Core.Bool.{Bool, true, false, true≢false}
 use mathlib.Core.List.{List, _++_}
 use lib.ListN.{length, take, drop}
@@ -13,7 +14,7 @@ use Rattle.network.specs.Settings.{settingFault}
 use Rattle.network.specs.Plans.{isPlan}
 use Rattle.network.specs.Marks.{markBytes}
 use Rattle.network.specs.Replies.{Outcome, plan, refused, nextAnswer, nextReply}
-use Rattle.lists.proofs.Bools.{clash}
+use Rattle.lists.proofs.Bools.{decide, clash}
 use Rattle.network.proofs.Networks.{accepted, gates-fit}
 use Rattle.network.proofs.Order.{setting-length, plan-setting}
 use Rattle.tables.specs.Rows.{netOf, gatesIn, waysRow, bytesRow, gatesHeld}
@@ -21,9 +22,9 @@ use Rattle.tables.proofs.Laws.{row-gates}
 use Rattle.orienting.specs.Ready.{Ready}
 use Rattle.seeking.specs.Seeks.{AtPlan}
 use Rattle.stepping.specs.Advances.{gatesBefore, PartsAt, Advanced, moved, at-last}
-use Rattle.listing.specs.Priming.{Spare, Primed, elsewhere, at-plan}
+use Rattle.priming.specs.Priming.{Spare, Primed}
 use Rattle.stepping.proofs.Rewrites.{gates-split}
-use Rattle.listing.proofs.Priming.{spare-ready}
+use Rattle.priming.proofs.Priming.{spare-ready}
 use Rattle.lines.specs.declared.Due.{Due}
 use Rattle.lines.specs.declared.Due.the-variants as D
 use Rattle.listing_state.specs.declared.Lister.{Lister}
@@ -32,6 +33,8 @@ use Rattle.lines.specs.Dues.{planDue}
 use Rattle.listing_state.specs.Pending.{pendingOf, stateNet}
 use Rattle.listing_state.specs.Parts.{LineAfter}
 use Rattle.listing.specs.Keeping.{Standing, Kept, unknown, kept}
+use Rattle.line_steps.specs.Steps.{afterStep, FrontStands}
+use Rattle.line_steps.proofs.Steps.{after-last, after-next}
 use Rattle.listing_state.proofs.States.{GivenPlan, roomy, plan-held, reply-pending}
 
 module _ (l : Lister) (ks xs ys ws : List ℕ) (left g : ℕ) (held : g ≡ gatesHeld (stateNet l ks xs ys)) (p : AtPlan (l .basins) ks xs ys (take g (l .setting)) ws) where
@@ -52,7 +55,7 @@ module _ (l : Lister) (ks xs ys ws : List ℕ) (left g : ℕ) (held : g ≡ gate
   gates-room = omega (arith, held)
 
   -- the bytes before the gate at which the next plan parts stand in the state
-  pub front-stands : {q : List ℕ} {r : ℕ} → PartsAt ks s q r → take (gatesBefore ks r) (l .setting) ≡ take (gatesBefore ks r) q
+  front-stands : {q : List ℕ} {r : ℕ} → PartsAt ks s q r → take (gatesBefore ks r) (l .setting) ≡ take (gatesBefore ks r) q
   front-stands {q} {r} d = sym (d .same ∙ take-take (gatesBefore ks r) g (l .setting) (omega (arith, gates-held, gates-split ks r)))
 
   -- the reply of next, with room enough
@@ -72,7 +75,7 @@ module _ (l : Lister) (ks xs ys ws : List ℕ) (left g : ℕ) (held : g ≡ gate
   abbrev ended : Lister
   ended = record { basins = l .basins; due = D.End; at = 0; setting = l .setting }
 
-  pub step-last : nextAnswer N s ≡ refused LastPlan → LineAfter N l left ended
+  step-last : nextAnswer N s ≡ refused LastPlan → LineAfter N l left ended
   step-last e = lines-after ended e refl refl (reply-pending N (l .setting) (refused LastPlan) (λ q f. absurd (true≢false cc)) left ended refl refl refl)
 
   module _ {ws′ bytes : List ℕ} {d : Due} (due : d ≡ planDue left) (e : nextAnswer N s ≡ plan (bytesRow ks ws′)) (is : isPlan N (bytesRow ks ws′) ≡ true) (oriented : ws′ ≡ waysRow ks (bytesRow ks ws′))
@@ -86,7 +89,7 @@ module _ (l : Lister) (ks xs ys ws : List ℕ) (left g : ℕ) (held : g ≡ gate
     abbrev after : Lister
     after = record { basins = l .basins; due = d; at = 0; setting = bytes }
 
-    pub step-next : LineAfter N l left after
+    step-next : LineAfter N l left after
     step-next =
         lines-after after e refl refl
         (reply-pending N (l .setting) (plan q) (λ t f. record { table = p .level .accepted; is-plan = subst (λ (v : List ℕ). isPlan N v ≡ true) (plan-one f) is }) left after due refl
@@ -98,28 +101,36 @@ module _ (l : Lister) (ks xs ys ws : List ℕ) (left g : ℕ) (held : g ≡ gate
     in-hand : take g bytes ≡ q
     in-hand = ap (take g) put ∙ ap (λ (k : ℕ). take k (q ++ drop g (l .setting))) held ∙ plan-held N q given (drop g (l .setting))
 
-    pub step-stands : Standing (l .basins) ks xs ys d (take g bytes) ws′
-    step-stands = subst⁻¹ (λ (x : Due). Standing (l .basins) ks xs ys x (take g bytes) ws′) due (stands left)
+    next-stands : Standing (l .basins) ks xs ys d (take g bytes) ws′
+    next-stands = subst⁻¹ (λ (x : Due). Standing (l .basins) ks xs ys x (take g bytes) ws′) due (stands left)
       where
         stands : (k : ℕ) → Standing (l .basins) ks xs ys (planDue k) (take g bytes) ws′
         stands zero = tt
         stands (suc k) = subst⁻¹ (λ (v : List ℕ). AtPlan (l .basins) ks xs ys v ws′) in-hand (record { level = p .level; is-plan = is; oriented = oriented })
 
--- ---- what a step says
+  -- a step that was taken: the bytes before the next plan's gate stand, and the state after it
+  module _ {ws′ : List ℕ} {r : ℕ} (a : Advanced N ks s ws′ r) where
+    pub front : FrontStands ks ws′ r (l .setting)
+    front t = go a
+      where
+        go : Advanced N ks s ws′ r → take (gatesBefore ks r) (l .setting) ≡ take (gatesBefore ks r) (bytesRow ks ws′)
+        go (moved d e is oriented) = front-stands d
+        go (at-last y e) = absurd (omega arith)
 
-pub was-last : {N : Network} {ks s ws′ : List ℕ} {r : ℕ} → Advanced N ks s ws′ r → length ks ≤ r → nextAnswer N s ≡ refused LastPlan
-was-last (moved d e is oriented) n = absurd (omega (arith, d .below))
-was-last (at-last y e) n = e
+    module _ {o : Lister} (is : o ≡ afterStep ks ws′ r l left g) where
+      pub step-line : LineAfter N l left o
+      step-line = subst⁻¹ (LineAfter N l left) is (go a)
+        where
+          go : Advanced N ks s ws′ r → LineAfter N l left (afterStep ks ws′ r l left g)
+          go (moved d e p′ oriented) = subst (LineAfter N l left) (after-next ks ws′ r l left g (d .below) refl refl) (step-next refl e p′ oriented refl)
+          go (at-last y e) = subst (LineAfter N l left) (after-last ks ws′ r l left g (omega (arith, y))) (step-last e)
 
-pub record Next (N : Network) (ks s ws′ : List ℕ) (r : ℕ) : Type 0 where
-  pub parts : PartsAt ks s (bytesRow ks ws′) r
-  pub is-next : nextAnswer N s ≡ plan (bytesRow ks ws′)
-  pub is-plan : isPlan N (bytesRow ks ws′) ≡ true
-  pub oriented : ws′ ≡ waysRow ks (bytesRow ks ws′)
-
-pub was-next : {N : Network} {ks s ws′ : List ℕ} {r : ℕ} → Advanced N ks s ws′ r → r < length ks → Next N ks s ws′ r
-was-next (moved d e is oriented) t = record { parts = d; is-next = e; is-plan = is; oriented = oriented }
-was-next (at-last y e) t = absurd (omega arith)
+      pub step-stands : Standing (l .basins) ks xs ys (o .due) (take g (o .setting)) ws′
+      step-stands = subst⁻¹ (λ (x : Lister). Standing (l .basins) ks xs ys (x .due) (take g (x .setting)) ws′) is (go a)
+        where
+          go : Advanced N ks s ws′ r → Standing (l .basins) ks xs ys (afterStep ks ws′ r l left g .due) (take g (afterStep ks ws′ r l left g .setting)) ws′
+          go (moved d e p′ oriented) = subst (λ (x : Lister). Standing (l .basins) ks xs ys (x .due) (take g (x .setting)) ws′) (after-next ks ws′ r l left g (d .below) refl refl) (next-stands refl e p′ oriented refl)
+          go (at-last y e) = subst (λ (x : Lister). Standing (l .basins) ks xs ys (x .due) (take g (x .setting)) ws′) (after-last ks ws′ r l left g (omega (arith, y))) tt
 
 -- ---- working memory that is kept
 
@@ -136,12 +147,15 @@ known (kept y ready spare stands) t = record { ready = ready; spare = spare; sta
 -- working memory that was prepared
 pub primed-kept : {n : ℕ} {ks xs ys s us ws ws₀ head head₀ next next₀ seen queue : List ℕ} {r : Bool} (d : Due) → Spare ks ws₀ head₀ next₀ → length ws ≡ length ws₀ → length us ≡ length ws
     → length seen ≡ maxBasins → length queue ≡ maxBasins → Primed n ks xs ys s ws head next r → Kept n ks xs ys d s us ws head next seen queue r
-primed-kept d z e f seen-long queue-long (elsewhere y) = unknown y
-primed-kept {n} {ks} {xs} {ys} {s} {us} {ws} d z e f seen-long queue-long (at-plan y p ix) =
-    kept y (spare-ready (p .level) z e ix (omega (arith, seen-long, accepted (netOf n ks xs ys) (p .level .accepted) .few-basins)) (omega (arith, seen-long, queue-long))) f (stands d)
+primed-kept {n} {ks} {xs} {ys} {s} {us} {ws} {ws₀} {head} {head₀} {next} {next₀} {seen} {queue} {r} d z e f seen-long queue-long p = ⊎-elim stood unknown (decide r)
   where
-    stands : (c : Due) → Standing n ks xs ys c s ws
-    stands (D.Plan left) = p
-    stands D.More = tt
-    stands D.End = tt
-    stands (D.Refused k) = tt
+    stands : (c : Due) → AtPlan n ks xs ys s ws → Standing n ks xs ys c s ws
+    stands (D.Plan left) h = h
+    stands D.More h = tt
+    stands D.End h = tt
+    stands (D.Refused k) h = tt
+
+    stood : r ≡ true → Kept n ks xs ys d s us ws head next seen queue r
+    stood y =
+        let v = p .at-plan y .level in
+        kept y (spare-ready v z e (p .indexed y) (omega (arith, seen-long, accepted (netOf n ks xs ys) (v .accepted) .few-basins)) (omega (arith, seen-long, queue-long))) f (stands d (p .at-plan y))

@@ -4,88 +4,51 @@
 pub mod laws;
 
 use half_edges::HALF_EDGES;
+use line_steps::after_step;
+use line_steps::asked;
+use line_steps::plan_length;
 use lines::Due;
-use lines::due_plan;
+use lines::put_end;
+use lines::put_more;
+use lines::put_plan;
+use lines::put_refused;
 use listing_state::Filled;
 use listing_state::Lister;
-use listing_state::asked;
-use listing_state::plan_length;
-use listing_state::put_line;
 use network::MAX_BASINS;
 use network::MAX_REACHES;
-use replies::CheckAnswer;
+use priming::prime;
 use tables::gates_held;
 use tables::least;
 ghost use mathlib.Core.Path.{_≡_};
-ghost use lib.ListN.{length, take};
+ghost use Prim.Native.Nat.{_≤_};
+ghost use lib.ListN.{length, take, drop};
 ghost use Rattle.network.specs.Networks.{maxReaches};
-ghost use Rattle.orienting.specs.Ready.{Ready};
 ghost use Rattle.planning.specs.Rooms.{Space};
-ghost use Rattle.seeking.specs.Seeks.{AtPlan};
-ghost use Rattle.listing.specs.Keeping.{Standing, Kept};
-ghost use Rattle.listing.specs.Priming.{Spare, Primed};
-ghost use Rattle.listing_state.specs.Pending.{stateNet, Filling};
+ghost use Rattle.lines.specs.Puts.{Put};
+ghost use Rattle.listing.specs.Keeping.{Kept};
+ghost use Rattle.listing_state.specs.Pending.{lineOf, stateNet, Filling};
 ghost use Rattle.tables.specs.Rows.{gatesHeld};
 ghost use Rattle.listing_state.specs.Parts.{LineAfter, Turned};
 
-// The same in working memory that stands at the plan in hand, and then at the plan after it. The bytes before the gate at which that one parts stand.
-fn stepped(
-    l: Lister,
-    left: usize,
-    g: usize,
-    kinds: &[u8],
-    a: &[u16],
-    b: &[u16],
-    under: &mut [u8],
-    ways: &mut [u8],
-    head: &[u16],
-    next: &[u16],
-    seen: &mut [u8],
-    queue: &mut [u16],
-) -> Lister
-    requires { ⌜ g ≡ gatesHeld (stateNet l (now kinds) (now a) (now b)) ⌝ }
-    requires { ⌜ Ready (l .basins) (now a) (now b) (now ways) (now head) (now next) (now seen) (now queue) ⌝ }
-    requires { ⌜ AtPlan (l .basins) (now kinds) (now a) (now b) (take g (l .setting)) (now ways) ⌝ }
-    requires { ⌜ length (now under) ≡ length (now ways) ⌝ }
-    ensures { λ r. ⌜ LineAfter (stateNet l (now (kinds .entry)) (now (a .entry)) (now (b .entry))) l left r ⌝ }
-    ensures { λ r. ⌜ Standing (l .basins) (now (kinds .entry)) (now (a .entry)) (now (b .entry)) (r .due) (take g (r .setting)) (now (ways .exit)) ⌝ }
+// Puts what is left of a state's line, as much as the buffer holds. The plan in hand has g bytes.
+fn put_line(l: Lister, g: usize, out: &mut [u8]) -> usize
+    requires { ⌜ g ≤ maxReaches ⌝ }
+    ensures { λ r. ⌜ Put (drop (l .at) (lineOf (l .due) (take g (l .setting)))) (now (out .entry)) (now (out .exit)) r ⌝ }
 {
-    let basins = l.basins;
-    let setting = l.setting;
-    let n = basins as usize;
-    let r = stepping::advance(
-        n,
-        kinds,
-        a,
-        b,
-        &setting[..g],
-        under,
-        ways,
-        head,
-        next,
-        seen,
-        queue,
-    );
-    if r >= a.len() {
-        return Lister {
-            basins,
-            due: Due::End,
-            at: 0,
-            setting,
-        };
-    }
-    let mut plan = l.setting;
-    stepping::rewrite(kinds, ways, r, g, &mut plan);
-    let due = due_plan(left);
-    Lister {
-        basins,
-        due,
-        at: 0,
-        setting: plan,
+    let at = l.at;
+    let due = l.due;
+    match due {
+        Due::Plan(_) => {
+            let setting = l.setting;
+            put_plan(&setting[..g], at, out)
+        }
+        Due::More => put_more(at, out),
+        Due::End => put_end(at, out),
+        Due::Refused(n) => put_refused(n, at, out),
     }
 }
 
-// The one or the other: the second where the working memory stands at the plan in hand.
+// The state after the line of a plan: by a step where the working memory stands at the plan in hand, and else by asking.
 fn line_after(
     l: Lister,
     left: usize,
@@ -96,10 +59,10 @@ fn line_after(
     b: &[u16],
     under: &mut [u8],
     ways: &mut [u8],
-    head: &[u16],
-    next: &[u16],
-    seen: &mut [u8],
-    queue: &mut [u16],
+    head: &[u16; MAX_BASINS],
+    next: &[u16; HALF_EDGES],
+    seen: &mut [u8; MAX_BASINS],
+    queue: &mut [u16; MAX_BASINS],
 ) -> Lister
     requires { ⌜ g ≡ gatesHeld (stateNet l (now kinds) (now a) (now b)) ⌝ }
     requires { ⌜ Kept (l .basins) (now kinds) (now a) (now b) (Due.Plan left) (take g (l .setting)) (now under) (now ways) (now head) (now next)
@@ -109,10 +72,9 @@ fn line_after(
         (now (ways .exit)) (now (head .entry)) (now (next .entry)) (now (seen .exit)) (now (queue .exit)) standing ⌝ }
 {
     if standing {
-        return stepped(
-            l,
-            left,
-            g,
+        let basins = l.basins;
+        let r = stepping::advance(
+            basins as usize,
             kinds,
             a,
             b,
@@ -123,6 +85,7 @@ fn line_after(
             seen,
             queue,
         );
+        return after_step(l, left, g, r, kinds, ways);
     }
     asked(l, left, g, kinds, a, b)
 }
@@ -137,10 +100,10 @@ fn turned(
     b: &[u16],
     under: &mut [u8],
     ways: &mut [u8],
-    head: &[u16],
-    next: &[u16],
-    seen: &mut [u8],
-    queue: &mut [u16],
+    head: &[u16; MAX_BASINS],
+    next: &[u16; HALF_EDGES],
+    seen: &mut [u8; MAX_BASINS],
+    queue: &mut [u16; MAX_BASINS],
 ) -> Lister
     requires { ⌜ g ≡ gatesHeld (stateNet l (now kinds) (now a) (now b)) ⌝ }
     requires { ⌜ Kept (l .basins) (now kinds) (now a) (now b) (l .due) (take g (l .setting)) (now under) (now ways) (now head) (now next)
@@ -187,10 +150,10 @@ fn print_lines(
     out: &mut [u8],
     under: &mut [u8],
     ways: &mut [u8],
-    head: &[u16],
-    next: &[u16],
-    seen: &mut [u8],
-    queue: &mut [u16],
+    head: &[u16; MAX_BASINS],
+    next: &[u16; HALF_EDGES],
+    seen: &mut [u8; MAX_BASINS],
+    queue: &mut [u16; MAX_BASINS],
 ) -> Filled
     requires { ⌜ g ≡ gatesHeld (stateNet l (now kinds) (now a) (now b)) ⌝ }
     requires { ⌜ Kept (l .basins) (now kinds) (now a) (now b) (l .due) (take g (l .setting)) (now under) (now ways) (now head) (now next)
@@ -230,38 +193,6 @@ fn print_lines(
     }
 }
 
-// Prepares working memory for the plans after a setting, if it is a plan: its ways, and the index of the half-edges. Says whether it is.
-fn prime(
-    basins: u16,
-    kinds: &[u8],
-    a: &[u16],
-    b: &[u16],
-    setting: &[u8],
-    ways: &mut [u8],
-    head: &mut [u16],
-    next: &mut [u16],
-) -> bool
-    requires { ⌜ Spare (now kinds) (now ways) (now head) (now next) ⌝ }
-    ensures { λ r. ⌜ Primed basins (now (kinds .entry)) (now (a .entry)) (now (b .entry)) (now (setting .entry))
-        (now (ways .exit)) (now (head .exit)) (now (next .exit)) r ⌝ }
-{
-    if a.len() != kinds.len() {
-        return false;
-    }
-    if b.len() != kinds.len() {
-        return false;
-    }
-    match planner_rows::check(basins, kinds, a, b, setting) {
-        CheckAnswer::Refused(_) => false,
-        CheckAnswer::No => false,
-        CheckAnswer::Yes => {
-            tables::orient(kinds, setting, ways);
-            half_edges::index(basins as usize, a, b, head, next);
-            true
-        }
-    }
-}
-
 // The same with lent working memory, which is prepared if the plan in hand is one.
 fn fill_in(
     l: Lister,
@@ -271,10 +202,10 @@ fn fill_in(
     out: &mut [u8],
     under: &mut [u8],
     ways: &mut [u8],
-    head: &mut [u16],
-    next: &mut [u16],
-    seen: &mut [u8],
-    queue: &mut [u16],
+    head: &mut [u16; MAX_BASINS],
+    next: &mut [u16; HALF_EDGES],
+    seen: &mut [u8; MAX_BASINS],
+    queue: &mut [u16; MAX_BASINS],
 ) -> Filled
     requires { ⌜ Space (now ways) (now head) (now next) (now seen) (now queue) ⌝ }
     requires { ⌜ length (now under) ≡ maxReaches ⌝ }

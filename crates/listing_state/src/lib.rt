@@ -1,27 +1,16 @@
-// The lister's state: the line that is being printed and the plan in hand. The file is read and the first plan found here, and the next plan asked for;
-// what is still to be printed in a state is `pendingOf`.
-// The functions with a `requires` are for the crates above, which have checked it.
+// The lister's state: the line that is being printed and the plan in hand. The file is read and the first plan found here;
+// what is still to be printed in a state is `pendingOf`. No function has a `requires`.
 use lines::Due;
 use lines::due_of;
 use lines::due_refused;
-use lines::put_end;
-use lines::put_more;
-use lines::put_plan;
-use lines::put_refused;
 use marks::MARK_BYTES;
 use netfile_format::ReadAnswer;
 use network::MAX_REACHES;
 use network::Refusal;
 use tables::least;
-ghost use mathlib.Core.Path.{_≡_};
-ghost use Prim.Native.Nat.{_≤_};
-ghost use lib.ListN.{length, take, drop};
-ghost use Rattle.network.specs.Networks.{maxReaches};
 ghost use Rattle.network.specs.Replies.{refusalNumber};
-ghost use Rattle.lines.specs.Puts.{Put};
-ghost use Rattle.listing_state.specs.Pending.{lineOf, stateNet, Starting};
-ghost use Rattle.tables.specs.Rows.{gatesHeld};
-ghost use Rattle.listing_state.specs.Parts.{FirstLine, LineAfter, planLength, RefusalLine};
+ghost use Rattle.listing_state.specs.Pending.{Starting};
+ghost use Rattle.listing_state.specs.Parts.{FirstLine, RefusalLine};
 
 // The most bytes of a file that are read, and the most plans that are printed.
 pub const MAX_BYTES: usize = 8000;
@@ -48,24 +37,6 @@ pub struct Filled {
     pub count: usize,
 }
 
-// Puts what is left of a state's line, as much as the buffer holds. The plan in hand has g bytes.
-pub fn put_line(l: Lister, g: usize, out: &mut [u8]) -> usize
-    requires { ⌜ g ≤ maxReaches ⌝ }
-    ensures { λ r. ⌜ Put (drop (l .at) (lineOf (l .due) (take g (l .setting)))) (now (out .entry)) (now (out .exit)) r ⌝ }
-{
-    let at = l.at;
-    let due = l.due;
-    match due {
-        Due::Plan(_) => {
-            let setting = l.setting;
-            put_plan(&setting[..g], at, out)
-        }
-        Due::More => put_more(at, out),
-        Due::End => put_end(at, out),
-        Due::Refused(n) => put_refused(n, at, out),
-    }
-}
-
 // A setting of zeros.
 fn zeros() -> [u8; MAX_REACHES] {
     [0u8; MAX_REACHES]
@@ -79,25 +50,6 @@ fn first_line(basins: u16, kinds: &[u8], a: &[u16], b: &[u16], setting: [u8; MAX
     let mut marks = [0u8; MARK_BYTES];
     let answer = planner_rows::first_plan(basins, kinds, a, b, &mut plan, &mut marks);
     let due = due_of(answer, MAX_PLANS);
-    Lister {
-        basins,
-        due,
-        at: 0,
-        setting: plan,
-    }
-}
-
-// The state after the line of a plan, after which so many plans may still be printed, by asking for the next plan. The plan in hand has g bytes.
-pub fn asked(l: Lister, left: usize, g: usize, kinds: &[u8], a: &[u16], b: &[u16]) -> Lister
-    requires { ⌜ g ≡ gatesHeld (stateNet l (now kinds) (now a) (now b)) ⌝ }
-    ensures { λ r. ⌜ LineAfter (stateNet l (now (kinds .entry)) (now (a .entry)) (now (b .entry))) l left r ⌝ }
-{
-    let basins = l.basins;
-    let setting = l.setting;
-    let mut plan = l.setting;
-    let mut marks = [0u8; MARK_BYTES];
-    let answer = planner_rows::next_plan(basins, kinds, a, b, &setting[..g], &mut plan, &mut marks);
-    let due = due_of(answer, left);
     Lister {
         basins,
         due,
@@ -142,12 +94,4 @@ pub fn start(file: &[u8], kinds: &mut [u8], a: &mut [u16], b: &mut [u16]) -> Sta
             Started { lister, reaches }
         }
     }
-}
-
-// The length of a plan's line.
-pub fn plan_length(g: usize) -> usize
-    requires { ⌜ g ≤ maxReaches ⌝ }
-    ensures { λ r. ⌜ r ≡ planLength g ⌝ }
-{
-    if g == 0 { 2 } else { g + 1 }
 }

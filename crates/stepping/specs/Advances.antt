@@ -11,7 +11,8 @@ use Rattle.network.specs.Tables.{kindOf}
 use Rattle.network.specs.Settings.{isGated}
 use Rattle.network.specs.Plans.{isPlan}
 use Rattle.network.specs.Replies.{plan, refused, nextAnswer}
-use Rattle.tables.specs.Rows.{gatesIn, waysRow, bytesRow}
+use Rattle.tables.specs.Rows.{netOf, gatesIn, waysRow, bytesRow}
+use Rattle.seeking.specs.Seeks.{AtPlan}
 
 -- The number of gated reaches before reach r, by their kinds: the place of a gate's byte in a setting.
 abbrev pub gatesBefore : List ℕ → ℕ → ℕ
@@ -30,3 +31,12 @@ pub data Advanced (N : Network) (ks s : List ℕ) : List ℕ → ℕ → Type 0 
   moved : {ws′ : List ℕ} {r : ℕ} → PartsAt ks s (bytesRow ks ws′) r → nextAnswer N s ≡ plan (bytesRow ks ws′) → isPlan N (bytesRow ks ws′) ≡ true
       → ws′ ≡ waysRow ks (bytesRow ks ws′) → Advanced N ks s ws′ r
   at-last : {ws′ : List ℕ} {r : ℕ} → r ≡ length ks → nextAnswer N s ≡ refused LastPlan → Advanced N ks s ws′ r
+
+-- The ways us are those of a plan.
+pub record PlanWays (n : ℕ) (ks xs ys us : List ℕ) : Type 0 where
+  pub its-plan : List ℕ
+  pub stands : AtPlan n ks xs ys its-plan us
+
+-- A step from the ways us, which are those of one plan: to the next of it.
+pub record AdvancedFrom (n : ℕ) (ks xs ys us ws′ : List ℕ) (r : ℕ) : Type 0 where
+  pub from : (s : List ℕ) → AtPlan n ks xs ys s us → Advanced (netOf n ks xs ys) ks s ws′ r

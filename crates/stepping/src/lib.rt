@@ -5,10 +5,9 @@ ghost use mathlib.Core.Path.{_≡_};
 ghost use mathlib.Core.List.{_++_};
 ghost use Prim.Native.Nat.{_≤_};
 ghost use lib.ListN.{length, take, drop};
-ghost use Rattle.tables.specs.Rows.{netOf, gatesIn, bytesRow};
+ghost use Rattle.tables.specs.Rows.{gatesIn, bytesRow};
 ghost use Rattle.orienting.specs.Ready.{Ready};
-ghost use Rattle.seeking.specs.Seeks.{AtPlan};
-ghost use Rattle.stepping.specs.Advances.{gatesBefore, Advanced};
+ghost use Rattle.stepping.specs.Advances.{gatesBefore, PlanWays, AdvancedFrom};
 
 // Copies a row over one of the same length.
 fn copy_row(from: &[u8], to: &mut [u8])
@@ -26,7 +25,6 @@ pub fn advance(
     kinds: &[u8],
     a: &[u16],
     b: &[u16],
-    setting: &[u8],
     under: &mut [u8],
     ways: &mut [u8],
     head: &[u16],
@@ -35,10 +33,9 @@ pub fn advance(
     queue: &mut [u16],
 ) -> usize
     requires { ⌜ Ready n (now a) (now b) (now ways) (now head) (now next) (now seen) (now queue) ⌝ }
-    requires { ⌜ AtPlan n (now kinds) (now a) (now b) (now setting) (now ways) ⌝ }
+    requires { ⌜ PlanWays n (now kinds) (now a) (now b) (now ways) ⌝ }
     requires { ⌜ length (now under) ≡ length (now ways) ⌝ }
-    ensures { λ r. ⌜ Advanced (netOf n (now (kinds .entry)) (now (a .entry)) (now (b .entry))) (now (kinds .entry)) (now (setting .entry))
-        (now (ways .exit)) r ⌝ }
+    ensures { λ r. ⌜ AdvancedFrom n (now (kinds .entry)) (now (a .entry)) (now (b .entry)) (now (ways .entry)) (now (ways .exit)) r ⌝ }
 {
     copy_row(ways, under);
     let m = a.len();

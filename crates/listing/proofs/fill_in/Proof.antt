@@ -8,7 +8,7 @@ use lib.ListN.{length, take}
 use lib.Seq.{length-take-le}
 use borrow.Author.Needs.{needs}
 use Rattle.network.specs.Networks.{maxReaches}
-use Rattle.listing.specs.Priming.{Spare}
+use Rattle.priming.specs.Priming.{Spare}
 use Rattle.listing_state.proofs.Sizes.{lister-size}
 use Rattle.listing.proofs.Steps.{primed-kept}
 use Rattle.listing.proofs.fill_in.Statement.{statement}
@@ -20,7 +20,7 @@ cut m xs e h = length-take-le m xs (omega arith)
 
 -- the working memory where the ways are cut
 abbrev start : tie.After-oriented → tie.Start
-start c = c .before .before .before .before .before .before .before .before .before .before .before .before .before .before
+start c = c .before .before .before .before .before .before .before .before .before .before
 
 few : (c : tie.After-oriented) → c .before .before .least .result ≤ maxReaches
 few c = omega (arith, c .before .before .least .ensures)
@@ -41,7 +41,7 @@ least-requires : tie.Need-least-requires
 least-requires c κs = search needs
 
 slice-relend-prefix-oriented : tie.Need-slice-relend-prefix-oriented
-slice-relend-prefix-oriented c = omega (arith, c .before .least .ensures, c .before .before .before .before .before .before .before .before .before .before .before .before .before .pre .0 .ways-space)
+slice-relend-prefix-oriented c = omega (arith, c .before .least .ensures, c .before .before .before .before .before .before .before .before .before .pre .0 .ways-space)
 
 slice-aggregate-oriented : tie.Need-slice-aggregate-oriented
 slice-aggregate-oriented c = let s = start c in sym (cut (c .before .before .least .result) (s .args .ways .now) (s .pre .0 .ways-space) (few c))
@@ -56,19 +56,19 @@ prime-requires : tie.Need-prime-requires
 prime-requires c κs = spare (c .before .before .before .before)
 
 slice-relend-prefix-print-lines : tie.Need-slice-relend-prefix-print-lines
-slice-relend-prefix-print-lines c = let h = c .before .before .before .before .before .before .before .before .before .before .before .before in omega (arith, few h, start h .pre .1)
+slice-relend-prefix-print-lines c = let h = c .before .before .before .before .before .before .before .before in omega (arith, few h, start h .pre .1)
 
 slice-aggregate-print-lines : tie.Need-slice-aggregate-print-lines
-slice-aggregate-print-lines c = let h = c .before .before .before .before .before .before .before .before .before .before .before .before .before in let s = start h in sym (cut (h .before .before .least .result) (s .args .under .now) (s .pre .1) (few h))
+slice-aggregate-print-lines c = let h = c .before .before .before .before .before .before .before .before .before in let s = start h in sym (cut (h .before .before .least .result) (s .args .under .now) (s .pre .1) (few h))
 
 print-lines-requires : tie.Need-print-lines-requires
 print-lines-requires c κs =
-    let h = c .before .before .before .before .before .before .before .before .before .before .before .before .before .before .before .before .before in
+    let h = c .before .before .before .before .before .before .before .before .before .before .before .before .before in
     let s = start h in
     let m = h .before .before .least .result in
-    let t = c .before .before .before .before .before .before .before .before .before .before .before .before .prime in
+    let t = c .before .before .before .before .before .before .before .before .prime in
     let long = t .kept .1 .1 .1 .1 .1 .0 in (
-      c .before .before .before .before .before .before .before .before .before .before .before .before .before .before .before .before .before .before .before .before .gates-held .ensures,
+      c .before .before .before .before .before .before .before .before .before .before .before .before .before .before .before .before .gates-held .ensures,
       primed-kept (s .args .l .due) (spare h) long (cut m (s .args .under .now) (s .pre .1) (few h) ∙ sym (long ∙ cut m (s .args .ways .now) (s .pre .0 .ways-space) (few h))) (s .pre .0 .seen-space) (s .pre .0 .queue-space) (t .ensures),
     )
 
@@ -81,20 +81,8 @@ same-length-2 c = search needs
 same-length-3 : tie.Need-same-length-3
 same-length-3 c = search needs
 
-same-length-4 : tie.Need-same-length-4
-same-length-4 c = search needs
-
-same-length-5 : tie.Need-same-length-5
-same-length-5 c = search needs
-
-same-length-6 : tie.Need-same-length-6
-same-length-6 c = search needs
-
-same-length-7 : tie.Need-same-length-7
-same-length-7 c = search needs
-
 returns : tie.Need-returns
-returns c = c .before .before .before .before .before .before .before .before .before .before .print-lines .ensures
+returns c = c .before .before .before .before .before .before .print-lines .ensures
 
 pub fill-in-spec : {M : Type 1} → statement M
 fill-in-spec =
@@ -113,8 +101,4 @@ fill-in-spec =
     same-length
     same-length-2
     same-length-3
-    same-length-4
-    same-length-5
-    same-length-6
-    same-length-7
     returns)

@@ -1,6 +1,8 @@
 -- `stepping::advance` meets its contract: a step from the plan's end.
 -- Assumes nothing.
+use Prim.Native.Nat.{ℕ}
 use mathlib.Core.Path.{sym, subst}
+use mathlib.Core.List.{List}
 use borrow.Author.Needs.{needs}
 use Rattle.seeking.specs.Seeks.{AtPlan}
 use Rattle.seeking.proofs.Seeks.{plan-partable}
@@ -8,20 +10,20 @@ use Rattle.stepping.proofs.Advances.{advanced}
 use Rattle.stepping.proofs.advance.Statement.{statement}
 use Rattle.stepping.proofs.advance.Tie as tie
 
--- the plan's ways are copied, and stand in both rows
-abbrev Copied : tie.After-copy-row → Type 0
-Copied c = let s = c .before .before .before .before .before .before .before .before .before .before .before .before .before .args in AtPlan (s .n) (s .kinds .now) (s .a .now) (s .b .now) (s .setting .now) (c .copy-row .last .1 .0)
-
-copied : (c : tie.After-copy-row) → Copied c
-copied c = let s = c .before .before .before .before .before .before .before .before .before .before .before .before .before in subst (λ u. AtPlan (s .args .n) (s .args .kinds .now) (s .args .a .now) (s .args .b .now) (s .args .setting .now) u) (sym (c .copy-row .ensures)) (s .pre .1 .0)
+-- a plan's ways are copied, and stand in both rows
+copied :
+    (c : tie.After-copy-row) (p : List ℕ) → let s = c .before .before .before .before .before .before .before .before .before .before .before .before .args in
+    AtPlan (s .n) (s .kinds .now) (s .a .now) (s .b .now) p (s .ways .now) → AtPlan (s .n) (s .kinds .now) (s .a .now) (s .b .now) p (c .copy-row .last .1 .0)
+copied c p h = let s = c .before .before .before .before .before .before .before .before .before .before .before .before .args in subst (λ u. AtPlan (s .n) (s .kinds .now) (s .a .now) (s .b .now) p u) (sym (c .copy-row .ensures)) h
 
 copy-row-requires : tie.Need-copy-row-requires
 copy-row-requires c κs = search needs
 
 step-requires : tie.Need-step-requires
 step-requires c κs =
-    let s = c .before .before .before .before .before .before .before .before .before .before .before .before .before .before .before .before .before .before .before in
-    (s .pre .0, plan-partable (s .args .n) (s .args .kinds .now) (s .args .a .now) (s .args .b .now) (copied (c .before .before .before .before .before .before)) (s .pre .1 .0 .oriented))
+    let s = c .before .before .before .before .before .before .before .before .before .before .before .before .before .before .before .before .before .before in
+    let h = s .pre .1 .0 in
+    (s .pre .0, plan-partable (s .args .n) (s .args .kinds .now) (s .args .a .now) (s .args .b .now) (copied (c .before .before .before .before .before .before) (h .its-plan) (h .stands)) (h .stands .oriented))
 
 same-length : tie.Need-same-length
 same-length c = search needs
@@ -36,7 +38,9 @@ same-length-4 : tie.Need-same-length-4
 same-length-4 c = search needs
 
 returns : tie.Need-returns
-returns c = let s = c .before .before .before .before .before .before .before .before .before .before .before .before .before .before .before .before .before .before .before .before .before .before .before .before .before .before in advanced (s .args .n) (s .args .kinds .now) (s .args .a .now) (s .args .b .now) (s .pre .1 .0 .level) (copied (c .before .before .before .before .before .before .before .before .before .before .before .before .before)) (s .pre .1 .0 .oriented) (c .before .before .before .before .before .before .step .ensures)
+returns c =
+    let s = c .before .before .before .before .before .before .before .before .before .before .before .before .before .before .before .before .before .before .before .before .before .before .before .before .before .args in
+    record { from = λ p h. advanced (s .n) (s .kinds .now) (s .a .now) (s .b .now) (h .level) (copied (c .before .before .before .before .before .before .before .before .before .before .before .before .before) p h) (h .oriented) (c .before .before .before .before .before .before .step .ensures) }
 
 pub advance-spec : {M : Type 1} → statement M
 advance-spec = tie.close (tie.spec copy-row-requires step-requires same-length same-length-2 same-length-3 same-length-4 returns)

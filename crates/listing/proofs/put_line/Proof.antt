@@ -1,15 +1,15 @@
--- `listing_state::put_line` meets its contract, line by line.
+-- `listing::put_line` meets its contract, line by line.
 -- Assumes nothing.
 use native.Mathlib.Omega.{arith}
 use mathlib.Core.Path.{sym, ap}
 use lib.ListN.{take, drop}
 use lib.Seq.{length-take-le}
 use Rattle.listing_state.specs.Pending.{lineOf}
 use Rattle.listing_state.proofs.Sizes.{lister-size}
 use Rattle.lines.proofs.Puts.{put-same}
 use borrow.Author.Needs.{needs}
-use Rattle.listing_state.proofs.put_line.Statement.{statement}
-use Rattle.listing_state.proofs.put_line.Tie as tie
+use Rattle.listing.proofs.put_line.Statement.{statement}
+use Rattle.listing.proofs.put_line.Tie as tie
 
 enum-told : tie.Need-enum-told
 enum-told c = search needs

@@ -2,11 +2,12 @@
 -- Assumes nothing.
 use Prim.Native.Nat.{ℕ, _≤_}
 use native.Mathlib.Omega.{arith}
-use mathlib.Core.Path.{_≡_, refl, sym, _∙_}
+use mathlib.Core.Path.{_≡_, refl, sym, ap, _∙_}
 use mathlib.Core.Bool.{Bool, true, false, cond, _&&_, true≢false}
 use mathlib.Core.Option.{Option, none, some}
 use mathlib.Core.List.{List}
 use lib.ListN.{length, replicate, length-replicate}
+use borrow.Author.Tests.{eq-eqb, ne-eqb}
 use Rattle.network.specs.declared.Refusal.{Refusal}
 use Rattle.network.specs.declared.Refusal.the-variants.{BadSetting}
 use Rattle.network.specs.Networks.{Network, tableFault, Accepted}
@@ -18,12 +19,14 @@ use Rattle.tables.specs.Rows.{netOf}
 use Rattle.tables.proofs.Laws.{row-length}
 use Rattle.half_edges.specs.Chains.{Index, Indexable}
 use Rattle.orienting.specs.Ready.{Ready}
+use Rattle.replies.specs.declared.CheckAnswer.{CheckAnswer}
 use Rattle.replies.specs.declared.CheckAnswer.the-variants as C
 use Rattle.replies.specs.Answers.{yesOr, unlessRefused, checkOf}
 use Rattle.seeking.specs.Levels.{Level}
+use Rattle.seeking.specs.Seeks.{AtPlan}
 use Rattle.finder.specs.Rooms.{Room}
 use Rattle.finder.proofs.Rooms.{room-index, room-ready}
-use Rattle.listing.specs.Priming.{Spare}
+use Rattle.priming.specs.Priming.{Spare, saysYes, primes, Primed}
 
 -- a check that says yes: the table is accepted, and the setting is a plan
 yes-both : (N : Network) (s : List ℕ) (o : Option Refusal) (b c : Bool) → tableFault N ≡ o → unlessRefused (firstOf o (cond b none (some BadSetting))) (yesOr (b && c)) ≡ C.Yes → Accepted N × (b && c ≡ true)
@@ -36,7 +39,32 @@ pub yes-plan : (N : Network) (s : List ℕ) → checkOf N s ≡ C.Yes → Accept
 unfolding checkOf checkFault settingFault isPlan
 yes-plan N s e = yes-both N s (tableFault N) (isSetting N s) (stronglyConnectedUnder N s) refl e
 
--- a row of ways, and working memory, for an accepted table whose rows are of one length
+-- ---- the answer
+
+-- rows of one length: the check decides
+checked : (n : ℕ) (ks xs ys s : List ℕ) → length xs ≡ length ks → length ys ≡ length ks → primes n ks xs ys s ≡ saysYes (checkOf (netOf n ks xs ys) s)
+checked n ks xs ys s e f = rw (eq-eqb (length xs) (length ks) e, eq-eqb (length ys) (length ks) f)
+
+module _ {n : ℕ} {ks xs ys s ws head next : List ℕ} where
+  free : primes n ks xs ys s ≡ false → Primed n ks xs ys s ws head next false
+  free e = record { answer = sym e; at-plan = λ t. absurd (true≢false (sym t)); indexed = λ t. absurd (true≢false (sym t)) }
+
+  -- a row is not as long as the kinds
+  pub a-unlike : (length xs ≡ length ks → ⊥) → Primed n ks xs ys s ws head next false
+  a-unlike h = free (rw (ne-eqb (length xs) (length ks) h))
+
+  pub b-unlike : length xs ≡ length ks → (length ys ≡ length ks → ⊥) → Primed n ks xs ys s ws head next false
+  b-unlike e h = free (rw (eq-eqb (length xs) (length ks) e, ne-eqb (length ys) (length ks) h))
+
+  -- both are, and the check says no or yes
+  module _ {r : CheckAnswer} (e : length xs ≡ length ks) (f : length ys ≡ length ks) (c : r ≡ checkOf (netOf n ks xs ys) s) where
+    pub said-no : saysYes r ≡ false → Primed n ks xs ys s ws head next false
+    said-no z = free (checked n ks xs ys s e f ∙ sym (ap saysYes c) ∙ z)
+
+    pub said-yes : saysYes r ≡ true → AtPlan n ks xs ys s ws → Index n xs ys head next → Primed n ks xs ys s ws head next true
+    said-yes y p ix = record { answer = sym (checked n ks xs ys s e f ∙ sym (ap saysYes c) ∙ y); at-plan = λ t. p; indexed = λ t. ix }
+
+-- ---- a row of ways, and working memory, for an accepted table whose rows are of one length
 module _ {n : ℕ} {ks xs ys ws head next : List ℕ} (v : Level n ks xs ys) (z : Spare ks ws head next) where
   pub spare-ways : length ws ≡ length ks
   spare-ways = omega (arith, z .ways-spare, accepted (netOf n ks xs ys) (v .accepted) .few-reaches, row-length ks xs ys (v .ends-a) (v .ends-b))

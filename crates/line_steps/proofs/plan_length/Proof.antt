@@ -1,12 +1,12 @@
--- `listing_state::plan_length` meets its contract.
+-- `line_steps::plan_length` meets its contract.
 -- Assumes nothing.
 use Prim.Native.Nat.{ℕ, zero, suc, _+_}
 use native.Mathlib.Omega.{arith}
 use mathlib.Core.Path.{_≡_, refl}
 use borrow.Author.Needs.{needs}
 use Rattle.listing_state.specs.Parts.{planLength}
-use Rattle.listing_state.proofs.plan_length.Statement.{statement}
-use Rattle.listing_state.proofs.plan_length.Tie as tie
+use Rattle.line_steps.proofs.plan_length.Statement.{statement}
+use Rattle.line_steps.proofs.plan_length.Tie as tie
 
 -- where a reach is gated
 plan-line : (g : ℕ) → (g ≡ 0 → ⊥) → g + 1 ≡ planLength g

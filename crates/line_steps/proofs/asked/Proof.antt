@@ -1,13 +1,13 @@
--- `listing_state::asked` meets its contract: the line that the reply of next calls for.
+-- `line_steps::asked` meets its contract: the line that the reply of next calls for.
 -- Assumes nothing.
 use native.Mathlib.Omega.{arith}
 use mathlib.Core.Path.{sym, refl}
 use lib.Seq.{length-take-le}
 use Rattle.listing_state.proofs.Sizes.{lister-size}
 use Rattle.listing_state.proofs.States.{next-state}
 use borrow.Author.Needs.{needs}
-use Rattle.listing_state.proofs.asked.Statement.{statement}
-use Rattle.listing_state.proofs.asked.Tie as tie
+use Rattle.line_steps.proofs.asked.Statement.{statement}
+use Rattle.line_steps.proofs.asked.Tie as tie
 
 array-share-prefix-setting : tie.Need-array-share-prefix-setting
 array-share-prefix-setting c = let s = c .before .before .before .before .before in omega (arith, s .pre, lister-size (s .args .l) (s .good .0))

@@ -1,0 +1,2 @@
+-- The state after a step, in its two cases.
+pub mod Steps

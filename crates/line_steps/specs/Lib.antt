@@ -1,0 +1,2 @@
+-- The state after a step from the plan in hand.
+pub mod Steps

@@ -1,0 +1,2 @@
+-- Working memory prepared for the plans after a plan.
+pub mod Priming
