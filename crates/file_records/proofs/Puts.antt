@@ -13,8 +13,8 @@ use borrow.Author.Tests.{le-leb, lt-leb}
 use Rattle.network.specs.declared.Refusal.{Refusal}
 use Rattle.network.specs.declared.Refusal.the-variants.{ShortBuffer}
 use Rattle.file_records.specs.declared.WriteAnswer.the-variants.{Refused as Unwritten, Written}
-use Rattle.file_records.specs.Puts.{writeNumber, faultNumber, writeAnswer, bytesWritten, Wrote, roomFor, WroteWhole}
-use Rattle.network.specs.Replies.{firstOf}
+use Rattle.file_records.specs.Puts.{writeNumber, writeAnswer, bytesWritten, Wrote, roomFor, WroteWhole}
+use Rattle.network.specs.Replies.{faultNumber, firstOf}
 
 -- ---- the first of two refusals
 

@@ -9,18 +9,14 @@ use lib.ListN.{length, drop}
 use lib.Dec.{leb}
 use Rattle.network.specs.declared.Refusal.{Refusal}
 use Rattle.network.specs.declared.Refusal.the-variants.{ShortBuffer}
-use Rattle.network.specs.Replies.{refusalNumber}
+use Rattle.network.specs.Replies.{refusalNumber, faultNumber}
 use Rattle.file_records.specs.declared.WriteAnswer.{WriteAnswer}
 use Rattle.file_records.specs.declared.WriteAnswer.the-variants.{Refused, Written}
 
--- Document 01's number of the writer's answer, 0 where the bytes are written; and the same of a refusal, if there is one.
+-- Document 01's number of the writer's answer, 0 where the bytes are written.
 abbrev pub writeNumber : WriteAnswer → ℕ
 writeNumber (Refused r) = refusalNumber r
 writeNumber (Written n) = 0
-
-abbrev pub faultNumber : Option Refusal → ℕ
-faultNumber (some r) = refusalNumber r
-faultNumber none = 0
 
 -- The writer's answer where the bytes f are to be written: the refusal, or "the length written".
 abbrev pub writeAnswer : Option Refusal → List ℕ → WriteAnswer

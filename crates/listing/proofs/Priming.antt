@@ -12,6 +12,7 @@ use Rattle.network.specs.declared.Refusal.the-variants.{BadSetting}
 use Rattle.network.specs.Networks.{Network, tableFault, Accepted}
 use Rattle.network.specs.Settings.{isSetting, settingFault}
 use Rattle.network.specs.Plans.{stronglyConnectedUnder, isPlan}
+use Rattle.network.specs.Replies.{firstOf, checkFault}
 use Rattle.network.proofs.Networks.{accepted}
 use Rattle.tables.specs.Rows.{netOf}
 use Rattle.tables.proofs.Laws.{row-length}
@@ -25,14 +26,14 @@ use Rattle.finder.proofs.Rooms.{room-index, room-ready}
 use Rattle.listing.specs.Priming.{Spare}
 
 -- a check that says yes: the table is accepted, and the setting is a plan
-yes-both : (N : Network) (s : List ℕ) (o : Option Refusal) (b c : Bool) → tableFault N ≡ o → unlessRefused o (unlessRefused (cond b none (some BadSetting)) (yesOr (b && c))) ≡ C.Yes → Accepted N × (b && c ≡ true)
+yes-both : (N : Network) (s : List ℕ) (o : Option Refusal) (b c : Bool) → tableFault N ≡ o → unlessRefused (firstOf o (cond b none (some BadSetting))) (yesOr (b && c)) ≡ C.Yes → Accepted N × (b && c ≡ true)
 yes-both N s none true true t e = (t, refl)
 yes-both N s none true false t e = absurd (true≢false cc)
 yes-both N s none false c t e = absurd (true≢false cc)
 yes-both N s (some r) b c t e = absurd (true≢false cc)
 
 pub yes-plan : (N : Network) (s : List ℕ) → checkOf N s ≡ C.Yes → Accepted N × (isPlan N s ≡ true)
-unfolding checkOf settingFault isPlan
+unfolding checkOf checkFault settingFault isPlan
 yes-plan N s e = yes-both N s (tableFault N) (isSetting N s) (stronglyConnectedUnder N s) refl e
 
 -- a row of ways, and working memory, for an accepted table whose rows are of one length

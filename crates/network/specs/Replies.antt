@@ -29,6 +29,11 @@ refusalNumber ShortBuffer = 7
 refusalNumber BadSetting = 8
 refusalNumber LastPlan = 11
 
+-- The same of a refusal if there is one, else 0.
+abbrev pub faultNumber : Option Refusal → ℕ
+faultNumber (some r) = refusalNumber r
+faultNumber none = 0
+
 -- A reply: "a plan or one of two findings, a lone one with its reach", or a refusal by number only.
 -- The findings hold the marks and "a count", the lone one its reach first.
 pub data Outcome : Type 0 where
@@ -118,6 +123,10 @@ nextAnswer N s = answer N (nextPlan N s)
 abbrev pub firstOf : Option Refusal → Option Refusal → Option Refusal
 firstOf (some r) o = some r
 firstOf none o = o
+
+-- What the check of a setting refuses: it "answers yes or no after 1, 2, 3, 8".
+unfoldable pub checkFault : Network → List ℕ → Option Refusal
+checkFault N s = firstOf (tableFault N) (settingFault N s)
 
 -- A refusal if there is one, else the reply.
 abbrev pub unless : Option Refusal → Outcome → Outcome

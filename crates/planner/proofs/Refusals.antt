@@ -1,23 +1,23 @@
 -- What each call promises to a network that is refused by its table depends on the refusal only.
 -- Assumes nothing.
 use Prim.Native.Nat.{ℕ}
-use mathlib.Core.Path.{_≡_, sym, ap, subst, _∙_}
+use mathlib.Core.Path.{sym, ap, subst, _∙_}
 use mathlib.Core.List.{List}
-use Rattle.network.specs.Networks.{tableFault}
-use Rattle.network.specs.Replies.{Outcome, firstReply, nextReply}
+use Rattle.network.specs.Replies.{faultNumber, Outcome, firstReply, nextReply}
 use Rattle.tables.specs.declared.TableAnswer.{TableAnswer}
-use Rattle.tables.specs.Answers.{tableAnswer}
+use Rattle.tables.specs.Answers.{tableAnswer, TableChecked}
 use Rattle.replies.specs.declared.Answer.{Answer}
 use Rattle.replies.specs.declared.CheckAnswer.{CheckAnswer}
-use Rattle.replies.specs.Answers.{checkOf, Replied}
+use Rattle.replies.specs.Answers.{Replied, CheckCall}
+use Rattle.replies.proofs.Answers.{check-called}
 use Rattle.replies.proofs.Refusals.{check-faulty, first-faulty, next-faulty}
 use Rattle.packing.proofs.Packings.{ByTable}
 
-pub table-alike : {r : TableAnswer} → ByTable (λ N. r ≡ tableAnswer (tableFault N))
-table-alike N N′ x e e′ h = h ∙ ap tableAnswer (e ∙ sym e′)
+pub table-alike : {r : TableAnswer} → ByTable (λ N. TableChecked N r)
+table-alike N N′ x e e′ h = record { answer = h .answer ∙ ap tableAnswer (e ∙ sym e′); number = h .number ∙ ap faultNumber (e ∙ sym e′) }
 
-pub check-alike : {r : CheckAnswer} (s : List ℕ) → ByTable (λ N. r ≡ checkOf N s)
-check-alike s N N′ x e e′ h = h ∙ sym (check-faulty N s x e) ∙ check-faulty N′ s x e′
+pub check-alike : {r : CheckAnswer} (s : List ℕ) → ByTable (λ N. CheckCall N s r)
+check-alike s N N′ x e e′ h = check-called (h .answer ∙ sym (check-faulty N s x e .answer) ∙ check-faulty N′ s x e′ .answer)
 
 module _ {plan marks plan′ marks′ : List ℕ} {r : Answer} where
   pub first-alike : (p q : ℕ) → ByTable (λ N. Replied (firstReply N p q) plan marks plan′ marks′ r)

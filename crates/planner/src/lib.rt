@@ -9,15 +9,14 @@ use packing::pack;
 use replies::Answer;
 use replies::CheckAnswer;
 use tables::TableAnswer;
-ghost use mathlib.Core.Path.{_≡_};
-ghost use Rattle.network.specs.Networks.{tableFault, net};
-ghost use Rattle.tables.specs.Answers.{tableAnswer};
+ghost use Rattle.network.specs.Networks.{net};
+ghost use Rattle.tables.specs.Answers.{TableChecked};
 ghost use Rattle.replies.specs.Answers.{CheckCall, FirstCall, NextCall};
 ghost use Rattle.packing.specs.Tables.{OfTable};
 
 // The call over rows, for each public call. The rows of an over-full table are over-full too, and refused as such.
 fn table_check_packed(basins: u16, p: Packed) -> TableAnswer
-    ensures { λ r. ⌜ OfTable basins p (λ N. r ≡ tableAnswer (tableFault N)) ⌝ }
+    ensures { λ r. ⌜ OfTable basins p (λ N. TableChecked N r) ⌝ }
 {
     let n = held(p.n);
     let kinds = p.kinds;
@@ -65,7 +64,7 @@ fn next_plan_packed(
 
 // What the table gets: it is accepted, or refused by number only. Refuses: 1, 2, 3.
 pub fn table_check(basins: u16, table: &[Reach]) -> TableAnswer
-    ensures { λ r. ⌜ r ≡ tableAnswer (tableFault (net basins (now (table .entry)))) ⌝ }
+    ensures { λ r. ⌜ TableChecked (net basins (now (table .entry))) r ⌝ }
 {
     table_check_packed(basins, pack(table))
 }

@@ -19,7 +19,7 @@ use Rattle.tables.specs.Rows.{netOf, gatesIn}
 use Rattle.tables.proofs.Cuts.{cut-ends-a, cut-ends-b, cut-net, cut-gates}
 use Rattle.replies.specs.declared.Answer.{Answer}
 use Rattle.replies.specs.declared.CheckAnswer.{CheckAnswer}
-use Rattle.replies.specs.Answers.{Replied, yesOr, checkOf}
+use Rattle.replies.specs.Answers.{Replied, yesOr, CheckCall}
 use Rattle.seeking.specs.Levels.{Level}
 use Rattle.replies.proofs.Refusals.{check-fitting, first-roomy, next-roomy}
 
@@ -54,8 +54,8 @@ first-given {N} {plan} {marks} {plan′} {marks′} {r} p q same ok room w =
     subst⁻¹ (λ (o : Outcome). Replied o plan marks plan′ marks′ r) (first-roomy N p q ok room)
     (subst (λ (M : Network). Replied (firstAnswer M) plan marks plan′ marks′ r) same w)
 
-pub check-given : (N N′ : Network) (s : List ℕ) (b : Bool) (v : CheckAnswer) → N′ ≡ N → Accepted N → isSetting N s ≡ true → b ≡ stronglyConnectedUnder N′ s → v ≡ yesOr b → v ≡ checkOf N s
-check-given N N′ s b v same ok fit e f = f ∙ check-fitting N s b ok fit (e ∙ ap (λ (M : Network). stronglyConnectedUnder M s) same)
+pub check-given : (N N′ : Network) (s : List ℕ) (b : Bool) (v : CheckAnswer) → N′ ≡ N → Accepted N → isSetting N s ≡ true → b ≡ stronglyConnectedUnder N′ s → v ≡ yesOr b → CheckCall N s v
+check-given N N′ s b v same ok fit e f = subst⁻¹ (CheckCall N s) f (check-fitting N s b ok fit (e ∙ ap (λ (M : Network). stronglyConnectedUnder M s) same))
 
 -- ---- the next plan
 

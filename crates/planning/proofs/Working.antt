@@ -23,6 +23,7 @@ use Rattle.seeking.specs.declared.Sought.{Sought}
 use Rattle.seeking.specs.declared.Sought.the-variants.{NoneLater, CameTo}
 use Rattle.network.specs.declared.Refusal.the-variants.{LastPlan}
 use Rattle.replies.specs.Answers.{given, Replied}
+use Rattle.replies.proofs.Answers.{replied}
 use Rattle.seeking.specs.Levels.{Level}
 use Rattle.finder.specs.Rooms.{Room}
 use Rattle.planning.specs.Rooms.{Space}
@@ -58,23 +59,20 @@ module _ (n : ℕ) (ks xs ys : List ℕ) (ea : length xs ≡ length ks) (eb : le
       → Replied (outcomeOf (netOf n ks xs ys) ws f) plan marks plan′ marks′ (Given r)
   unfolding shutInFinding loneFinding
   written {seen} {marks} full noted (wrote-shut m) =
-      record {
-        reply = ap (λ (c : ℕ). given (ShutIn (record { reach = 0; count = c }))) (m .count ∙ ap onesIn noted);
-        plan-left = refl;
-        marks-left = m .bytes ∙ ap₂ (λ (x : List ℕ) (k : ℕ). x ++ drop k marks) noted (sym (length-marks (shutInSide (netOf n ks xs ys))));
-      }
+      replied
+      (ap (λ (c : ℕ). given (ShutIn (record { reach = 0; count = c }))) (m .count ∙ ap onesIn noted))
+      refl
+      (m .bytes ∙ ap₂ (λ (x : List ℕ) (k : ℕ). x ++ drop k marks) noted (sym (length-marks (shutInSide (netOf n ks xs ys)))))
   written {seen} {marks} full noted (wrote-lone {r = i} m) =
-      record {
-        reply = ap (λ (c : ℕ). given (Lone (record { reach = i; count = c }))) (m .count ∙ ap onesIn noted);
-        plan-left = refl;
-        marks-left = m .bytes ∙ ap₂ (λ (x : List ℕ) (k : ℕ). x ++ drop k marks) noted (sym (length-marks (bridgeSide (netOf n ks xs ys) i)));
-      }
+      replied
+      (ap (λ (c : ℕ). given (Lone (record { reach = i; count = c }))) (m .count ∙ ap onesIn noted))
+      refl
+      (m .bytes ∙ ap₂ (λ (x : List ℕ) (k : ℕ). x ++ drop k marks) noted (sym (length-marks (bridgeSide (netOf n ks xs ys) i))))
   written {ws} {plan} full noted (wrote-plan e) =
-      record {
-        reply = refl;
-        plan-left = e ∙ ap₂ (λ (x : List ℕ) (k : ℕ). x ++ drop k plan) (sym (row-bytes ks xs ys ea eb ws)) (sym (bytes-length 0 (tableOf ks xs ys) ws (full ∙ sym (row-length ks xs ys ea eb)) ∙ row-gates ks xs ys ea eb 0));
-        marks-left = refl;
-      }
+      replied
+      refl
+      (e ∙ ap₂ (λ (x : List ℕ) (k : ℕ). x ++ drop k plan) (sym (row-bytes ks xs ys ea eb ws)) (sym (bytes-length 0 (tableOf ks xs ys) ws (full ∙ sym (row-length ks xs ys ea eb)) ∙ row-gates ks xs ys ea eb 0)))
+      refl
 
 -- what the search for the first plan noted
 pub first-noted : {N : Network} {ws seen : List ℕ} {f : Found} → FirstFound N ws seen f → SideNoted N seen f

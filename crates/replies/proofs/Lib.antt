@@ -1,3 +1,4 @@
--- The laws of writing a reply down.
+-- The laws of answers and of writing a reply down.
+pub mod Answers
 pub mod Reported
 pub mod Refusals

@@ -15,7 +15,7 @@ use Rattle.network.specs.Networks.{Network, tableFault, Accepted}
 use Rattle.network.specs.Settings.{settingFault}
 use Rattle.network.specs.Plans.{isPlan}
 use Rattle.network.specs.Marks.{marksOf}
-use Rattle.network.specs.Replies.{Outcome, lone, bridgeSide, firstAnswer, firstOf}
+use Rattle.network.specs.Replies.{Outcome, lone, bridgeSide, firstAnswer, firstOf, checkFault}
 use Rattle.lists.proofs.Bools.{clash}
 use Rattle.network.proofs.Bridges.{bridge-blocks}
 use Rattle.network.proofs.Order.{plan-setting, first-is-plan}
@@ -93,7 +93,7 @@ counted (sheetSays s) n h = (refl, cc)
 
 -- an accepted network and a plan get yes
 check-yes : (N : Network) (s : List ℕ) → Accepted N → isPlan N s ≡ true → checkOf N s ≡ C.Yes
-unfolding checkOf settingFault
+unfolding checkOf checkFault settingFault
 check-yes N s ok p = rw (ok, plan-setting N s p, p)
 
 module _ (N : Network) (f setting setting′ : List ℕ) where

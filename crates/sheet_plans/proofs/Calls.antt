@@ -15,7 +15,7 @@ use Rattle.network.proofs.Networks.{accepted}
 use Rattle.file_records.specs.declared.WriteAnswer.{WriteAnswer}
 use Rattle.file_records.specs.declared.WriteAnswer.the-variants.{Refused as Unwritten}
 use Rattle.file_records.specs.Puts.{Wrote, roomFor, WroteWhole}
-use Rattle.network.specs.Replies.{firstOf}
+use Rattle.network.specs.Replies.{firstOf, checkFault}
 use Rattle.replies.specs.declared.CheckAnswer.{CheckAnswer}
 use Rattle.replies.specs.declared.CheckAnswer.the-variants as C
 use Rattle.replies.specs.Answers.{yesOr, unlessRefused, checkOf}
@@ -26,29 +26,29 @@ use Rattle.sheet_format.proofs.Sheets.{plan-long}
 use Rattle.file_records.proofs.Puts.{first-assoc, put-refused}
 
 -- the refusal that the answer of the check stands for
-abbrev pub checkFault : CheckAnswer → Option Refusal
-checkFault (C.Refused r) = some r
-checkFault C.Yes = none
-checkFault C.No = some BadSetting
+abbrev pub faultSaid : CheckAnswer → Option Refusal
+faultSaid (C.Refused r) = some r
+faultSaid C.Yes = none
+faultSaid C.No = some BadSetting
 
 check-cases :
     (o : Option Refusal) (b c : Bool)
-    → checkFault (unlessRefused o (unlessRefused (cond b none (some BadSetting)) (yesOr (b && c)))) ≡ firstOf o (cond (b && c) none (some BadSetting))
+    → faultSaid (unlessRefused (firstOf o (cond b none (some BadSetting))) (yesOr (b && c))) ≡ firstOf o (cond (b && c) none (some BadSetting))
 check-cases (some r) b c = refl
 check-cases none true true = refl
 check-cases none true false = refl
 check-cases none false c = refl
 
 -- 1, 2 and 3, and then 8 where the setting is no plan
-pub check-fault : (N : Network) (s : List ℕ) → checkFault (checkOf N s) ≡ firstOf (tableFault N) (planFault N s)
-unfolding checkOf settingFault isPlan
-check-fault N s = check-cases (tableFault N) (isSetting N s) (stronglyConnectedUnder N s)
+pub fault-said : (N : Network) (s : List ℕ) → faultSaid (checkOf N s) ≡ firstOf (tableFault N) (planFault N s)
+unfolding checkOf checkFault settingFault isPlan
+fault-said N s = check-cases (tableFault N) (isSetting N s) (stronglyConnectedUnder N s)
 
 module _ (N : Network) (s : List ℕ) (v : CheckAnswer) (e : checkOf N s ≡ v) where
-  pub judged : firstOf (tableFault N) (planFault N s) ≡ checkFault v
-  judged = sym (check-fault N s) ∙ ap checkFault e
+  pub judged : firstOf (tableFault N) (planFault N s) ≡ faultSaid v
+  judged = sym (fault-said N s) ∙ ap faultSaid e
 
-  pub judged-sheet : (room : ℕ) → sheetFault N s room ≡ firstOf (checkFault v) (roomFor (sheetOf N s) room)
+  pub judged-sheet : (room : ℕ) → sheetFault N s room ≡ firstOf (faultSaid v) (roomFor (sheetOf N s) room)
   judged-sheet room = first-assoc (tableFault N) (planFault N s) (roomFor (sheetOf N s) room) ∙ ap (λ o. firstOf o (roomFor (sheetOf N s) room)) judged
 
 -- yes: the network is accepted and the setting is a plan
@@ -70,7 +70,7 @@ module _ (N : Network) (s : List ℕ) (e : checkOf N s ≡ C.Yes) where
 
 -- the writer, by what the check said
 module _ (N : Network) (s out : List ℕ) where
-  pub wrote-refused : (v : CheckAnswer) (r : Refusal) → checkOf N s ≡ v → checkFault v ≡ some r → SheetWritten N s out (Unwritten r) out
+  pub wrote-refused : (v : CheckAnswer) (r : Refusal) → checkOf N s ≡ v → faultSaid v ≡ some r → SheetWritten N s out (Unwritten r) out
   wrote-refused v r e f =
       put-refused (sheetOf N s) out r (judged-sheet N s v e (length out) ∙ ap (λ o. firstOf o (roomFor (sheetOf N s) (length out))) f)
 

@@ -22,7 +22,7 @@ use Rattle.sheet_format.specs.declared.SheetAnswer.{SheetAnswer}
 use Rattle.sheet_format.specs.declared.SheetAnswer.the-variants.{Refused, Read}
 use Rattle.sheet_format.specs.Readings.{SheetReading, sheetRefused, sheetSays, readRecords, ifPlan, unlessFault, readSheet, sheetWithRoom}
 use Rattle.sheet_format.specs.Answers.{sheetAnswer, settingRead, Got, Held}
-use Rattle.sheet_plans.proofs.Calls.{checkFault, judged}
+use Rattle.sheet_plans.proofs.Calls.{faultSaid, judged}
 
 -- ---- what is left in the buffer
 
@@ -45,15 +45,15 @@ module _ (N : Network) (s setting : List ℕ) (v : CheckAnswer) (e : checkOf N s
   abbrev kept : SheetReading
   kept = sheetWithRoom (length setting) (unlessFault (tableFault N) (ifPlan N (sheetSays s)))
 
-  kept-is : kept ≡ sheetWithRoom (length setting) (unlessFault (checkFault v) (sheetSays s))
+  kept-is : kept ≡ sheetWithRoom (length setting) (unlessFault (faultSaid v) (sheetSays s))
   kept-is =
       ap (sheetWithRoom (length setting))
       (plan-cases (tableFault N) (isPlan N s) s ∙ ap (λ o. unlessFault o (sheetSays s)) (judged N s v e))
 
-  pub kept-refused : (r : Refusal) → checkFault v ≡ some r → Got kept setting (Refused r) setting
+  pub kept-refused : (r : Refusal) → faultSaid v ≡ some r → Got kept setting (Refused r) setting
   kept-refused r f = got-refused setting r (kept-is ∙ ap (λ o. sheetWithRoom (length setting) (unlessFault o (sheetSays s))) f)
 
-  module _ (f : checkFault v ≡ none) where
+  module _ (f : faultSaid v ≡ none) where
     sound : kept ≡ sheetWithRoom (length setting) (sheetSays s)
     sound = kept-is ∙ ap (λ o. sheetWithRoom (length setting) (unlessFault o (sheetSays s))) f
 

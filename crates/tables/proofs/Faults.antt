@@ -1,7 +1,7 @@
 -- Which fault a network lent as rows has, by the tests of its table in their order.
 -- Assumes nothing.
 use Prim.Native.Nat.{ℕ, _≤_, _<_}
-use mathlib.Core.Path.{_≡_, refl}
+use mathlib.Core.Path.{_≡_, refl, sym, ap, _∙_}
 use mathlib.Core.Bool.{true, false, _&&_}
 use mathlib.Core.List.{List}
 use mathlib.Core.Option.{Option, none, some}
@@ -14,9 +14,10 @@ use Rattle.network.specs.declared.Refusal.the-variants.{BasinCount, TooManyReac
 use Rattle.network.specs.Networks.{Network, maxBasins, goodCount, goodLength, goodEnds, tableFault}
 use Rattle.network.specs.Tables.{tableOf}
 use Rattle.network.specs.Bridges.{noReach}
+use Rattle.network.specs.Replies.{faultNumber}
 use Rattle.network.proofs.Networks.{endsBelow}
 use Rattle.tables.specs.declared.TableAnswer.the-variants as T
-use Rattle.tables.specs.Answers.{tableAnswer}
+use Rattle.tables.specs.Answers.{tableAnswer, tableNumber, TableChecked}
 use Rattle.tables.proofs.Laws.{table-at}
 
 module _ (N : Network) where
@@ -55,6 +56,14 @@ module _ (n i : ℕ) (ks xs ys : List ℕ) (l : i < length (tableOf ks xs ys)) w
   ends-bad f =
       let below = ltb (getD xs i 0) n in
       rw (table-at i ks xs ys l) (bool-eq-false {b = below && ltb (getD ys i 0) n} (λ e. f (ltb-true (getD xs i 0) n (and-elim-left below _ e)) (ltb-true (getD ys i 0) n (and-elim-right below _ e))))
+
+-- the answer to the fault has its number
+number-faulty : (o : Option Refusal) → tableNumber (tableAnswer o) ≡ faultNumber o
+number-faulty none = refl
+number-faulty (some r) = refl
+
+pub table-checked : (N : Network) {o : Option Refusal} → tableFault N ≡ o → TableChecked N (tableAnswer o)
+table-checked N {o} e = record { answer = ap tableAnswer (sym e); number = number-faulty o ∙ ap faultNumber (sym e) }
 
 -- what the answer says of the fault
 pub answer-refused : (o : Option Refusal) (r : Refusal) → tableAnswer o ≡ T.Refused r → o ≡ some r

@@ -1,7 +1,11 @@
 -- What a table gets as an answer.
 -- Assumes nothing.
+use Prim.Native.Nat.{ℕ}
+use mathlib.Core.Path.{_≡_}
 use mathlib.Core.Option.{Option, none, some}
 use Rattle.network.specs.declared.Refusal.{Refusal}
+use Rattle.network.specs.Networks.{Network, tableFault}
+use Rattle.network.specs.Replies.{refusalNumber, faultNumber}
 use Rattle.tables.specs.declared.TableAnswer.{TableAnswer}
 use Rattle.tables.specs.declared.TableAnswer.the-variants.{Accepted, Refused}
 
@@ -9,3 +13,13 @@ use Rattle.tables.specs.declared.TableAnswer.the-variants.{Accepted, Ref
 abbrev pub tableAnswer : Option Refusal → TableAnswer
 tableAnswer none = Accepted
 tableAnswer (some r) = Refused r
+
+-- Document 01's number of the answer, 0 where the table is accepted.
+abbrev pub tableNumber : TableAnswer → ℕ
+tableNumber Accepted = 0
+tableNumber (Refused r) = refusalNumber r
+
+-- What the check of a table answers, and its number.
+pub record TableChecked (N : Network) (r : TableAnswer) : Type 0 where
+  pub answer : r ≡ tableAnswer (tableFault N)
+  pub number : tableNumber r ≡ faultNumber (tableFault N)

@@ -11,11 +11,11 @@ ghost use Prim.Native.Nat.{_≤_, min};
 ghost use lib.ListN.{length, drop};
 ghost use lib.Dec.{leb, eqb};
 ghost use Rattle.lists.specs.Lists.{every};
-ghost use Rattle.network.specs.Networks.{goodEnds, tableFault};
+ghost use Rattle.network.specs.Networks.{goodEnds};
 ghost use Rattle.network.specs.Tables.{kindOf, tableOf};
 ghost use Rattle.network.specs.Orientations.{way};
 ghost use Rattle.tables.specs.Rows.{netOf, gatesIn, gatesHeld, waysRow, bytesRow};
-ghost use Rattle.tables.specs.Answers.{tableAnswer};
+ghost use Rattle.tables.specs.Answers.{TableChecked};
 
 // The kinds that have a number of their own.
 const GATED: u8 = 0;
@@ -62,7 +62,7 @@ fn good_ends(basins: u16, kinds: &[u8], a: &[u16], b: &[u16]) -> bool
 
 // What the table gets, in the order of document 01: the basin count, the number of reaches, the ends. Refuses: 1, 2, 3.
 pub fn table_check(basins: u16, kinds: &[u8], a: &[u16], b: &[u16]) -> TableAnswer
-    ensures { λ r. ⌜ r ≡ tableAnswer (tableFault (netOf basins (now (kinds .entry)) (now (a .entry)) (now (b .entry)))) ⌝ }
+    ensures { λ r. ⌜ TableChecked (netOf basins (now (kinds .entry)) (now (a .entry)) (now (b .entry))) r ⌝ }
 {
     if basins == 0 || basins as usize > MAX_BASINS {
         return TableAnswer::Refused(Refusal::BasinCount);

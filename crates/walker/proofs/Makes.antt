@@ -12,47 +12,36 @@ use Rattle.network.specs.declared.Refusal.{Refusal}
 use Rattle.network.specs.declared.Refusal.the-variants.{BadSetting}
 use Rattle.network.specs.Networks.{Network, maxReaches, tableFault, Accepted}
 use Rattle.network.specs.Settings.{isSetting, settingFault}
-use Rattle.network.specs.Plans.{isPlan}
+use Rattle.network.specs.Replies.{faultNumber, firstOf, checkFault}
 use Rattle.network.proofs.Networks.{gates-fit}
 use Rattle.network.proofs.Order.{setting-length}
-use Rattle.replies.specs.Answers.{yesOr, unlessRefused, checkOf}
 use Rattle.packing.proofs.Packings.{ByTable}
 use Rattle.walker.specs.declared.MakeAnswer.{MakeAnswer}
 use Rattle.walker.specs.declared.MakeAnswer.the-variants as M
 use Rattle.walker.specs.declared.Walker.{Walker}
 use Rattle.walker.specs.declared.Made.{Made}
-use Rattle.walker.specs.Walkers.{walkerOf, makeFault, makeOf, walkerMade, keptOf, Making}
-use Rattle.network.specs.Replies.{firstOf}
+use Rattle.walker.specs.Walkers.{walkerOf, makeOf, makeNumber, walkerMade, keptOf, Making}
 
 -- ---- what the making answers
 
 module _ (N : Network) (s : List ℕ) where
   -- 1, 2 and 3, by the table
-  pub make-faulty : {r : Refusal} → tableFault N ≡ some r → M.Refused r ≡ makeOf (makeFault N s)
-  unfolding makeFault
+  pub make-faulty : {r : Refusal} → tableFault N ≡ some r → M.Refused r ≡ makeOf (checkFault N s)
+  unfolding checkFault
   make-faulty e = rw e
 
   -- 8, by the setting
-  pub make-misfit : Accepted N → isSetting N s ≡ false → M.Refused BadSetting ≡ makeOf (makeFault N s)
-  unfolding makeFault settingFault
+  pub make-misfit : Accepted N → isSetting N s ≡ false → M.Refused BadSetting ≡ makeOf (checkFault N s)
+  unfolding checkFault settingFault
   make-misfit ok e = rw (ok, e)
 
-  pub make-fitting : Accepted N → isSetting N s ≡ true → M.Made ≡ makeOf (makeFault N s)
-  unfolding makeFault settingFault
+  pub make-fitting : Accepted N → isSetting N s ≡ true → M.Made ≡ makeOf (checkFault N s)
+  unfolding checkFault settingFault
   make-fitting ok e = rw (ok, e)
 
-  -- "where the check of that setting would refuse, so does the making"
-  pub make-as-check : checkOf N s ≡ unlessRefused (makeFault N s) (yesOr (isPlan N s))
-  unfolding checkOf makeFault
-  make-as-check = go (tableFault N)
-    where
-      go : (f : Option Refusal) → unlessRefused f (unlessRefused (settingFault N s) (yesOr (isPlan N s))) ≡ unlessRefused (firstOf f (settingFault N s)) (yesOr (isPlan N s))
-      go none = refl
-      go (some r) = refl
-
   -- what is not refused is a setting of an accepted table
-  made-held : makeFault N s ≡ none → length s ≤ maxReaches
-  unfolding makeFault settingFault
+  made-held : checkFault N s ≡ none → length s ≤ maxReaches
+  unfolding checkFault settingFault
   made-held e = go (tableFault N) refl (isSetting N s) refl e
     where
       go : (f : Option Refusal) → tableFault N ≡ f → (b : Bool) → isSetting N s ≡ b → firstOf f (cond b none (some BadSetting)) ≡ none → length s ≤ maxReaches
@@ -63,10 +52,14 @@ module _ (N : Network) (s : List ℕ) where
 
 -- of a refused table the making depends on the refusal only
 pub make-alike : (s : List ℕ) {r : Made} → ByTable (λ N. Making N s r)
-unfolding makeFault
+unfolding checkFault
 make-alike s N N′ x e e′ h =
-    let same : makeFault N s ≡ makeFault N′ s = rw (e, e′) in
-    record { answered = h .answered ∙ ap makeOf same; held = h .held ∙ ap (λ (o : Option Refusal). walkerMade o s) same }
+    let same : checkFault N s ≡ checkFault N′ s = rw (e, e′) in
+    record { answered = h .answered ∙ ap makeOf same; number = h .number ∙ ap faultNumber same; held = h .held ∙ ap (λ (o : Option Refusal). walkerMade o s) same }
+
+number-made : (f : Option Refusal) → makeNumber (makeOf f) ≡ faultNumber f
+number-made none = refl
+number-made (some r) = refl
 
 -- ---- the bytes kept
 
@@ -78,21 +71,21 @@ kept-walker : (f : Option Refusal) (s : List ℕ) → walkerOf (take (keptOf (ma
 kept-walker none s = ap walkerOf (take-length s)
 kept-walker (some r) s = refl
 
-module _ (N : Network) (s : List ℕ) {r : MakeAnswer} {n : ℕ} (e : r ≡ makeOf (makeFault N s)) (k : n ≡ keptOf r (length s)) where
-  kept-is : n ≡ keptOf (makeOf (makeFault N s)) (length s)
+module _ (N : Network) (s : List ℕ) {r : MakeAnswer} {n : ℕ} (e : r ≡ makeOf (checkFault N s)) (k : n ≡ keptOf r (length s)) where
+  kept-is : n ≡ keptOf (makeOf (checkFault N s)) (length s)
   kept-is = k ∙ ap (λ (x : MakeAnswer). keptOf x (length s)) e
 
   -- they are bytes of the setting, and no more than a walker holds
   pub kept-few : n ≤ length s
-  kept-few = omega (arith, kept-is, kept-within (makeFault N s) (length s))
+  kept-few = omega (arith, kept-is, kept-within (checkFault N s) (length s))
 
   pub kept-held : n ≤ maxReaches
-  kept-held = go (makeFault N s) refl
+  kept-held = go (checkFault N s) refl
     where
-      go : (f : Option Refusal) → makeFault N s ≡ f → n ≤ maxReaches
+      go : (f : Option Refusal) → checkFault N s ≡ f → n ≤ maxReaches
       go none f = omega (arith, kept-few, made-held N s f)
       go (some x) f = omega (arith, kept-is ∙ ap (λ (o : Option Refusal). keptOf (makeOf o) (length s)) f)
 
   -- the walker that they make is what the making hands back
   pub make-made : {w : Walker} → w .setting ≡ walkerOf (take n s) → Making N s (record { answer = r; walker = w })
-  make-made z = record { answered = e; held = z ∙ ap (λ (x : ℕ). walkerOf (take x s)) kept-is ∙ kept-walker (makeFault N s) s }
+  make-made z = record { answered = e; number = ap makeNumber e ∙ number-made (checkFault N s); held = z ∙ ap (λ (x : ℕ). walkerOf (take x s)) kept-is ∙ kept-walker (checkFault N s) s }

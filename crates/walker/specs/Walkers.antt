@@ -8,9 +8,9 @@ use mathlib.Core.List.{List, [], _++_}
 use lib.ListN.{length, take, drop, replicate}
 use lib.Dec.{leb}
 use Rattle.network.specs.declared.Refusal.{Refusal}
-use Rattle.network.specs.Networks.{Network, maxReaches, tableFault}
-use Rattle.network.specs.Settings.{gateCount, settingFault}
-use Rattle.network.specs.Replies.{Outcome, planAfter, nextReply, firstOf}
+use Rattle.network.specs.Networks.{Network, maxReaches}
+use Rattle.network.specs.Settings.{gateCount}
+use Rattle.network.specs.Replies.{refusalNumber, faultNumber, Outcome, checkFault, planAfter, nextReply}
 use Rattle.replies.specs.declared.Verdict.{Verdict}
 use Rattle.replies.specs.declared.Verdict.the-variants.{Plan, ShutIn, Lone}
 use Rattle.replies.specs.declared.Answer.{Answer}
@@ -31,9 +31,6 @@ settingIn N w = take (gateCount N) w
 
 -- "It is made from a table and a setting, with bytes past the setting 0; where the check of that setting would refuse, so does the making, and hands
 -- back a walker of zeros."
-unfoldable pub makeFault : Network → List ℕ → Option Refusal
-makeFault N s = firstOf (tableFault N) (settingFault N s)
-
 abbrev pub makeOf : Option Refusal → MakeAnswer
 makeOf (some r) = M.Refused r
 makeOf none = M.Made
@@ -42,9 +39,15 @@ abbrev pub walkerMade : Option Refusal → List ℕ → List ℕ
 walkerMade (some r) s = walkerOf []
 walkerMade none s = walkerOf s
 
+-- Document 01's number of the making's answer, 0 where a walker is made.
+abbrev pub makeNumber : MakeAnswer → ℕ
+makeNumber (M.Refused r) = refusalNumber r
+makeNumber M.Made = 0
+
 pub record Making (N : Network) (s : List ℕ) (r : Made) : Type 0 where
-  pub answered : r .answer ≡ makeOf (makeFault N s)
-  pub held : (r .walker) .setting ≡ walkerMade (makeFault N s) s
+  pub answered : r .answer ≡ makeOf (checkFault N s)
+  pub number : makeNumber (r .answer) ≡ faultNumber (checkFault N s)
+  pub held : (r .walker) .setting ≡ walkerMade (checkFault N s) s
 
 -- "A step is the next plan from the walker's setting, with the same buffers and refusals"; "a given plan becomes the setting of the walker after it";
 -- "after a refusal that is the same walker".

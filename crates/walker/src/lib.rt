@@ -7,9 +7,10 @@ ghost use mathlib.Core.List.{_++_};
 ghost use Prim.Native.Nat.{_≤_};
 ghost use lib.ListN.{length, take, drop};
 ghost use Rattle.network.specs.Networks.{maxReaches, net};
+ghost use Rattle.network.specs.Replies.{checkFault};
 ghost use Rattle.tables.specs.Rows.{netOf};
 ghost use Rattle.packing.specs.Tables.{OfTable};
-ghost use Rattle.walker.specs.Walkers.{walkerOf, makeFault, makeOf, keptOf, Making, advancedBy, Stepping};
+ghost use Rattle.walker.specs.Walkers.{walkerOf, makeOf, keptOf, Making, advancedBy, Stepping};
 use network::MAX_REACHES;
 use network::Reach;
 use network::Refusal;
@@ -97,7 +98,7 @@ fn advanced(answer: Answer, walker: Walker, plan: &[u8], g: usize) -> Walker
 
 // What the making of a walker answers: 1, 2 and 3 by the table, then 8 by the setting.
 fn make_answer(basins: u16, kinds: &[u8], a: &[u16], b: &[u16], setting: &[u8]) -> MakeAnswer
-    ensures { λ r. ⌜ r ≡ makeOf (makeFault (netOf basins (now (kinds .entry)) (now (a .entry)) (now (b .entry))) (now (setting .entry))) ⌝ }
+    ensures { λ r. ⌜ r ≡ makeOf (checkFault (netOf basins (now (kinds .entry)) (now (a .entry)) (now (b .entry))) (now (setting .entry))) ⌝ }
 {
     if let TableAnswer::Refused(r) = tables::table_check(basins, kinds, a, b) {
         return MakeAnswer::Refused(r);

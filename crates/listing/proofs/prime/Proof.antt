@@ -17,7 +17,7 @@ start c = c .before .before .before .before .before .before .before .before .bef
 level : (c : tie.After-enum-told3) → let s = start c .args in Level (s .basins) (s .kinds .now) (s .a .now) (s .b .now)
 level c = let s = start c .args in
     record {
-      accepted = yes-plan (netOf (s .basins) (s .kinds .now) (s .a .now) (s .b .now)) (s .setting .now) (sym (c .before .before .check .ensures) ∙ c .enum-told3 .given .1) .0;
+      accepted = yes-plan (netOf (s .basins) (s .kinds .now) (s .a .now) (s .b .now)) (s .setting .now) (sym (c .before .before .check .ensures .answer) ∙ c .enum-told3 .given .1) .0;
       ends-a = omega (arith, c .before .before .before .before .if1 .left);
       ends-b = omega (arith, c .before .before .before .if2 .left);
     }
@@ -68,7 +68,7 @@ returns-5 c =
     at-plan refl
     record {
       level = level k;
-      is-plan = yes-plan (netOf (s .basins) (s .kinds .now) (s .a .now) (s .b .now)) (s .setting .now) (sym (k .before .before .check .ensures) ∙ k .enum-told3 .given .1) .1;
+      is-plan = yes-plan (netOf (s .basins) (s .kinds .now) (s .a .now) (s .b .now)) (s .setting .now) (sym (k .before .before .check .ensures .answer) ∙ k .enum-told3 .given .1) .1;
       oriented = c .before .before .before .before .before .before .before .before .before .orient .ensures;
     }
     (c .before .before .before .before .index .ensures)

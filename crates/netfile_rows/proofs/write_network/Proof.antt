@@ -22,7 +22,7 @@ net c = let s = c .args in netOf (s .basins) (s .kinds .now) (s .a .now) (s .b .
 
 -- after the check the table is accepted, and so its reaches are few
 sound : (c : tie.After-enum-told) → Accepted (net (c .before .before .before .before .before .before .before))
-sound c = answer-accepted (tableFault (net (c .before .before .before .before .before .before .before))) (sym (c .before .before .table-check .ensures) ∙ c .enum-told .given .1)
+sound c = answer-accepted (tableFault (net (c .before .before .before .before .before .before .before))) (sym (c .before .before .table-check .ensures .answer) ∙ c .enum-told .given .1)
 
 few : (c : tie.After-row-count) → c .row-count .result ≤ maxReaches
 few c = omega (arith, accepted (net (c .before .before .before .before .before .before .before .before)) (sound (c .before)) .few-reaches, c .row-count .ensures)
@@ -45,7 +45,7 @@ enum-known-r c = search needs
 returns : tie.Need-returns
 returns c =
     let s = c .before .before .before .before .before .before .before .before in
-    write-refused (net s) (s .args .out .now) _ (answer-refused (tableFault (net s)) _ (sym (c .before .before .before .table-check .ensures) ∙ c .before .r .given .1))
+    write-refused (net s) (s .args .out .now) _ (answer-refused (tableFault (net s)) _ (sym (c .before .before .before .table-check .ensures .answer) ∙ c .before .r .given .1))
 
 enum-told : tie.Need-enum-told
 enum-told c = search needs

@@ -16,13 +16,13 @@ enum-known-r : tie.Need-enum-known-r
 enum-known-r c = search needs
 
 returns : tie.Need-returns
-returns c = let s = (c .before .before .before .before .before .before .before .before) in check-faulty (netOf (s .args .basins) (s .args .kinds .now) (s .args .a .now) (s .args .b .now)) (s .args .setting .now) _ (answer-refused (tableFault (netOf (s .args .basins) (s .args .kinds .now) (s .args .a .now) (s .args .b .now))) _ (sym ((c .before .before .before) .table-check .ensures) ∙ (c .before) .r .given .1))
+returns c = let s = (c .before .before .before .before .before .before .before .before) in check-faulty (netOf (s .args .basins) (s .args .kinds .now) (s .args .a .now) (s .args .b .now)) (s .args .setting .now) _ (answer-refused (tableFault (netOf (s .args .basins) (s .args .kinds .now) (s .args .a .now) (s .args .b .now))) _ (sym ((c .before .before .before) .table-check .ensures .answer) ∙ (c .before) .r .given .1))
 
 enum-told : tie.Need-enum-told
 enum-told c = search needs
 
 check-table-requires : tie.Need-check-table-requires
-check-table-requires c κs = let s = (c .before .before .before .before .before .before .before) in answer-accepted (tableFault (netOf (s .args .basins) (s .args .kinds .now) (s .args .a .now) (s .args .b .now))) (sym ((c .before .before) .table-check .ensures) ∙ c .enum-told .given .1)
+check-table-requires c κs = let s = (c .before .before .before .before .before .before .before) in answer-accepted (tableFault (netOf (s .args .basins) (s .args .kinds .now) (s .args .a .now) (s .args .b .now))) (sym ((c .before .before) .table-check .ensures .answer) ∙ c .enum-told .given .1)
 
 returns-2 : tie.Need-returns-2
 returns-2 c = search needs

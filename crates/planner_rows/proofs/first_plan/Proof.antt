@@ -16,13 +16,13 @@ enum-known-r : tie.Need-enum-known-r
 enum-known-r c = search needs
 
 returns : tie.Need-returns
-returns c = let s = (c .before .before .before .before .before .before .before .before .before) in refused-written (first-faulty (netOf (s .args .basins) (s .args .kinds .now) (s .args .a .now) (s .args .b .now)) _ _ _ (answer-refused (tableFault (netOf (s .args .basins) (s .args .kinds .now) (s .args .a .now) (s .args .b .now))) _ (sym ((c .before .before .before) .table-check .ensures) ∙ (c .before) .r .given .1)))
+returns c = let s = (c .before .before .before .before .before .before .before .before .before) in refused-written (first-faulty (netOf (s .args .basins) (s .args .kinds .now) (s .args .a .now) (s .args .b .now)) _ _ _ (answer-refused (tableFault (netOf (s .args .basins) (s .args .kinds .now) (s .args .a .now) (s .args .b .now))) _ (sym ((c .before .before .before) .table-check .ensures .answer) ∙ (c .before) .r .given .1)))
 
 enum-told : tie.Need-enum-told
 enum-told c = search needs
 
 first-table-requires : tie.Need-first-table-requires
-first-table-requires c κs = let s = (c .before .before .before .before .before .before .before .before .before .before) in answer-accepted (tableFault (netOf (s .args .basins) (s .args .kinds .now) (s .args .a .now) (s .args .b .now))) (sym ((c .before .before .before .before) .table-check .ensures) ∙ (c .before .before) .enum-told .given .1)
+first-table-requires c κs = let s = (c .before .before .before .before .before .before .before .before .before .before) in answer-accepted (tableFault (netOf (s .args .basins) (s .args .kinds .now) (s .args .a .now) (s .args .b .now))) (sym ((c .before .before .before .before) .table-check .ensures .answer) ∙ (c .before .before) .enum-told .given .1)
 
 same-length : tie.Need-same-length
 same-length c = search needs

@@ -65,7 +65,7 @@ same-length-2 c = search needs
 returns-2 : tie.Need-returns-2
 returns-2 c =
     let s = c .before .before .before .before .before .before .before .before .before .before .before .before .before .before in
-    trip-checked (net s) (s .args .sheet .now) (s .args .setting .now) (c .before .before .before .before .before .before .before .read-sheet .last .1 .1 .1 .1 .1 .0) _ (was-read (c .before .before .before)) (c .check .result) (c .check .ensures)
+    trip-checked (net s) (s .args .sheet .now) (s .args .setting .now) (c .before .before .before .before .before .before .before .read-sheet .last .1 .1 .1 .1 .1 .0) _ (was-read (c .before .before .before)) (c .check .result) (c .check .ensures .answer)
 
 pub read-then-check-spec : {M : Type 1} → statement M
 read-then-check-spec =

@@ -27,7 +27,7 @@ enum-told-2 c = search needs
 returns : tie.Need-returns
 returns c =
     let s = c .before .before .before .before .before .before .before .before .before in
-    kept-short (net s) (s .args .bytes .now) (s .args .setting .now) _ (sym (c .before .before .before .check .ensures) ∙ c .before .enum-told2 .given .1) refl (c .if1 .taken)
+    kept-short (net s) (s .args .bytes .now) (s .args .setting .now) _ (sym (c .before .before .before .check .ensures .answer) ∙ c .before .enum-told2 .given .1) refl (c .if1 .taken)
 
 put-bytes-requires : tie.Need-put-bytes-requires
 put-bytes-requires c κs = search needs
@@ -35,12 +35,12 @@ put-bytes-requires c κs = search needs
 returns-2 : tie.Need-returns-2
 returns-2 c =
     let s = c .before .before .before .before .before .before .before .before .before in
-    kept-refused (net s) (s .args .bytes .now) (s .args .setting .now) _ (sym (c .before .before .before .check .ensures) ∙ c .before .r .given .1) _ refl
+    kept-refused (net s) (s .args .bytes .now) (s .args .setting .now) _ (sym (c .before .before .before .check .ensures .answer) ∙ c .before .r .given .1) _ refl
 
 returns-3 : tie.Need-returns-3
 returns-3 c =
     let s = c .before .before .before .before .before .before .before .before in
-    kept-refused (net s) (s .args .bytes .now) (s .args .setting .now) _ (sym (c .before .before .check .ensures) ∙ c .enum-told .given .1) _ refl
+    kept-refused (net s) (s .args .bytes .now) (s .args .setting .now) _ (sym (c .before .before .check .ensures .answer) ∙ c .enum-told .given .1) _ refl
 
 same-length : tie.Need-same-length
 same-length c = search needs
@@ -49,7 +49,7 @@ returns-4 : tie.Need-returns-4
 returns-4 c =
     let s = c .before .before .before .before .before .before .before .before .before .before .before .before .before in
     let put = c .before .before .put-bytes in
-    kept-plan (net s) (s .args .bytes .now) (s .args .setting .now) _ (sym (c .before .before .before .before .before .before .before .check .ensures) ∙ c .before .before .before .before .before .enum-told2 .given .1) refl
+    kept-plan (net s) (s .args .bytes .now) (s .args .setting .now) _ (sym (c .before .before .before .before .before .before .before .check .ensures .answer) ∙ c .before .before .before .before .before .enum-told2 .given .1) refl
     (put .last .0) (c .before .before .before .before .if1 .left) (put .ensures)
 
 pub keep-plan-spec : {M : Type 1} → statement M

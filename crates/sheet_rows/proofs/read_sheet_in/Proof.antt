@@ -27,7 +27,7 @@ net c = let s = c .args in netOf (s .basins) (s .kinds .now) (s .a .now) (s .b .
 
 -- after the check the table is accepted
 sound : (c : tie.After-enum-told) → Accepted (net (c .before .before .before .before .before .before .before .before .before))
-sound c = answer-accepted (tableFault (net (c .before .before .before .before .before .before .before .before .before))) (sym (c .before .before .table-check .ensures) ∙ c .enum-told .given .1)
+sound c = answer-accepted (tableFault (net (c .before .before .before .before .before .before .before .before .before))) (sym (c .before .before .table-check .ensures .answer) ∙ c .enum-told .given .1)
 
 -- what is held where the answer is r, and where a count was read
 abbrev HeldAs : tie.After-read-records → SheetAnswer → Type 0
@@ -47,7 +47,7 @@ enum-known-r c = search needs
 returns : tie.Need-returns
 returns c =
     let s = c .before .before .before .before .before .before .before .before .before .before in
-    got-table (net s) (s .args .sheet .now) (s .args .setting .now) _ (answer-refused (tableFault (net s)) _ (sym (c .before .before .before .table-check .ensures) ∙ c .before .r .given .1))
+    got-table (net s) (s .args .sheet .now) (s .args .setting .now) _ (answer-refused (tableFault (net s)) _ (sym (c .before .before .before .table-check .ensures .answer) ∙ c .before .r .given .1))
 
 enum-told : tie.Need-enum-told
 enum-told c = search needs

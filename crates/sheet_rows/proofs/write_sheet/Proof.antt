@@ -27,17 +27,17 @@ enum-told-2 c = search needs
 write-fitting-requires : tie.Need-write-fitting-requires
 write-fitting-requires c κs =
     let s = c .before .before .before .before .before .before .before .before .before in
-    yes-fits (net s) (s .args .setting .now) (sym (c .before .before .before .check .ensures) ∙ c .before .enum-told2 .given .1)
+    yes-fits (net s) (s .args .setting .now) (sym (c .before .before .before .check .ensures .answer) ∙ c .before .enum-told2 .given .1)
 
 returns : tie.Need-returns
 returns c =
     let s = c .before .before .before .before .before .before .before .before .before in
-    wrote-refused (net s) (s .args .setting .now) (s .args .out .now) _ _ (sym (c .before .before .before .check .ensures) ∙ c .before .r .given .1) refl
+    wrote-refused (net s) (s .args .setting .now) (s .args .out .now) _ _ (sym (c .before .before .before .check .ensures .answer) ∙ c .before .r .given .1) refl
 
 returns-2 : tie.Need-returns-2
 returns-2 c =
     let s = c .before .before .before .before .before .before .before .before in
-    wrote-refused (net s) (s .args .setting .now) (s .args .out .now) _ _ (sym (c .before .before .check .ensures) ∙ c .enum-told .given .1) refl
+    wrote-refused (net s) (s .args .setting .now) (s .args .out .now) _ _ (sym (c .before .before .check .ensures .answer) ∙ c .enum-told .given .1) refl
 
 same-length : tie.Need-same-length
 same-length c = search needs
@@ -47,7 +47,7 @@ returns-3 c =
     let s = c .before .before .before .before .before .before .before .before .before .before .before .before in
     let wrote = c .before .before .write-fitting in
     wrote-plan (net s) (s .args .setting .now) (s .args .out .now) (wrote .result) (wrote .last .1 .1 .1 .1 .0)
-    (sym (c .before .before .before .before .before .before .check .ensures) ∙ c .before .before .before .before .enum-told2 .given .1) (wrote .ensures)
+    (sym (c .before .before .before .before .before .before .check .ensures .answer) ∙ c .before .before .before .before .enum-told2 .given .1) (wrote .ensures)
 
 pub write-sheet-spec : {M : Type 1} → statement M
 write-sheet-spec =

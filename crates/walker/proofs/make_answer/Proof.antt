@@ -18,7 +18,7 @@ net c = let s = c .args in netOf (s .basins) (s .kinds .now) (s .a .now) (s .b .
 
 -- after the first test the table is accepted
 sound : (c : tie.After-enum-told) → Accepted (net (c .before .before .before .before .before .before .before))
-sound c = answer-accepted (tableFault (net (c .before .before .before .before .before .before .before))) (sym (c .before .before .table-check .ensures) ∙ c .enum-told .given .1)
+sound c = answer-accepted (tableFault (net (c .before .before .before .before .before .before .before))) (sym (c .before .before .table-check .ensures .answer) ∙ c .enum-told .given .1)
 
 -- the second test is whether the setting fits
 tested : (c : tie.After-fits2) → let s = c .before .before .before .before .before .before .before .before .before .before in isSetting (net s) (s .args .setting .now) ≡ c .fits2 .result
@@ -36,7 +36,7 @@ enum-known-r c = search needs
 returns : tie.Need-returns
 returns c =
     let s = c .before .before .before .before .before .before .before .before in
-    make-faulty (net s) (s .args .setting .now) (answer-refused (tableFault (net s)) _ (sym (c .before .before .before .table-check .ensures) ∙ c .before .r .given .1))
+    make-faulty (net s) (s .args .setting .now) (answer-refused (tableFault (net s)) _ (sym (c .before .before .before .table-check .ensures .answer) ∙ c .before .r .given .1))
 
 enum-told : tie.Need-enum-told
 enum-told c = search needs
