@@ -68,14 +68,7 @@ pub fn next_plan(
     ) {
         return Answer::Refused(r);
     }
+    let n = basins as usize;
     let m = tables::row_count(kinds, a, b);
-    next_accepted(
-        basins as usize,
-        &kinds[..m],
-        &a[..m],
-        &b[..m],
-        setting,
-        plan,
-        marks,
-    )
+    next_accepted(n, &kinds[..m], &a[..m], &b[..m], setting, plan, marks)
 }
