@@ -93,11 +93,9 @@ pub fn report(
         }
         Found::Bridge(r) => {
             let count = write_marks(n, seen, other_than(seen[0]), marks);
+            let reach = r as u16;
             Reply {
-                verdict: Verdict::Lone(Finding {
-                    reach: r as u16,
-                    count,
-                }),
+                verdict: Verdict::Lone(Finding { reach, count }),
             }
         }
         Found::Oriented => {

@@ -33,8 +33,8 @@ other-than-requires c κs = search needs
 write-marks-requires-2 : tie.Need-write-marks-requires-2
 write-marks-requires-2 c κs = search needs
 
-cast-t21 : tie.Need-cast-t21
-cast-t21 c = record { fits = omega (arith, reach-below ((c .before .before .before .before .before .before .before) .found .given .1) ((c .before .before .before .before .before .before .before .before .before .before .before .before .before .before) .pre .reach-fits)) }
+cast-reach : tie.Need-cast-reach
+cast-reach c = record { fits = omega (arith, reach-below ((c .before .before .before .before .before .before .before) .found .given .1) ((c .before .before .before .before .before .before .before .before .before .before .before .before .before .before) .pre .reach-fits)) }
 
 enum-told-2 : tie.Need-enum-told-2
 enum-told-2 c = search needs
@@ -70,7 +70,7 @@ report-spec =
     shared-slice-read-other-than
     other-than-requires
     write-marks-requires-2
-    cast-t21
+    cast-reach
     enum-told-2
     gather-requires
     same-length
