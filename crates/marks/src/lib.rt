@@ -18,7 +18,10 @@ fn mark_bit(n: usize, seen: &[u8], x: u8, b: usize) -> u8
     requires { ⌜ n ≤ length (now seen) ⌝ }
     ensures { λ r. ⌜ r ≡ bit (elem b (markedSet n (now (seen .entry)) x)) ⌝ }
 {
-    if b < n && seen[b] == x { 1 } else { 0 }
+    if b >= n {
+        return 0;
+    }
+    if seen[b] == x { 1 } else { 0 }
 }
 
 // Byte k of the marks, which takes the bits of its eight basins from the highest to the lowest.

@@ -1,27 +1,33 @@
--- The public calls: rows cut to one length, refusals by number, and what the reply then is.
+-- The public calls: rows cut to one length, and what the reply is where nothing is refused.
 -- Assumes nothing.
-use Prim.Native.Nat.{ℕ, _≤_, _<_}
+use Prim.Native.Nat.{ℕ}
 use native.Mathlib.Omega.{arith}
-use mathlib.Core.Path.{_≡_, ap, subst, subst⁻¹, _∙_}
+use mathlib.Core.Path.{_≡_, sym, ap, subst, subst⁻¹, _∙_}
 use mathlib.Core.Bool.{Bool, true}
-use mathlib.Core.Option.{none, some}
+use mathlib.Core.Option.{none}
 use mathlib.Core.List.{List}
 use lib.ListN.{length, take}
-use borrow.Author.Tests.{le-leb, lt-leb}
-use Rattle.network.specs.declared.Refusal.the-variants.{ShortBuffer}
-use Rattle.network.specs.Networks.{Network, Accepted}
+use Rattle.network.specs.Networks.{Network, tableFault, Accepted}
 use Rattle.network.specs.Tables.{tableOf}
-use Rattle.network.specs.Settings.{gateCount, isSetting}
+use Rattle.network.specs.Settings.{isSetting, settingFault}
 use Rattle.network.specs.Plans.{stronglyConnectedUnder}
-use Rattle.network.specs.Marks.{markBytes}
-use Rattle.network.specs.Replies.{Outcome, firstAnswer, nextAnswer, roomFault, firstReply, nextReply}
-use Rattle.tables.specs.Rows.{netOf, gatesIn}
+use Rattle.network.specs.Replies.{Outcome, firstOf, checkFault, firstAnswer, nextAnswer, roomFault, firstReply, nextReply}
+use Rattle.tables.specs.Rows.{netOf}
 use Rattle.tables.proofs.Cuts.{cut-ends-a, cut-ends-b, cut-net, cut-gates}
+use Rattle.refusals.proofs.Dues.{neither-due, setting-fits, room-left}
+use Rattle.seeking.specs.Levels.{Level}
 use Rattle.replies.specs.declared.Answer.{Answer}
 use Rattle.replies.specs.declared.CheckAnswer.{CheckAnswer}
 use Rattle.replies.specs.Answers.{Replied, yesOr, CheckCall}
-use Rattle.seeking.specs.Levels.{Level}
-use Rattle.replies.proofs.Refusals.{check-fitting, first-roomy, next-roomy}
+use Rattle.replies.proofs.Refusals.{check-fitting, first-by, next-by}
+use Rattle.planning.specs.Rooms.{Lent}
+
+-- ---- where nothing is refused
+
+-- the table is accepted and the setting is one of its settings
+pub sound : (N : Network) (s : List ℕ) → checkFault N s ≡ none → Accepted N × (isSetting N s ≡ true)
+unfolding checkFault
+sound N s e = let d = neither-due (tableFault N) (settingFault N s) e in (d .0, setting-fits N s (d .1))
 
 -- ---- rows cut to the length of the table
 
@@ -29,38 +35,28 @@ module _ (n : ℕ) (ks xs ys : List ℕ) (m : ℕ) (e : m ≡ length (tableOf ks
   pub cut-level : Accepted (netOf n ks xs ys) → Level n (take m ks) (take m xs) (take m ys)
   cut-level ok = record { accepted = subst⁻¹ (λ (N : Network). Accepted N) (cut-net ks xs ys m e n) ok; ends-a = cut-ends-a ks xs ys m e; ends-b = cut-ends-b ks xs ys m e }
 
-  -- ---- the lent buffers
+  pub cut-lent : (plan marks : List ℕ) → Accepted (netOf n ks xs ys) → roomFault (netOf n ks xs ys) (length plan) (length marks) ≡ none → Lent n (take m ks) (take m xs) (take m ys) plan marks
+  cut-lent plan marks ok room =
+      let left = room-left (netOf n ks xs ys) (length plan) (length marks) room in
+      record { level = cut-level ok; plan-room = omega (arith, left .0, cut-gates ks xs ys m e n); marks-room = left .1 }
 
-  module _ (planLength marksLength : ℕ) where
-    pub short-plan : planLength < gatesIn (take m ks) → roomFault (netOf n ks xs ys) planLength marksLength ≡ some ShortBuffer
-    unfolding roomFault
-    short-plan l = rw (lt-leb (gateCount (netOf n ks xs ys)) planLength (omega (arith, cut-gates ks xs ys m e n)))
+  pub cut-fits : (s : List ℕ) → isSetting (netOf n ks xs ys) s ≡ true → isSetting (netOf n (take m ks) (take m xs) (take m ys)) s ≡ true
+  cut-fits s fit = ap (λ (N : Network). isSetting N s) (cut-net ks xs ys m e n) ∙ fit
 
-    pub short-marks : gatesIn (take m ks) ≤ planLength → marksLength < markBytes → roomFault (netOf n ks xs ys) planLength marksLength ≡ some ShortBuffer
-    unfolding roomFault
-    short-marks k l = rw (le-leb (gateCount (netOf n ks xs ys)) planLength (omega (arith, cut-gates ks xs ys m e n)), lt-leb markBytes marksLength l)
+-- ---- the reply of the cut rows is the reply of the network
 
-    pub long-enough : gatesIn (take m ks) ≤ planLength → markBytes ≤ marksLength → roomFault (netOf n ks xs ys) planLength marksLength ≡ none
-    unfolding roomFault
-    long-enough k l = rw (le-leb (gateCount (netOf n ks xs ys)) planLength (omega (arith, cut-gates ks xs ys m e n)), le-leb markBytes marksLength l)
+module _ {N N′ : Network} (same : N′ ≡ N) where
+  pub first-given : {plan marks plan′ marks′ : List ℕ} {r : Answer} (p q : ℕ) → firstOf (tableFault N) (roomFault N p q) ≡ none
+      → Replied (firstAnswer N′) plan marks plan′ marks′ r → Replied (firstReply N p q) plan marks plan′ marks′ r
+  first-given {plan} {marks} {plan′} {marks′} {r} p q ok w =
+      subst⁻¹ (λ (o : Outcome). Replied o plan marks plan′ marks′ r) (first-by N p q ok)
+      (subst (λ (M : Network). Replied (firstAnswer M) plan marks plan′ marks′ r) same w)
 
--- ---- refusals
+  pub next-given : {plan marks plan′ marks′ : List ℕ} {r : Answer} (s : List ℕ) (p q : ℕ) → firstOf (checkFault N s) (roomFault N p q) ≡ none
+      → Replied (nextAnswer N′ s) plan marks plan′ marks′ r → Replied (nextReply N s p q) plan marks plan′ marks′ r
+  next-given {plan} {marks} {plan′} {marks′} {r} s p q ok w =
+      subst⁻¹ (λ (o : Outcome). Replied o plan marks plan′ marks′ r) (next-by N s p q ok)
+      (subst (λ (M : Network). Replied (nextAnswer M s) plan marks plan′ marks′ r) same w)
 
--- ---- the check
-
--- the reply of the cut rows is the reply of the network
-pub first-given : {N N′ : Network} {plan marks plan′ marks′ : List ℕ} {r : Answer} (p q : ℕ) → N′ ≡ N → Accepted N → roomFault N p q ≡ none → Replied (firstAnswer N′) plan marks plan′ marks′ r → Replied (firstReply N p q) plan marks plan′ marks′ r
-first-given {N} {plan} {marks} {plan′} {marks′} {r} p q same ok room w =
-    subst⁻¹ (λ (o : Outcome). Replied o plan marks plan′ marks′ r) (first-roomy N p q ok room)
-    (subst (λ (M : Network). Replied (firstAnswer M) plan marks plan′ marks′ r) same w)
-
-pub check-given : (N N′ : Network) (s : List ℕ) (b : Bool) (v : CheckAnswer) → N′ ≡ N → Accepted N → isSetting N s ≡ true → b ≡ stronglyConnectedUnder N′ s → v ≡ yesOr b → CheckCall N s v
-check-given N N′ s b v same ok fit e f = subst⁻¹ (CheckCall N s) f (check-fitting N s b ok fit (e ∙ ap (λ (M : Network). stronglyConnectedUnder M s) same))
-
--- ---- the next plan
-
-pub next-given : {N N′ : Network} {plan marks plan′ marks′ : List ℕ} {r : Answer} (s : List ℕ) (p q : ℕ) → N′ ≡ N → Accepted N → isSetting N s ≡ true → roomFault N p q ≡ none
-    → Replied (nextAnswer N′ s) plan marks plan′ marks′ r → Replied (nextReply N s p q) plan marks plan′ marks′ r
-next-given {N} {plan} {marks} {plan′} {marks′} {r} s p q same ok fit room w =
-    subst⁻¹ (λ (o : Outcome). Replied o plan marks plan′ marks′ r) (next-roomy N s p q ok fit room)
-    (subst (λ (M : Network). Replied (nextAnswer M s) plan marks plan′ marks′ r) same w)
+  pub check-given : (s : List ℕ) {b : Bool} {v : CheckAnswer} → checkFault N s ≡ none → b ≡ stronglyConnectedUnder N′ s → v ≡ yesOr b → CheckCall N s v
+  check-given s {b} ok e f = subst⁻¹ (CheckCall N s) f (check-fitting N s b ok (sound N s ok .1) (e ∙ ap (λ (M : Network). stronglyConnectedUnder M s) same))

@@ -8,6 +8,7 @@ ghost use lib.ListN.{length};
 ghost use Rattle.network.specs.Marks.{markBytes};
 ghost use Rattle.marks.specs.Sets.{markedSet};
 ghost use Rattle.seeking.specs.Found.{otherThan};
+ghost use Rattle.replies.specs.Answers.{yesOr};
 ghost use Rattle.replies.specs.Reports.{MarksWritten, Reportable, Reported};
 
 // A finding: the number of the lone reach (0 where the network is shut in) and the count of marked basins.
@@ -39,6 +40,17 @@ pub enum CheckAnswer {
     Refused(Refusal),
     Yes,
     No,
+}
+
+// Yes or no.
+pub fn yes_or(yes: bool) -> CheckAnswer
+    ensures { λ r. ⌜ r ≡ yesOr yes ⌝ }
+{
+    if yes {
+        CheckAnswer::Yes
+    } else {
+        CheckAnswer::No
+    }
 }
 
 // Marks the basins whose byte is x, and counts them.
@@ -81,11 +93,9 @@ pub fn report(
         }
         Found::Bridge(r) => {
             let count = write_marks(n, seen, other_than(seen[0]), marks);
+            let reach = r as u16;
             Reply {
-                verdict: Verdict::Lone(Finding {
-                    reach: r as u16,
-                    count,
-                }),
+                verdict: Verdict::Lone(Finding { reach, count }),
             }
         }
         Found::Oriented => {

@@ -117,10 +117,10 @@ pub fn fits(kinds: &[u8], setting: &[u8]) -> bool
 fn way_of(kind: u8, setting: &[u8], k: usize) -> u8
     ensures { λ r. ⌜ r ≡ way (kindOf kind) (drop k (now (setting .entry))) ⌝ }
 {
-    if kind == FLAP {
-        0
-    } else if kind == GATED && k < setting.len() {
+    if kind == GATED && k < setting.len() {
         setting[k]
+    } else if kind == FLAP {
+        0
     } else {
         EITHER
     }

@@ -1,26 +1,29 @@
--- `mark_bit` meets its contract.
+-- `mark_bit` meets its contract: no basin from n on is marked, and one below is where its byte is x.
 -- Assumes nothing.
-use borrow.Author.Needs.{needs}
-use mathlib.Core.Logic.{⊎-elim}
+use native.Mathlib.Omega.{arith}
+use lib.ListN.{getD}
+use borrow.Author.Tests.{eq-eqb, ne-eqb}
 use Rattle.marks.proofs.Bytes.{marked-below, marked-past}
 use Rattle.marks.proofs.mark_bit.Statement.{statement}
 use Rattle.marks.proofs.mark_bit.Tie as tie
 
-shared-slice-read-if2 : tie.Need-shared-slice-read-if2
-shared-slice-read-if2 c = search needs
-
 returns : tie.Need-returns
 returns c =
-    let a = c .before .before .before .args in
-    rw (marked-below (a .n) (a .seen .now) (a .x) (a .b) (c .before .before .if1 .taken), c .if2 .taken)
+    let a = c .before .args in
+    rw (marked-past (a .n) (a .seen .now) (a .x) (a .b) (c .if1 .taken))
+
+shared-slice-read-if2 : tie.Need-shared-slice-read-if2
+shared-slice-read-if2 c = omega arith
 
 returns-2 : tie.Need-returns-2
 returns-2 c =
-    let a = c .before .args in
-    ⊎-elim
-    (λ w. rw (marked-below (a .n) (a .seen .now) (a .x) (a .b) (w .0 .taken), w .2 .left))
-    (λ w. rw (marked-past (a .n) (a .seen .now) (a .x) (a .b) (w .left)))
-    (c .if1 .came)
+    let a = c .before .before .before .args in
+    rw (marked-below (a .n) (a .seen .now) (a .x) (a .b) (c .before .before .if1 .left), eq-eqb (getD (a .seen .now) (a .b) 0) (a .x) (omega arith))
+
+returns-3 : tie.Need-returns-3
+returns-3 c =
+    let a = c .before .before .before .args in
+    rw (marked-below (a .n) (a .seen .now) (a .x) (a .b) (c .before .before .if1 .left), ne-eqb (getD (a .seen .now) (a .b) 0) (a .x) (λ e. omega arith))
 
 pub mark-bit-spec : {M : Type 1} → statement M
-mark-bit-spec = tie.close (tie.spec shared-slice-read-if2 returns returns-2)
+mark-bit-spec = tie.close (tie.spec returns shared-slice-read-if2 returns-2 returns-3)

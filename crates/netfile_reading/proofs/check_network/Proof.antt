@@ -63,7 +63,7 @@ returns-4 c =
     ∙ sym
     (ap readAnswer
     (head-good (c .before .before .before .before .before .before .before .before .before .args .file .now) _ (head (c .before .before .before .before)) (word .result) (word .ensures) (omega (arith, c .before .before .if1 .left))
-    (c .before .if2 .left)))
+    (omega (arith, c .before .if2 .left))))
 
 pub check-network-spec : {M : Type 1} → statement M
 check-network-spec =

@@ -103,8 +103,8 @@ loop-again c =
     scan-next (c .before .before .before .before .before .before .before .before .before .before .loop .inv)
     (here (c .before .before .before .before .before .before)) (c .before .before .before .before .before .if1 .left)
     (c .before .before .before .before .if3 .left)
-    (rw (c .before .before .before .word-at .ensures) at (c .before .before .if4 .left))
-    (rw (c .before .word-at2 .ensures) at (c .if5 .left))
+    (omega (arith, c .before .before .before .word-at .ensures, c .before .before .if4 .left))
+    (omega (arith, c .before .word-at2 .ensures, c .if5 .left))
 
 pub check-reaches-spec : {M : Type 1} → statement M
 check-reaches-spec =

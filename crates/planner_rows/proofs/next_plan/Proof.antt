@@ -1,28 +1,71 @@
--- `planner_rows::next_plan` meets its contract: 1, 2 and 3 before all else.
+-- `planner_rows::next_plan` meets its contract: what is refused, and then the reply to the rows cut to the table's length.
 -- Assumes nothing.
-use mathlib.Core.Path.{sym, _∙_}
-use Rattle.network.specs.Networks.{tableFault}
+use mathlib.Core.Path.{_≡_, sym, _∙_}
+use mathlib.Core.Option.{none}
+use lib.ListN.{length}
+use lib.Seq.{length-take-le}
+use borrow.Author.Needs.{needs}
+use Rattle.network.specs.Networks.{Network}
+use Rattle.network.specs.Replies.{firstOf, checkFault, roomFault}
 use Rattle.tables.specs.Rows.{netOf}
 use Rattle.tables.proofs.Faults.{answer-refused, answer-accepted}
-use Rattle.replies.proofs.Refusals.{refused-written, next-faulty}
-use borrow.Author.Needs.{needs}
+use Rattle.tables.proofs.Cuts.{cut-kinds, cut-a, cut-b, cut-net}
+use Rattle.planner_rows.proofs.Calls.{sound, cut-lent, cut-fits, next-given}
+use Rattle.refusals.proofs.Dues.{neither-due}
+use Rattle.replies.proofs.Refusals.{refused-written, next-by}
 use Rattle.planner_rows.proofs.next_plan.Statement.{statement}
 use Rattle.planner_rows.proofs.next_plan.Tie as tie
 
-table-check-requires : tie.Need-table-check-requires
-table-check-requires c κs = search needs
+-- the network that is lent
+abbrev net : tie.Start → Network
+net c = let s = c .args in netOf (s .basins) (s .kinds .now) (s .a .now) (s .b .now)
+
+-- where nothing is refused
+clear : (c : tie.After-enum-told) → let s = c .before .before .before .before .before .before .before .before .before in firstOf (checkFault (net s) (s .args .setting .now)) (roomFault (net s) (length (s .args .plan .now)) (length (s .args .marks .now))) ≡ none
+clear c = answer-accepted _ (sym (c .before .before .next-refusal .ensures) ∙ c .enum-told .given .1)
+
+next-refusal-requires : tie.Need-next-refusal-requires
+next-refusal-requires c κs = search needs
 
 enum-known-r : tie.Need-enum-known-r
 enum-known-r c = search needs
 
 returns : tie.Need-returns
-returns c = let s = (c .before .before .before .before .before .before .before .before .before .before) in refused-written (next-faulty (netOf (s .args .basins) (s .args .kinds .now) (s .args .a .now) (s .args .b .now)) (s .args .setting .now) _ _ _ (answer-refused (tableFault (netOf (s .args .basins) (s .args .kinds .now) (s .args .a .now) (s .args .b .now))) _ (sym ((c .before .before .before) .table-check .ensures .answer) ∙ (c .before) .r .given .1)))
+returns c = let s = c .before .before .before .before .before .before .before .before .before .before in refused-written (next-by (net s) (s .args .setting .now) _ _ (answer-refused (firstOf (checkFault (net s) (s .args .setting .now)) (roomFault (net s) (length (s .args .plan .now)) (length (s .args .marks .now)))) _ (sym (c .before .before .before .next-refusal .ensures) ∙ c .before .r .given .1)))
 
 enum-told : tie.Need-enum-told
 enum-told c = search needs
 
-next-table-requires : tie.Need-next-table-requires
-next-table-requires c κs = let s = (c .before .before .before .before .before .before .before .before .before .before .before) in answer-accepted (tableFault (netOf (s .args .basins) (s .args .kinds .now) (s .args .a .now) (s .args .b .now))) (sym ((c .before .before .before .before) .table-check .ensures .answer) ∙ (c .before .before) .enum-told .given .1)
+row-count-requires : tie.Need-row-count-requires
+row-count-requires c κs = search needs
+
+slice-aggregate-next-accepted : tie.Need-slice-aggregate-next-accepted
+slice-aggregate-next-accepted c =
+    let s = c .before .before .before .before .before .before .before .before .before .before .before .args in
+    let m = c .before .row-count in
+    sym (length-take-le _ (s .kinds .now) (cut-kinds (s .kinds .now) (s .a .now) (s .b .now) (m .result) (m .ensures)))
+
+slice-aggregate-next-accepted-2 : tie.Need-slice-aggregate-next-accepted-2
+slice-aggregate-next-accepted-2 c =
+    let s = c .before .before .before .before .before .before .before .before .before .before .before .before .args in
+    let m = c .before .before .row-count in
+    sym (length-take-le _ (s .a .now) (cut-a (s .kinds .now) (s .a .now) (s .b .now) (m .result) (m .ensures)))
+
+slice-aggregate-next-accepted-3 : tie.Need-slice-aggregate-next-accepted-3
+slice-aggregate-next-accepted-3 c =
+    let s = c .before .before .before .before .before .before .before .before .before .before .before .before .before .args in
+    let m = c .before .before .before .row-count in
+    sym (length-take-le _ (s .b .now) (cut-b (s .kinds .now) (s .a .now) (s .b .now) (m .result) (m .ensures)))
+
+next-accepted-requires : tie.Need-next-accepted-requires
+next-accepted-requires c κs =
+    let s = c .before .before .before .before .before .before .before .before .before .before .before .before .before .before .before in
+    let m = c .before .before .before .before .before .row-count in
+    let due = neither-due (checkFault (net s) (s .args .setting .now)) (roomFault (net s) (length (s .args .plan .now)) (length (s .args .marks .now))) (clear (c .before .before .before .before .before .before)) in
+    let ok = sound (net s) (s .args .setting .now) (due .0) in (
+      cut-lent (s .args .basins) (s .args .kinds .now) (s .args .a .now) (s .args .b .now) (m .result) (m .ensures) (s .args .plan .now) (s .args .marks .now) (ok .0) (due .1),
+      cut-fits (s .args .basins) (s .args .kinds .now) (s .args .a .now) (s .args .b .now) (m .result) (m .ensures) (s .args .setting .now) (ok .1),
+    )
 
 same-length : tie.Need-same-length
 same-length c = search needs
@@ -31,17 +74,24 @@ same-length-2 : tie.Need-same-length-2
 same-length-2 c = search needs
 
 returns-2 : tie.Need-returns-2
-returns-2 c = search needs
+returns-2 c =
+    let s = c .before .before .before .before .before .before .before .before .before .before .before .before .before .before .before .before .before .before .before .before in
+    let m = c .before .before .before .before .before .before .before .before .before .before .row-count in
+    next-given (cut-net (s .args .kinds .now) (s .args .a .now) (s .args .b .now) (m .result) (m .ensures) (s .args .basins)) (s .args .setting .now) _ _ (clear (c .before .before .before .before .before .before .before .before .before .before .before)) (c .before .before .before .before .next-accepted .ensures)
 
 pub next-plan-spec : {M : Type 1} → statement M
 next-plan-spec =
     tie.close
     (tie.spec
-    table-check-requires
+    next-refusal-requires
     enum-known-r
     returns
     enum-told
-    next-table-requires
+    row-count-requires
+    slice-aggregate-next-accepted
+    slice-aggregate-next-accepted-2
+    slice-aggregate-next-accepted-3
+    next-accepted-requires
     same-length
     same-length-2
     returns-2)

@@ -1,6 +1,7 @@
 -- `replies::report` meets its contract: marks and count of a finding, or the bytes of a plan.
 -- Assumes nothing.
 use Prim.Native.Nat.{ℕ, _<_}
+use native.Mathlib.Omega.{arith}
 use mathlib.Core.Path.{_≡_, subst}
 use Rattle.seeking.specs.declared.Found.{Found}
 use Rattle.seeking.specs.declared.Found.the-variants.{Bridge}
@@ -32,8 +33,8 @@ other-than-requires c κs = search needs
 write-marks-requires-2 : tie.Need-write-marks-requires-2
 write-marks-requires-2 c κs = search needs
 
-cast-t21 : tie.Need-cast-t21
-cast-t21 c = record { fits = reach-below ((c .before .before .before .before .before .before .before) .found .given .1) ((c .before .before .before .before .before .before .before .before .before .before .before .before .before .before) .pre .reach-fits) }
+cast-reach : tie.Need-cast-reach
+cast-reach c = record { fits = omega (arith, reach-below ((c .before .before .before .before .before .before .before) .found .given .1) ((c .before .before .before .before .before .before .before .before .before .before .before .before .before .before) .pre .reach-fits)) }
 
 enum-told-2 : tie.Need-enum-told-2
 enum-told-2 c = search needs
@@ -51,7 +52,7 @@ same-length-2 : tie.Need-same-length-2
 same-length-2 c = search needs
 
 returns-2 : tie.Need-returns-2
-returns-2 c = reported-lone ((c .before .before .before .before .before .before .before) .found .given .1) ((c .before .before .before .before) .other-than .ensures) ((c .before .before) .write-marks2 .ensures)
+returns-2 c = reported-lone ((c .before .before .before .before .before .before .before) .found .given .1) ((c .before .before .before .before) .other-than .ensures) ((c .before .before) .write-marks2 .ensures) (omega arith) (omega arith)
 
 same-length-3 : tie.Need-same-length-3
 same-length-3 c = search needs
@@ -69,7 +70,7 @@ report-spec =
     shared-slice-read-other-than
     other-than-requires
     write-marks-requires-2
-    cast-t21
+    cast-reach
     enum-told-2
     gather-requires
     same-length

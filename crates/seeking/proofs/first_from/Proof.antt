@@ -16,7 +16,7 @@ cast-first-unreached c = omega (arith, c .before .if1 .taken, c .before .before 
 first-unreached-requires : tie.Need-first-unreached-requires
 first-unreached-requires c κs =
     let k = c .before .before .before .before .before .before .before .before .shut-in-basin .kept in
-    (ready-notes _ _ (c .before .before .before .before .before .before .before .before .before .before .before .before .before .before .before .before .before .before .before .before .pre .0) (k .1 .1 .1 .1 .1 .1 .0) (k .1 .1 .1 .1 .1 .1 .1 .0), c .before .before .before .if1 .taken)
+    (ready-notes _ _ (c .before .before .before .before .before .before .before .before .before .before .before .before .before .before .before .before .before .before .before .before .pre .0) (k .1 .1 .1 .1 .1 .1 .0) (k .1 .1 .1 .1 .1 .1 .1 .0), omega (arith, c .before .before .before .if1 .taken))
 
 same-length : tie.Need-same-length
 same-length c = search needs
@@ -30,7 +30,7 @@ same-length-3 c = search needs
 returns : tie.Need-returns
 returns c =
     let s = c .before .before .before .before .before .before .before .before .before .before .before .before .before .before .before .before .before .before .before .before .before .before .before .before .before in
-    row-closed (s .args .n) (s .args .kinds .now) (s .args .a .now) (s .args .b .now) (s .pre .1) _ (c .before .before .before .before .before .before .before .before .before .before .before .before .before .shut-in-basin .ensures) (c .before .before .before .before .before .before .before .before .if1 .taken) (c .before .before .before .before .first-unreached .ensures)
+    row-closed (s .args .n) (s .args .kinds .now) (s .args .a .now) (s .args .b .now) (s .pre .1) _ (c .before .before .before .before .before .before .before .before .before .before .before .before .before .shut-in-basin .ensures) (omega (arith, c .before .before .before .before .before .before .before .before .if1 .taken)) (c .before .before .before .before .first-unreached .ensures)
 
 orient-all-requires : tie.Need-orient-all-requires
 orient-all-requires c κs =

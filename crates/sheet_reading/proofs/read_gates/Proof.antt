@@ -50,7 +50,7 @@ same-length-2 : tie.Need-same-length-2 Inv-loop μ-loop
 same-length-2 c = c .before .before .before .before .before .before .before .loop .inv .long
 
 returns-2 : tie.Need-returns-2 Inv-loop μ-loop
-returns-2 c = scan-early (c .before .before .before .before .before .before .before .loop .inv) (here (c .before .before)) (c .before .before .next-gate .ensures) (c .before .if1 .taken) (c .if2 .taken)
+returns-2 c = scan-early (c .before .before .before .before .before .before .before .loop .inv) (here (c .before .before)) (c .before .before .next-gate .ensures) (c .before .if1 .taken) (omega (arith, c .if2 .taken))
 
 add-if3 : tie.Need-add-if3 Inv-loop μ-loop
 add-if3 c = omega (arith, c .before .before .before .before .before .before .before .loop .inv .below)
@@ -59,14 +59,14 @@ same-length-3 : tie.Need-same-length-3 Inv-loop μ-loop
 same-length-3 c = c .before .before .before .before .before .before .before .before .loop .inv .long
 
 returns-3 : tie.Need-returns-3 Inv-loop μ-loop
-returns-3 c = scan-over (c .before .before .before .before .before .before .before .before .loop .inv) (here (c .before .before .before)) (c .before .before .before .next-gate .ensures) (c .before .before .if1 .taken) (c .before .if2 .left) (c .if3 .taken)
+returns-3 c = scan-over (c .before .before .before .before .before .before .before .before .loop .inv) (here (c .before .before .before)) (c .before .before .before .next-gate .ensures) (c .before .before .if1 .taken) (omega (arith, c .before .if2 .left)) (c .if3 .taken)
 
 same-length-4 : tie.Need-same-length-4 Inv-loop μ-loop
 same-length-4 c = c .before .before .before .before .before .before .before .before .loop .inv .long
 
 returns-4 : tie.Need-returns-4 Inv-loop μ-loop
 returns-4 c =
-    scan-end (c .before .before .before .before .before .before .before .before .loop .inv) (here (c .before .before .before)) (c .before .before .before .next-gate .ensures) (c .before .before .if1 .taken) (c .before .if2 .left) (c .if3 .left)
+    scan-end (c .before .before .before .before .before .before .before .before .loop .inv) (here (c .before .before .before)) (c .before .before .before .next-gate .ensures) (c .before .before .if1 .taken) (omega (arith, c .before .if2 .left)) (c .if3 .left)
     (c .before .before .before .before .before .before .before .before .before .before .before .before .pre .1)
 
 same-length-5 : tie.Need-same-length-5 Inv-loop μ-loop

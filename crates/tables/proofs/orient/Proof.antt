@@ -1,4 +1,4 @@
--- `hang` meets its contract. The loop's invariant: the ways of the first i reaches are written, with k gates among them. The measure is what is left of the kinds.
+-- `orient` meets its contract. The loop's invariant: the ways of the first i reaches are written, with k gates among them. The measure is what is left of the kinds.
 -- Assumes nothing.
 use Prim.Native.Nat.{_-_}
 use mathlib.Core.Logic.{⊎-elim}

@@ -1,0 +1,2 @@
+-- The first of two answers.
+pub mod Firsts
