@@ -3,17 +3,10 @@
 use Prim.Native.Nat.{ℕ, _≤_}
 use native.Mathlib.Omega.{arith}
 use mathlib.Core.Path.{_≡_, refl, sym, ap, _∙_}
-use mathlib.Core.Bool.{Bool, true, false, cond, _&&_, true≢false}
-use mathlib.Core.Option.{Option, none, some}
+use mathlib.Core.Bool.{true, false, true≢false}
 use mathlib.Core.List.{List}
 use lib.ListN.{length, replicate, length-replicate}
 use borrow.Author.Tests.{eq-eqb, ne-eqb}
-use Rattle.network.specs.declared.Refusal.{Refusal}
-use Rattle.network.specs.declared.Refusal.the-variants.{BadSetting}
-use Rattle.network.specs.Networks.{Network, tableFault, Accepted}
-use Rattle.network.specs.Settings.{isSetting, settingFault}
-use Rattle.network.specs.Plans.{stronglyConnectedUnder, isPlan}
-use Rattle.network.specs.Replies.{firstOf, checkFault}
 use Rattle.network.proofs.Networks.{accepted}
 use Rattle.tables.specs.Rows.{netOf}
 use Rattle.tables.proofs.Laws.{row-length}
@@ -21,23 +14,12 @@ use Rattle.half_edges.specs.Chains.{Index, Indexable}
 use Rattle.orienting.specs.Ready.{Ready}
 use Rattle.replies.specs.declared.CheckAnswer.{CheckAnswer}
 use Rattle.replies.specs.declared.CheckAnswer.the-variants as C
-use Rattle.replies.specs.Answers.{yesOr, unlessRefused, checkOf}
+use Rattle.replies.specs.Answers.{checkOf, saysYes}
 use Rattle.seeking.specs.Levels.{Level}
 use Rattle.seeking.specs.Seeks.{AtPlan}
 use Rattle.finder.specs.Rooms.{Room}
 use Rattle.finder.proofs.Rooms.{room-index, room-ready}
-use Rattle.priming.specs.Priming.{Spare, saysYes, primes, Primed}
-
--- a check that says yes: the table is accepted, and the setting is a plan
-yes-both : (N : Network) (s : List ℕ) (o : Option Refusal) (b c : Bool) → tableFault N ≡ o → unlessRefused (firstOf o (cond b none (some BadSetting))) (yesOr (b && c)) ≡ C.Yes → Accepted N × (b && c ≡ true)
-yes-both N s none true true t e = (t, refl)
-yes-both N s none true false t e = absurd (true≢false cc)
-yes-both N s none false c t e = absurd (true≢false cc)
-yes-both N s (some r) b c t e = absurd (true≢false cc)
-
-pub yes-plan : (N : Network) (s : List ℕ) → checkOf N s ≡ C.Yes → Accepted N × (isPlan N s ≡ true)
-unfolding checkOf checkFault settingFault isPlan
-yes-plan N s e = yes-both N s (tableFault N) (isSetting N s) (stronglyConnectedUnder N s) refl e
+use Rattle.priming.specs.Priming.{Spare, primes, Primed}
 
 -- ---- the answer
 

@@ -2,7 +2,7 @@
 -- Assumes nothing.
 use Prim.Native.Nat.{ℕ, _*_, min}
 use mathlib.Core.Path.{_≡_}
-use mathlib.Core.Bool.{Bool, true, false, _&&_}
+use mathlib.Core.Bool.{Bool, true, _&&_}
 use mathlib.Core.List.{List}
 use lib.ListN.{length}
 use lib.Dec.{eqb}
@@ -10,9 +10,7 @@ use Rattle.network.specs.Networks.{maxBasins, maxReaches}
 use Rattle.tables.specs.Rows.{netOf}
 use Rattle.half_edges.specs.Chains.{Index}
 use Rattle.seeking.specs.Seeks.{AtPlan}
-use Rattle.replies.specs.declared.CheckAnswer.{CheckAnswer}
-use Rattle.replies.specs.declared.CheckAnswer.the-variants as C
-use Rattle.replies.specs.Answers.{checkOf}
+use Rattle.replies.specs.Answers.{checkOf, saysYes}
 
 -- Working memory for a table: for as many ways as it has reaches, up to the limit, and for an index.
 pub record Spare (ks ws head next : List ℕ) : Type 0 where
@@ -21,11 +19,6 @@ pub record Spare (ks ws head next : List ℕ) : Type 0 where
   pub next-spare : length next ≡ 2 * maxReaches
 
 -- The three rows are of one length, and the check of the setting s "answers yes": it is a plan of an accepted table.
-abbrev pub saysYes : CheckAnswer → Bool
-saysYes C.Yes = true
-saysYes C.No = false
-saysYes (C.Refused r) = false
-
 abbrev pub primes : ℕ → List ℕ → List ℕ → List ℕ → List ℕ → Bool
 primes n ks xs ys s = eqb (length xs) (length ks) && (eqb (length ys) (length ks) && saysYes (checkOf (netOf n ks xs ys) s))
 

@@ -78,11 +78,16 @@ unlessRefused none a = a
 unfoldable pub checkOf : Network → List ℕ → CheckAnswer
 checkOf N s = unlessRefused (checkFault N s) (yesOr (isPlan N s))
 
--- Document 01's number of the check's answer, 0 for yes and no.
+-- Document 01's number of the check's answer, 0 for yes and no; and whether it is yes.
 abbrev pub checkNumber : CheckAnswer → ℕ
 checkNumber (C.Refused r) = refusalNumber r
 checkNumber C.Yes = 0
 checkNumber C.No = 0
+
+abbrev pub saysYes : CheckAnswer → Bool
+saysYes (C.Refused r) = false
+saysYes C.Yes = true
+saysYes C.No = false
 
 -- What the calls leave: the answer to a setting's check, and its number; the answer of first and of next plan with the lent buffers, the plan's p and the
 -- marks' m, before and after.

@@ -14,13 +14,12 @@ use lib.Dec.{leb}
 use Rattle.network.specs.declared.Refusal.{Refusal}
 use Rattle.network.specs.declared.Refusal.the-variants.{ShortBuffer}
 use Rattle.network.specs.Networks.{Network, tableFault, Accepted}
-use Rattle.network.specs.Settings.{settingFault}
 use Rattle.network.specs.Plans.{isPlan}
 use Rattle.network.specs.Marks.{marksOf}
-use Rattle.network.specs.Replies.{Outcome, lone, bridgeSide, firstAnswer, firstOf, checkFault}
+use Rattle.network.specs.Replies.{Outcome, lone, bridgeSide, firstAnswer, firstOf}
 use Rattle.lists.proofs.Bools.{clash}
 use Rattle.network.proofs.Bridges.{bridge-blocks}
-use Rattle.network.proofs.Order.{plan-setting, first-is-plan}
+use Rattle.network.proofs.Order.{first-is-plan}
 use Rattle.network.proofs.Replies.{lowest-is-bridge}
 use Rattle.network.proofs.Theorem.{plan-passable}
 use Rattle.file_records.specs.declared.WriteAnswer.{WriteAnswer}
@@ -30,6 +29,7 @@ use Rattle.file_records.specs.Puts.{Wrote, roomFor, WroteWhole}
 use Rattle.replies.specs.declared.CheckAnswer.{CheckAnswer}
 use Rattle.replies.specs.declared.CheckAnswer.the-variants as C
 use Rattle.replies.specs.Answers.{checkOf, CheckCall}
+use Rattle.replies.proofs.Answers.{check-yes}
 use Rattle.sheet_format.specs.declared.SheetAnswer.{SheetAnswer}
 use Rattle.sheet_format.specs.declared.SheetAnswer.the-variants.{Refused, Read}
 use Rattle.sheet_format.specs.Sheets.{sheetOf, outcomeSheet, replySheet}
@@ -95,11 +95,6 @@ room-kept room (sheetSays t) s h = go (leb (length t) room) h
 counted : (x : SheetReading) (n : ℕ) → Read n ≡ sheetAnswer x → (x ≡ sheetSays (settingRead x)) × (n ≡ length (settingRead x))
 counted (sheetRefused r) n h = absurd (true≢false (cc))
 counted (sheetSays s) n h = (refl, cc)
-
--- an accepted network and a plan get yes
-check-yes : (N : Network) (s : List ℕ) → Accepted N → isPlan N s ≡ true → checkOf N s ≡ C.Yes
-unfolding checkOf checkFault settingFault
-check-yes N s ok p = rw (ok, plan-setting N s p, p)
 
 -- what a sheet is read as with the room of the buffer
 abbrev got : Network → List ℕ → List ℕ → SheetReading

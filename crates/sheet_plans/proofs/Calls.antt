@@ -19,6 +19,7 @@ use Rattle.network.specs.Replies.{firstOf, checkFault}
 use Rattle.replies.specs.declared.CheckAnswer.{CheckAnswer}
 use Rattle.replies.specs.declared.CheckAnswer.the-variants as C
 use Rattle.replies.specs.Answers.{yesOr, unlessRefused, checkOf}
+use Rattle.replies.proofs.Answers.{yes-plan}
 use Rattle.sheet_format.specs.Sheets.{sheetOf}
 use Rattle.sheet_format.specs.Rows.{Fitting}
 use Rattle.sheet_format.specs.Answers.{planFault, sheetFault, SheetWritten}
@@ -51,7 +52,7 @@ module _ (N : Network) (s : List ℕ) (v : CheckAnswer) (e : checkOf N s ≡ v) 
   pub judged-sheet : (room : ℕ) → sheetFault N s room ≡ firstOf (faultSaid v) (roomFor (sheetOf N s) room)
   judged-sheet room = first-assoc (tableFault N) (planFault N s) (roomFor (sheetOf N s) room) ∙ ap (λ o. firstOf o (roomFor (sheetOf N s) room)) judged
 
--- yes: the network is accepted and the setting is a plan
+-- no fault: the network is accepted and the setting is a plan
 pub record Plan (N : Network) (s : List ℕ) : Type 0 where
   pub accepted-net : Accepted N
   pub is-plan : isPlan N s ≡ true
@@ -61,12 +62,8 @@ no-fault N s none true t p e = record { accepted-net = t; is-plan = p }
 no-fault N s none false t p e = absurd (true≢false (cc))
 no-fault N s (some r) b t p e = absurd (true≢false (cc))
 
-module _ (N : Network) (s : List ℕ) (e : checkOf N s ≡ C.Yes) where
-  pub yes-plan : Plan N s
-  yes-plan = no-fault N s (tableFault N) (isPlan N s) refl refl (judged N s C.Yes e)
-
-  pub yes-fits : Fitting (N .reaches) s
-  yes-fits = record { few = accepted N (yes-plan .accepted-net) .few-reaches; full = plan-long N s (yes-plan .is-plan) }
+pub yes-fits : (N : Network) (s : List ℕ) → checkOf N s ≡ C.Yes → Fitting (N .reaches) s
+yes-fits N s e = record { few = accepted N (yes-plan N s e .0) .few-reaches; full = plan-long N s (yes-plan N s e .1) }
 
 -- the writer, by what the check said
 module _ (N : Network) (s out : List ℕ) where

@@ -6,8 +6,9 @@ use lib.ListN.{length}
 use borrow.Author.Needs.{needs}
 use Rattle.tables.specs.Rows.{netOf}
 use Rattle.seeking.specs.Levels.{Level}
-use Rattle.priming.specs.Priming.{saysYes}
-use Rattle.priming.proofs.Priming.{yes-plan, a-unlike, b-unlike, said-no, said-yes, spare-ways, spare-index}
+use Rattle.replies.specs.Answers.{saysYes}
+use Rattle.replies.proofs.Answers.{yes-plan}
+use Rattle.priming.proofs.Priming.{a-unlike, b-unlike, said-no, said-yes, spare-ways, spare-index}
 use Rattle.priming.proofs.prime.Statement.{statement}
 use Rattle.priming.proofs.prime.Tie as tie
 
