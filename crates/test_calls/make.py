@@ -6,6 +6,8 @@ larger ones by the theorem, gate by gate. Where both can be had they are compare
 by themselves.
 """
 import os
+from bisect import bisect
+from collections import Counter
 from functools import lru_cache
 from itertools import product
 
@@ -18,14 +20,14 @@ GATED, FLAP, TWO_WAY = 0, 1, 2      # kinds in a row of a table; every greater n
 class Network:
     """An accepted network: basins and reaches (kind, a, b)."""
 
-    def __init__(self, basins, reaches):
-        self.basins, self.reaches = basins, reaches
+    def __init__(self, basins, reaches, try_all=True):
+        self.basins, self.reaches, self.all = basins, reaches, 2 ** basins - 1
         self.gates = [i for i, r in enumerate(reaches) if r[0] == GATED]
-        self.small = len(self.gates) <= 10 and basins <= 6
+        self.small = len(self.gates) <= 12 and basins <= 7
         self.kept = {}
         self.finding = self.find()
-        self.plans = [s for s in product((0, 1), repeat=len(self.gates)) if self.is_plan(s)] if self.small else None
-        if self.small:                  # the theorem, and the two ways to look for a lone reach
+        if self.small and try_all:      # the theorem, and the two ways to look for a lone reach
+            self.plans = [s for s in product((0, 1), repeat=len(self.gates)) if self.strong(s)]
             assert bool(self.plans) == (self.finding is None)
             assert self.finding == self.find(by_divisions=True)
 
@@ -45,37 +47,38 @@ class Network:
                     out.append((b, a))
         return out
 
-    @staticmethod
-    def reached(basins, arcs, start):
-        to = [[] for _ in range(basins)]
+    def reached(self, arcs, start):
+        """The basins reached, as the ones of a number."""
+        to = [0] * self.basins
         for a, b in arcs:
-            to[a].append(b)
-        seen, left = {start}, [start]
+            to[a] |= 1 << b
+        seen, left = 1 << start, [start]
         while left:
-            for b in to[left.pop()]:
-                if b not in seen:
-                    seen.add(b)
-                    left.append(b)
+            new = to[left.pop()] & ~seen
+            seen |= new
+            while new:
+                left.append(new.bit_length() - 1)
+                new ^= 1 << left[-1]
         return seen
 
     def strong(self, setting):
         arcs = self.arcs(setting)
-        return all(len(self.reached(self.basins, way, 0)) == self.basins for way in (arcs, [(b, a) for a, b in arcs]))
+        return self.reached(arcs, 0) == self.all == self.reached([(b, a) for a, b in arcs], 0)
 
     def is_plan(self, setting):
         setting = tuple(setting)
         if setting not in self.kept:
-            self.kept[setting] = self.strong(setting)
+            self.kept[setting] = setting in self.plans if self.small else self.strong(setting)
         return self.kept[setting]
 
     def find(self, by_divisions=False):
-        """None where there is a plan, else (9, 0, marked) or (10, reach, marked)."""
+        """None where there is a plan, else (9, 0, marked) or (10, reach, marked), the marked basins as the ones of a number."""
         arcs = self.arcs(())
         if not self.strong(()):
             for v in range(self.basins):
-                seen = self.reached(self.basins, arcs, v)
-                if len(seen) < self.basins:
-                    return 9, 0, frozenset(seen)
+                seen = self.reached(arcs, v)
+                if seen != self.all:
+                    return 9, 0, seen
         lone = self.lone_by_divisions() if by_divisions else self.lone_by_removal()
         return (10,) + lone if lone else None
 
@@ -84,15 +87,15 @@ class Network:
         for side in range(2, 2 ** self.basins, 2):          # the sides without basin 0
             crossing = [i for i, (k, a, b) in enumerate(self.reaches) if (side >> a & 1) != (side >> b & 1)]
             if len(crossing) == 1 and self.reaches[crossing[0]][0] == GATED:
-                found[crossing[0]] = frozenset(v for v in range(self.basins) if side >> v & 1)
+                found[crossing[0]] = side
         return min(found.items()) if found else None
 
     def lone_by_removal(self):
         for i in self.gates:
             rest = [(a, b) for j, (k, a, b) in enumerate(self.reaches) if j != i]
-            seen = self.reached(self.basins, rest + [(b, a) for a, b in rest], 0)
-            if len(seen) < self.basins:
-                return i, frozenset(range(self.basins)) - seen
+            seen = self.reached(rest + [(b, a) for a, b in rest], 0)
+            if seen != self.all:
+                return i, self.all - seen
         return None
 
     def complete(self, start):
@@ -107,7 +110,8 @@ class Network:
     def next_plan(self, setting=None):
         """The earliest plan, or the earliest later than the setting; None if there is none. The network has a plan."""
         if self.small:
-            return next((p for p in self.plans if setting is None or p > tuple(setting)), None)
+            later = self.plans if setting is None else self.plans[bisect(self.plans, tuple(setting)):]
+            return later[0] if later else None
         if setting is None:
             return self.complete(())
         for i in reversed(range(len(self.gates))):
@@ -138,7 +142,7 @@ def misfits(reaches, setting):
 
 
 def mark_bytes(marked):
-    return [sum(1 << bit for bit in range(8) if 8 * byte + bit in marked) for byte in range(32)]
+    return [marked >> 8 * byte & 255 for byte in range(32)]
 
 
 # ---- the calls: each gives its number and what else it replies, and changes the buffers it is lent
@@ -157,7 +161,7 @@ def plan_call(basins, reaches, setting, p, m):
     net = network(basins, reaches)
     if net.finding:
         number, reach, marked = net.finding
-        return number, (reach, len(marked)), (), mark_bytes(marked)
+        return number, (reach, bin(marked).count('1')), (), mark_bytes(marked)
     plan = net.next_plan(setting)
     return (11, (), (), ()) if plan is None else (0, (), plan, ())
 
@@ -297,11 +301,16 @@ FULL, BRIEF, QUIET = 0, 1, 2
 class Out:
     """How much is printed: of a single call all, but for long buffers; of many the numbers, and the short buffers of those not refused; or their count."""
 
+    listed = set()          # the last lines of all listings
+
     def __init__(self, mode):
         self.mode, self.number, self.run, self.sum, self.text = mode, None, 0, 0, []
 
-    def add(self, x):
-        self.sum = (self.sum * 257 + x % 65536 + 1) % 16777213
+    def add(self, *entries):
+        total = self.sum
+        for x in entries:
+            total = (total * 257 + x % 65536 + 1) % 16777213
+        self.sum = total
 
     def end_run(self):
         if self.run > 1:
@@ -322,13 +331,14 @@ class Out:
         self.add(x)
 
     def row(self, entries, old=OLD):
-        for x in entries:
-            self.add(x)
+        self.add(*entries)
         if self.mode == FULL and len(entries) <= 512 or self.mode == BRIEF and self.number == 0 and len(entries) <= 16:
             self.text.append('(' + ''.join(str(x) if x < 10 else '.' if x == old else '<%02x>' % x for x in entries) + ')')
 
     def listing(self, text):
-        self.text.append('\n' + text[:2000])
+        self.listed.add(text[text[:-1].rfind('\n') + 1:])
+        if self.mode != QUIET:
+            self.text.append('\n' + text[:2000])
 
     def end(self):
         self.end_run()
@@ -336,7 +346,8 @@ class Out:
 
 
 # first plan is a walk that does not go on, a step a walker that does not
-CALLS = ['table', 'check', 'walk', 'next', 'make', 'walker', 'read network', 'write network', 'read sheet', 'write sheet', 'write reply', 'list']
+CALLS = ['table', 'check', 'walk', 'next', 'make', 'walker', 'read network', 'write network', 'read sheet', 'write sheet', 'write reply', 'list',
+         'list placed']
 CODES = dict([(call, i) for i, call in enumerate(CALLS)] + [('first', 2), ('step', 5)])
 
 
@@ -364,8 +375,9 @@ def play(o, c, table):
     """One call, from its bytes, on a table or on that which stands in its data."""
     call, basins, k, x, y, p, m, n, limit = (CALLS[c[0]],) + tuple(word(c, i) for i in range(1, 17, 2))
     s = c[19:19 + n]
+    if call == 'list placed':
+        call, s, table = 'list', table[2:2 + k], two(0)
     reaches = rows_of(c[19:] if table is None else table, k, x, y)
-    held = s + [OLD] * (1024 - len(s))
     if call == 'table':
         o.reply(table_fault(basins, reaches))
     elif call == 'check':
@@ -388,6 +400,7 @@ def play(o, c, table):
             if answer[0]:
                 break
     elif call == 'walker':
+        held = s + [OLD] * (1024 - len(s))
         for _ in range(1 + limit):
             answer, held = step_call(held, basins, reaches, p, m)
             show_step(o, answer, held, p, m)
@@ -407,11 +420,12 @@ def play(o, c, table):
         o.row(padded([r[1] for r in got[1]], x, OLD_WORD), OLD_WORD)
         o.row(padded([r[2] for r in got[1]], y, OLD_WORD), OLD_WORD)
     elif call == 'list':
-        text = listing(s)[:p]
-        o.reply(0)
-        o.value(len(text))
-        o.listing(text)
-        o.row(padded(text.encode(), p))
+        text = listing(s)
+        for at in range(0, p * limit + 1, p or 1):
+            o.reply(0)
+            o.value(len(text[at:at + p]))
+            o.listing(text[at:at + p])
+            o.row(padded(text[at:at + p].encode(), p))
     else:
         got = read_sheet(basins, reaches, s, p) if call == 'read sheet' else write(call, basins, reaches, s, p)
         o.reply(got if isinstance(got, int) else 0)
@@ -446,7 +460,15 @@ class Group:
 
     def __init__(self, title, reaches):
         self.title, self.cases, self.expected = title, [], []
-        self.reaches, self.table, self.total = tuple(reaches), table_bytes(reaches), len(reaches)
+        self.reaches, self.table, self.total, self.place = tuple(reaches), table_bytes(reaches), len(reaches), None
+
+    def hold(self, file):
+        """Puts a file where the kinds of the table would stand."""
+        self.table, self.total = two(len(file)) + file + [0] * (len(file) % 2), 0
+
+    def table_of(self, c):
+        """The table on which a case is played, from its bytes."""
+        return self.table
 
     def case(self, call, basins, data=(), p=0, m=32, n=None, k=None, x=None, y=None, limit=0, vary=(), mode=None, name=None, listed=False):
         """A call, once or with variations: (field or place in the data, number of values, lowest), of which the last varies first.
@@ -454,7 +476,7 @@ class Group:
         k, x, y = (self.total if z is None else z for z in (k, x, y))
         n = len(data) if n is None else n
         c = [CODES[call]] + [z for v in (basins, k, x, y, p, m, n, limit, 0) for z in two(v)] + list(data)
-        fields = {'basins': 1, 'basins high': 2, 'k': 3, 'k high': 4, 'x': 5, 'y': 7, 'p': 9, 'm': 11, 'n': 13}
+        fields = {'basins': 1, 'basins high': 2, 'k': 3, 'k high': 4, 'x': 5, 'y': 7, 'p': 9, 'm': 11, 'n': 13, 'line': 18}
         vary = [(fields[v[0]] if v[0] in fields else 19 + v[0],) + tuple(v[1:]) for v in vary]
         mode = mode if mode is not None else BRIEF if vary or call == 'list' else FULL
         name = name or call
@@ -471,7 +493,7 @@ class Group:
             d = list(c)
             for place, values, lowest in reversed(vary):
                 d[place], i = (i % values + lowest) % 256, i // values
-            play(o, d, None if listed else self.table)
+            play(o, d, None if listed else self.table_of(d))
         self.expected.append(name + ':' + o.end())
 
     def bytes(self, place):
@@ -482,11 +504,44 @@ class Group:
         return out
 
 
+class Family(Group):
+    """The same cases on each of twenty tables. The tables of all families stand before all others, in lines of eight places: the first eight families in
+    the first twenty lines, and so on. So the high byte of a table's place is its line."""
+
+    def __init__(self, title, tables, number):
+        Group.__init__(self, title, ())
+        self.tables, self.table, self.total = [table_bytes(reaches) for reaches in tables], [], 12
+        self.line, self.column = number // 8 * 20, number % 8
+        self.place = 2 + 256 * self.line + 32 * self.column
+
+    def table_of(self, c):
+        return self.tables[c[18] - self.line]
+
+    def case(self, call, basins, data=(), vary=(), **more):
+        Group.case(self, call, basins, data, vary=[('line', 20, self.line)] + list(vary), **more)
+
+    @staticmethod
+    def all_tables():
+        """The bytes of the tables of all families."""
+        families = [g for g in GROUPS if isinstance(g, Family)]
+        out = [0] * (512 * (max(g.line for g in families) + 20))
+        for g in families:
+            for i, table in enumerate(g.tables):
+                at = 512 * (g.line + i) + 64 * g.column
+                out[at:at + len(table)] = table
+        return out
+
+
 GROUPS = []
 
 
 def group(title, reaches):
     GROUPS.append(Group(title, reaches))
+    return GROUPS[-1]
+
+
+def family(title, tables, number):
+    GROUPS.append(Family(title, tables, number))
     return GROUPS[-1]
 
 
@@ -499,18 +554,18 @@ def ring(basins, size, kind, odd=None):
 
 
 class Sequence:
-    """A fixed sequence of numbers (xorshift, 64 bits)."""
+    """A fixed sequence of numbers (xorshift64*, its high bits)."""
 
     def __init__(self, seed):
         self.state = seed
 
     def below(self, n):
         x = self.state
-        x ^= x << 13 & 0xffffffffffffffff
-        x ^= x >> 7
-        x ^= x << 17 & 0xffffffffffffffff
+        x ^= x >> 12
+        x ^= x << 25 & 0xffffffffffffffff
+        x ^= x >> 27
         self.state = x
-        return (x >> 11) % n
+        return ((x * 0x2545f4914f6cdd1d & 0xffffffffffffffff) >> 32) * n >> 32
 
 
 G, F, T = GATED, FLAP, TWO_WAY
@@ -657,24 +712,56 @@ for title, reaches in TABLES:
 
 # ---- small networks of a fixed sequence, all different
 
-def some_networks():
-    numbers, seen = Sequence(20261116), set()
-    due = {0: 52, 9: 20, 10: 28}
-    while sum(due.values()):
-        basins, size, most = 1 + numbers.below(6), numbers.below(11), 1 + numbers.below(4)
-        reaches = tuple(((G, G, G, F, T, 2 + numbers.below(254))[numbers.below(6)] if most > 1 else G, numbers.below(basins), numbers.below(basins))
-                        for _ in range(size))
-        finding = network(basins, reaches).finding
-        number = finding[0] if finding else 0
-        if due[number] and (basins, reaches) not in seen and (size > 4 or numbers.below(4) == 0):
-            due[number] -= 1
-            seen.add((basins, reaches))
-            yield basins, reaches
+NUMBERS = Sequence(20261116)
+DRAWN = set()
 
 
-for i, (basins, reaches) in enumerate(some_networks()):
-    gr, g = group('network %d: %d basins, %s' % (i + 1, basins, ' '.join('%s%d-%d' % ('GFT'[min(k, 2)], a, b) for k, a, b in reaches)), reaches), \
-        gates_of(reaches)
+def are_new(networks):
+    """Whether these networks differ from each other and from all that were drawn, in more than the number of a two-way reach; they are drawn from now on."""
+    drawn = {(basins, tuple((min(k, T), a, b) for k, a, b in reaches)) for basins, reaches in networks}
+    if len(drawn) < len(networks) or drawn & DRAWN:
+        return False
+    DRAWN.update(drawn)
+    return True
+
+
+def draw_reaches(basins, gates, size):
+    """Reaches of which so many are gated, the others flaps and two-way reaches of any number; places, kinds and ends by lot."""
+    kinds = [G] * gates + [(F, F, T, 3 + NUMBERS.below(253))[NUMBERS.below(4)] for _ in range(size - gates)]
+    for i in reversed(range(size)):
+        j = NUMBERS.below(i + 1)
+        kinds[i], kinds[j] = kinds[j], kinds[i]
+    return tuple((kind, NUMBERS.below(basins), NUMBERS.below(basins)) for kind in kinds)
+
+
+def outcome(basins, reaches):
+    return (Network(basins, reaches, try_all=False).finding or (0,))[0]
+
+
+def draw_network(basins, gates, number):
+    """A new network of up to twelve reaches whose first-plan reply has this number."""
+    while True:
+        reaches = draw_reaches(basins, gates, gates + NUMBERS.below(13 - gates))
+        if outcome(basins, reaches) == number and are_new([(basins, reaches)]):
+            return reaches
+
+
+def outcomes(basins, gates):
+    """The numbers that networks with so many basins and gates can get."""
+    return [0] + [9] * (basins > 1) + [10] * (basins > 1 and gates > 0)
+
+
+def some_settings(g):
+    """A setting by lot, and which of its bytes go in all ways: up to seven, at both ends."""
+    return [NUMBERS.below(2) for _ in range(g)], [(i, 2, 0) for i in range(g) if i < 2 or i >= g - 5]
+
+
+# one network of each number of basins and gates, with what is replied
+
+for basins, g in product(range(1, 7), range(11)):
+    numbers = outcomes(basins, g)
+    reaches = draw_network(basins, g, numbers[(basins + g) % len(numbers)])
+    gr = group('%d basins, %s' % (basins, ' '.join('%s%d-%d' % ('GFT'[min(k, 2)], a, b) for k, a, b in reaches) or 'no reach'), reaches)
     zeros = [0] * g
     gr.case('first', basins, p=g)
     gr.case('check', basins, zeros, vary=settings(g))
@@ -685,6 +772,56 @@ for i, (basins, reaches) in enumerate(some_networks()):
         if g <= 4:
             gr.case('step', basins, zeros, p=g, vary=settings(g))
     gr.case('write reply', basins, vary=[('p', 3, len(reply_sheet(basins, reaches)) - 1)])
+
+# twenty more of each, ten with plans: the first replies, and the sums of all others
+
+for f, (basins, g) in enumerate(product(range(2, 7), range(11))):
+    numbers = outcomes(basins, g)
+    numbers = [0] * 10 + numbers[1:] * (10 // len(numbers[1:]))
+    gr = family('twenty networks of %d basins and %d gates' % (basins, g), [draw_network(basins, g, number) for number in numbers], f)
+    setting, vary = some_settings(g)
+    gr.case('first', basins, p=g)
+    gr.case('walk', basins, p=g, limit=1100, mode=QUIET)
+    gr.case('check', basins, setting, vary=vary, mode=QUIET)
+    gr.case('next', basins, setting, p=g, vary=vary, mode=QUIET)
+    gr.case('walker', basins, [0] * g, p=g, limit=40, mode=QUIET)
+    gr.case('step', basins, setting, p=g, vary=vary[-3:], mode=QUIET)
+    gr.case('write reply', basins, p=40, mode=QUIET)
+
+# many more, 189 from each ten reaches: the first three of all kinds, and cut at four to ten; the sums of all their plans
+
+def draw_base(basins):
+    """Ten reaches from which only new networks are so made."""
+    while True:
+        base = draw_reaches(basins, 0, 3) + draw_reaches(basins, NUMBERS.below(8), 7)
+        varied = [tuple((k, a, b) for k, (_, a, b) in zip(kinds, base)) + base[3:] for kinds in product((G, F, T), repeat=3)]
+        if are_new([(basins, reaches[:cut]) for reaches in varied for cut in range(4, 11)]):
+            return base
+
+
+gr = group('tables of ten reaches, the first three of all kinds, cut at four to ten reaches', [])
+for basins in range(2, 7):
+    for _ in range(22):
+        gr.case('walk', basins, table_bytes(draw_base(basins)), p=10, k=0, x=10, y=10, limit=1100, vary=[('k', 7, 4), (2, 3, 0), (3, 3, 0), (4, 3, 0)],
+                mode=QUIET, listed=True, name='%d basins' % basins)
+
+
+# all are different, and each shape came often
+
+def traits(basins, reaches):
+    joins = [frozenset((a, b)) for _, a, b in reaches if a != b]
+    return ['%d basins' % basins, '%d gates' % gates_of(reaches), 'reply %d' % outcome(basins, reaches)] + ['first %d' % k for k, _, _ in reaches[:1]] + \
+        ['loops' if len(joins) < len(reaches) else 'no loops', 'parallel' if len(set(joins)) < len(joins) else 'not parallel']
+
+
+def often(least, *names):
+    return all(CAME[name] >= least for name in names)
+
+
+CAME = Counter(name for drawn in DRAWN for name in traits(*drawn))
+assert len(DRAWN) == 66 + 20 * 55 + 189 * 110
+assert often(100, *('%d gates' % g for g in range(11))) and often(4000, *('%d basins' % n for n in range(2, 7))) and often(11, '1 basins')
+assert often(3000, 'reply 0', 'reply 9', 'reply 10', 'loops', 'no loops', 'parallel', 'not parallel') and often(7000, 'first 0', 'first 1', 'first 2')
 
 
 # ---- all networks of a few reaches: their plans in order
@@ -721,14 +858,49 @@ gr.case('list', 0, SMALL, p=40, vary=[('n', 20, 0)])
 gr.case('list', 0, SMALL, p=40, vary=[(1, 3, 1), (3, 4, 1), (18, 2, 8)])
 for p in (0, 1, 5, 6, 7):
     gr.case('list', 0, network_file(2, [(G, 0, 1), (G, 0, 1)]), p=p)
-gr.case('list', 0, network_file(1, [(G, 0, 0)] * 10), p=11050)
-gr.case('list', 0, network_file(1, [(G, 0, 0)] * 9 + [(T, 0, 0)]), p=5200)
 
 many = [(i % 3, i % 4, i // 4 % 4) for i in range(1024)]
 file = network_file(4, many)[:-1] + [2, 3, 0, 0, 0, 9]
 gr = group('network files: 1,024 reaches, then each kind byte', [])
 gr.case('read network', 0, file, n=5123, k=1024, x=1024, y=1024, vary=[('k high', 2, 3), (5124, 2, 3), ('n', 7, 3), (5123, 256, 0)])
-gr.case('list', 0, file, p=20)
+
+
+# ---- listings
+
+def listed(title, basins, reaches):
+    """The listing of a network in parts that fill a buffer, and one that does not."""
+    file = network_file(basins, reaches)
+    length = len(listing(file))
+    gr.case('list', 0, file, p=min(length + 2, 11090), limit=length // 11090, mode=BRIEF if length < 22180 else QUIET, name='list, ' + title)
+
+
+def joined(v, gates):
+    """Flaps from basin 0 to v and on to v + 1, and gates back: the plans are the settings in which v + 1 reaches basin 0."""
+    return [(F, 0, v), (F, v, v + 1)] + [(G, v + a, v + b if b >= 0 else 0) for a, b in gates]
+
+
+OVER, BACK, HOME = (1, 0), (0, -1), (1, -1)          # from v + 1 to v, from v to 0, from v + 1 to 0
+thousand = [r for v in (1, 3, 5) for r in joined(v, [HOME, BACK, OVER])] + [(G, 0, 0)] * 3                           # 5 times 5 times 5 times 8
+one_more = joined(1, [HOME, HOME, OVER, BACK]) + joined(3, [HOME, BACK, OVER, OVER]) + [(F, 0, 5)] + [(G, 5, 0)] * 3   # 13 times 11 times 7
+assert len(network(7, tuple(thousand)).plans) == 1000 and len(network(6, tuple(one_more)).plans) == 1001
+
+gr = group('listings', [])
+listed('512 plans', 1, [(G, 0, 0)] * 9 + [(T, 0, 0)])
+listed('1,000 plans', 7, thousand)
+listed('1,001 plans', 6, one_more)
+listed('1,024 plans', 1, [(G, 0, 0)] * 10)
+listed('a 16 by 16 grid', 256, grid)
+listed('a line of 256 basins, and 769 loops', 256, [(G, v, v + 1) for v in range(255)] + [(G, 0, 0)] * 769)
+gr.case('list', 0, SMALL + [7], p=11, vary=[(2, 2, 0), (4, 2, 2), (18, 2, 8), ('n', 4, 17)], name='list, refused 1, 3, 4, 5, 6')
+gr.case('list', 0, file, p=20, name='list, 1,025 reaches')
+
+gr = group('listings: 1,024 gates round a ring of 256 basins, and 2,979 bytes after the end', [])
+gr.hold(network_file(256, ring(256, 1024, G)) + [9] * 2979)
+gr.case('list placed', 0, k=5124, p=11090, limit=93, mode=QUIET, name='list, 5,124 bytes')
+gr.case('list placed', 0, k=5123, p=11, vary=[('k', 3, 3)], name='list, 5,123 to 5,125 bytes')
+gr.case('list placed', 0, k=8000, p=11, vary=[('k', 3, 63)], name='list, 7,999 to 8,001 bytes')
+gr.case('list placed', 0, k=8103, p=11, name='list, 8,103 bytes')
+assert Out.listed >= {'end\n', 'more\n'} | {'refused %d\n' % number for number in (1, 2, 3, 4, 5, 6, 9, 10)}
 
 
 # ---- sheets
@@ -751,7 +923,7 @@ for n in range(5):
             name='read sheet, %d records of reaches 0 to 5' % n)
 for place in (1, 4, 7, 10):
     gr.case('read sheet', 3, sheet, p=4, vary=[(place + 1, 256, 0), (place, 256, 0)], name='read sheet, each number at %d' % place)
-for found in ([20] + mark_bytes({0, 9}) + [9], [21, 1, 0] + mark_bytes({1}) + [9]):
+for found in ([20] + mark_bytes(1 << 0 | 1 << 9) + [9], [21, 1, 0] + mark_bytes(1 << 1) + [9]):
     gr.case('read sheet', 3, found, p=3, name='read a finding sheet')
 gr.case('write sheet', 3, [0, 0, 0, 0], vary=[('n', 5, 0), (0, 4, 0), (1, 4, 0), (2, 4, 0), (3, 4, 0), ('p', 4, 11)])
 gr.case('write sheet', 3, [0, 0, 0], vary=settings(3) + [('p', 16, 0)])
@@ -759,13 +931,15 @@ gr.case('write sheet', 3, [0, 0, 0], vary=settings(3) + [('p', 16, 0)])
 
 def main():
     here = os.path.dirname(os.path.abspath(__file__))
-    tables, places = [], []
+    tables, places = Family.all_tables(), []
     for g in GROUPS:
-        places.append((4 + len(tables)) // 2)
+        places.append(g.place or (4 + len(tables)) // 2)
         tables += g.table
     cases = [x for g, place in zip(GROUPS, places) for x in g.bytes(place)]
+    file = bytes(two(sum(len(g.cases) for g in GROUPS)) + two((4 + len(tables)) // 2) + tables + cases)
+    assert len(file) <= 260000          # the program reads no more
     with open(os.path.join(here, 'stdin'), 'wb') as f:
-        f.write(bytes(two(sum(len(g.cases) for g in GROUPS)) + two((4 + len(tables)) // 2) + tables + cases))
+        f.write(file)
     with open(os.path.join(here, 'stdout'), 'w') as f:
         f.write(''.join(x for g in GROUPS for x in g.expected))
 

@@ -11,6 +11,7 @@ use crate::show;
 use crate::show::Out;
 use crate::table_rows::ROOM;
 use file_records::WriteAnswer;
+use listing_state::Lister;
 use netfile_format::ReadAnswer;
 use sheet_format::SheetAnswer;
 
@@ -102,19 +103,15 @@ fn sheet_read(answer: SheetAnswer) -> Size {
 // An answer, and the buffer afterwards.
 pub struct Left {
     size: Size,
-    bytes: [u8; 11100],
+    bytes: [u8; 5200],
 }
 
-// The calls, by the bytes of the case file.
+// The calls, by the bytes of the case file; the reply writer has all others.
 const WRITE_NETWORK: u8 = 7;
 
 const READ_SHEET: u8 = 8;
 
 const WRITE_SHEET: u8 = 9;
-
-const WRITE_REPLY: u8 = 10;
-
-const LIST: u8 = 11;
 
 fn fill(
     call: u8,
@@ -129,11 +126,7 @@ fn fill(
         WRITE_NETWORK => written(netfile_rows::write_network(basins, kinds, a, b, out)),
         READ_SHEET => sheet_read(sheet_rows::read_sheet(basins, kinds, a, b, s, out)),
         WRITE_SHEET => written(sheet_rows::write_sheet(basins, kinds, a, b, s, out)),
-        WRITE_REPLY => written(sheet_rows::write_reply(basins, kinds, a, b, out)),
-        _ => Size {
-            number: 0,
-            length: listing::laws::list(s, out),
-        },
+        _ => written(sheet_rows::write_reply(basins, kinds, a, b, out)),
     }
 }
 
@@ -146,25 +139,80 @@ pub fn filled(
     s: &[u8],
     room: usize,
 ) -> Left {
-    let mut bytes = [OLD; 11100];
+    let mut bytes = [OLD; 5200];
     let n = within(&bytes, room);
     let size = fill(call, basins, kinds, a, b, s, &mut bytes[..n]);
     Left { size, bytes }
 }
 
-// A listing as the text it is, or what is at most 2,000 bytes of it.
-fn show_text(call: u8, s: &[u8]) {
-    if call == LIST {
-        io::write_all(1, b"\n");
-        io::write_all(1, front(s, 2000));
-    }
-}
-
 // Prints an answer and the buffer, with two bytes beyond it.
-pub fn show_left(o: Out, call: u8, x: Left, room: usize) -> Out {
+pub fn show_left(o: Out, x: Left, room: usize) -> Out {
     let size = x.size;
     let bytes = x.bytes;
     let o = show::value(show::reply(o, size.number), size.length as u64);
-    show_text(call, front(&bytes, size.length));
     show::bytes(o, front(&bytes, sum(room, 2)))
+}
+
+// A part of a listing, and the state after it.
+struct Part {
+    lister: Lister,
+    count: usize,
+    bytes: [u8; 11100],
+}
+
+fn take_part(lister: Lister, kinds: &[u8], a: &[u16], b: &[u16], room: usize) -> Part {
+    let mut bytes = [OLD; 11100];
+    let n = within(&bytes, room);
+    let filled = listing::fill(lister, kinds, a, b, &mut bytes[..n]);
+    let lister = filled.lister;
+    let count = filled.count;
+    Part {
+        lister,
+        count,
+        bytes,
+    }
+}
+
+// Prints a part as the text it is, or its first 2,000 bytes, and the buffer.
+fn show_part(o: Out, p: Part, room: usize) -> Out {
+    let bytes = p.bytes;
+    let o = show::value(show::reply(o, 0), p.count as u64);
+    if o.mode != show::QUIET {
+        io::write_all(1, b"\n");
+        io::write_all(1, front(front(&bytes, p.count), 2000));
+    }
+    show::bytes(o, front(&bytes, sum(room, 2)))
+}
+
+// So many parts of a listing and one more.
+fn parts(o: Out, lister: Lister, kinds: &[u8], a: &[u16], b: &[u16], room: usize, n: usize) -> Out {
+    let mut p = take_part(lister, kinds, a, b, room);
+    let mut o = show_part(o, p, room);
+    let mut left = n;
+    while left > 0 {
+        left -= 1;
+        let lister = p.lister;
+        p = take_part(lister, kinds, a, b, room);
+        o = show_part(o, p, room);
+    }
+    o
+}
+
+// Lists a file, in parts that fill the room.
+pub fn list(o: Out, file: &[u8], room: usize, n: usize) -> Out {
+    let mut kinds = [0u8; ROOM];
+    let mut a = [0u16; ROOM];
+    let mut b = [0u16; ROOM];
+    let started = listing_state::start(file, &mut kinds, &mut a, &mut b);
+    let m = started.reaches;
+    let lister = started.lister;
+    parts(
+        o,
+        lister,
+        front(&kinds, m),
+        front_words(&a, m),
+        front_words(&b, m),
+        room,
+        n,
+    )
 }

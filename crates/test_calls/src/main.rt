@@ -31,6 +31,11 @@ const STEPS: u8 = 5;
 
 const READ_NETWORK: u8 = 6;
 
+const LIST: u8 = 11;
+
+// The same, of a file that stands where the kinds of a table do.
+const LIST_PLACED: u8 = 12;
+
 // A case's bytes: the call; the basin count; the lengths of the three rows; those of two buffers; that of the data; how often to go on; where the
 // table stands, in steps of two bytes; the data, which is the table where that stands nowhere.
 const CASE: usize = 5300;
@@ -68,7 +73,7 @@ fn write(o: Out, c: &[u8], kinds: &[u8], a: &[u16], b: &[u16], s: &[u8]) -> Out 
     let call = byte_at(c, 0);
     let room = word_at(c, 9) as usize;
     let left = files::filled(call, word_at(c, 1), kinds, a, b, s, room);
-    files::show_left(o, call, left, room)
+    files::show_left(o, left, room)
 }
 
 // One call, on a table whose kinds and ends these are.
@@ -77,10 +82,14 @@ fn play_on(o: Out, c: &[u8], kinds: &[u8], a: &[u16], b: &[u16]) -> Out {
     let xs = front_words(a, word_at(c, 5) as usize);
     let ys = front_words(b, word_at(c, 7) as usize);
     let s = front(rest(c, DATA), word_at(c, 13) as usize);
+    let room = word_at(c, 9) as usize;
+    let n = word_at(c, 15) as usize;
     let call = byte_at(c, 0);
     match call {
         TABLE..=STEPS => ask(o, c, ks, xs, ys, s),
         READ_NETWORK => read(o, c, s),
+        LIST => files::list(o, s, room, n),
+        LIST_PLACED => files::list(o, ks, room, n),
         _ => write(o, c, ks, xs, ys, s),
     }
 }
@@ -207,7 +216,7 @@ fn play_cases(file: &[u8]) {
 }
 
 fn main() {
-    let mut cases = [0u8; 150000];
+    let mut cases = [0u8; 260000];
     let n = io::read_full(0, &mut cases);
     play_cases(&cases[..n]);
 }
