@@ -20,12 +20,12 @@ use Rattle.tables.proofs.Laws.{table-of-rows}
 use Rattle.netfile_format.specs.declared.ReadAnswer.{ReadAnswer}
 use lib.Pow.{areBytes}
 use Rattle.netfile_format.specs.Files.{Reading, refused, read, readFile}
-use Rattle.netfile_format.specs.Answers.{roomOf, readAnswer, readingNumber, withRoom, reachesRead, RowsFilled, NetworkRead}
+use Rattle.netfile_format.specs.Answers.{roomOf, readAnswer, readingNumber, withRoom, reachesRead, RowsFilled, NetworkRead, leftIn}
 use Rattle.netfile_format.proofs.Files.{write-read}
 use Rattle.packing.specs.declared.Packed.{Packed}
 use Rattle.packing.specs.Rows.{unpackedInto}
 use Rattle.packing.proofs.Rows.{unpacked-into}
-use Rattle.netfile.specs.Reads.{leftIn, countOf, ReadPacked}
+use Rattle.netfile.specs.Reads.{countOf, ReadPacked}
 
 -- no more reaches are read than a network may have
 few : (file : List ℕ) (N : Network) → areBytes file ≡ true → readFile file ≡ read N → length (N .reaches) ≤ maxReaches

@@ -14,8 +14,8 @@ ghost use mathlib.Core.Path.{_≡_};
 ghost use Prim.Native.Nat.{min};
 ghost use Rattle.network.specs.Networks.{maxReaches, net};
 ghost use Rattle.packing.specs.Tables.{OfTable};
-ghost use Rattle.netfile_format.specs.Answers.{NetworkWritten};
-ghost use Rattle.netfile.specs.Reads.{countOf, ReadPacked, ReadTable};
+ghost use Rattle.netfile_format.specs.Answers.{ReadTable, NetworkWritten};
+ghost use Rattle.netfile.specs.Reads.{countOf, ReadPacked};
 
 // The writer over rows. The rows of an over-full table are over-full too, and refused as such.
 fn write_packed(basins: u16, p: Packed, out: &mut [u8]) -> WriteAnswer

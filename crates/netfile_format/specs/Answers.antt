@@ -59,6 +59,16 @@ pub record NetworkRead (file kinds a b : List ℕ) (r : ReadAnswer) (kinds′ a�
   pub number : readNumber r ≡ readingNumber (withRoom (roomOf kinds a b) (readFile file))
   pub rows : RowsFilled (reachesRead (withRoom (roomOf kinds a b) (readFile file))) kinds a b kinds′ a′ b′
 
+-- The same where the reader is lent a table of records. What a reading leaves in it: its reaches in the first records; "all beyond is untouched". A refusal writes nothing.
+abbrev pub leftIn : Reading → List Reach → List Reach
+leftIn R t = reachesRead R ++ drop (length (reachesRead R)) t
+
+-- What the reader answers to a file, its number, and what it leaves in the table that it is lent. "Readers need a record for each reach."
+pub record ReadTable (file : List ℕ) (t : List Reach) (r : ReadAnswer) (t′ : List Reach) : Type 0 where
+  pub answer : r ≡ readAnswer (withRoom (length t) (readFile file))
+  pub number : readNumber r ≡ readingNumber (withRoom (length t) (readFile file))
+  pub table : t′ ≡ leftIn (withRoom (length t) (readFile file)) t
+
 -- The reach of the record at the front of the bytes f, and those of the first n records.
 abbrev pub reachAtFront : List ℕ → Reach
 reachAtFront f = recordReach (getD f 0 0) (take 4 (drop 1 f))

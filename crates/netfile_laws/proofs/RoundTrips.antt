@@ -18,10 +18,9 @@ use Rattle.file_records.specs.declared.WriteAnswer.the-variants.{Refused as Unw
 use Rattle.tables.specs.Rows.{netOf}
 use lib.Pow.{areBytes}
 use Rattle.netfile_format.specs.Files.{fileOf, Reading, refused, readFile}
-use Rattle.netfile_format.specs.Answers.{roomOf, readAnswer, withRoom, reachesRead, RowsFilled, NetworkRead, writeFault, NetworkWritten}
+use Rattle.netfile_format.specs.Answers.{roomOf, readAnswer, withRoom, reachesRead, RowsFilled, NetworkRead, leftIn, ReadTable, writeFault, NetworkWritten}
 use Rattle.file_records.specs.Puts.{Wrote, roomFor, WroteWhole}
 use Rattle.network.specs.Replies.{firstOf}
-use Rattle.netfile.specs.Reads.{leftIn, ReadTable}
 use Rattle.netfile_laws.specs.Laws.{networkAgain, NetworkWriteRead, TableWriteRead, fileAgain, NetworkReadWrite, TableReadWrite}
 use Rattle.file_records.proofs.Puts.{first-of-none, put-refused, unwritten, written, written-front}
 use Rattle.netfile_format.proofs.Files.{read-write, WasWritten, write-read}

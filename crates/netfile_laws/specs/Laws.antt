@@ -12,9 +12,8 @@ use Rattle.network.specs.Networks.{Network}
 use Rattle.netfile_format.specs.declared.ReadAnswer.{ReadAnswer}
 use Rattle.file_records.specs.declared.WriteAnswer.{WriteAnswer}
 use Rattle.netfile_format.specs.Files.{Reading, refused, read, readFile, fileOf}
-use Rattle.netfile_format.specs.Answers.{roomOf, readAnswer, withRoom, reachesRead, RowsFilled, writeFault}
+use Rattle.netfile_format.specs.Answers.{roomOf, readAnswer, withRoom, reachesRead, RowsFilled, leftIn, writeFault}
 use Rattle.file_records.specs.Puts.{bytesWritten, Wrote, roomFor}
-use Rattle.netfile.specs.Reads.{leftIn}
 
 -- What a network is read as that was written: refused where the writer refuses it, else the network itself.
 abbrev pub networkAgain : Option Refusal → ℕ → Network → Reading

@@ -25,7 +25,8 @@ use Rattle.network.proofs.Reach as R
 use Rattle.netfile_format.proofs.ReadAnswer as S
 use Rattle.netfile_format.proofs.ReadAnswer.Laws as S′
 use Rattle.netfile.specs.declared.FileRead.{FileRead}
-use Rattle.netfile.specs.Reads.{ReadTable, ReadPacked}
+use Rattle.netfile_format.specs.Answers.{ReadTable}
+use Rattle.netfile.specs.Reads.{ReadPacked}
 use Rattle.netfile.proofs.FileRead as F
 use Rattle.netfile.proofs.FileRead.Laws as F′
 use Rattle.netfile.proofs.read_packed as core
