@@ -10,7 +10,7 @@ use lib.ListN.{length, take}
 use lib.Seq.{take-length}
 use Rattle.network.specs.declared.Refusal.{Refusal}
 use Rattle.network.specs.declared.Refusal.the-variants.{BadSetting}
-use Rattle.network.specs.Networks.{Network, maxReaches, tableFault, Accepted}
+use Rattle.network.specs.Networks.{Network, maxReaches, tableFault}
 use Rattle.network.specs.Settings.{isSetting, settingFault}
 use Rattle.network.specs.Replies.{faultNumber, firstOf, checkFault}
 use Rattle.network.proofs.Networks.{gates-fit}
@@ -22,23 +22,9 @@ use Rattle.walker.specs.declared.Walker.{Walker}
 use Rattle.walker.specs.declared.Made.{Made}
 use Rattle.walker.specs.Walkers.{walkerOf, makeOf, makeNumber, walkerMade, keptOf, Making}
 
--- ---- what the making answers
+-- ---- what is made
 
 module _ (N : Network) (s : List ℕ) where
-  -- 1, 2 and 3, by the table
-  pub make-faulty : {r : Refusal} → tableFault N ≡ some r → M.Refused r ≡ makeOf (checkFault N s)
-  unfolding checkFault
-  make-faulty e = rw e
-
-  -- 8, by the setting
-  pub make-misfit : Accepted N → isSetting N s ≡ false → M.Refused BadSetting ≡ makeOf (checkFault N s)
-  unfolding checkFault settingFault
-  make-misfit ok e = rw (ok, e)
-
-  pub make-fitting : Accepted N → isSetting N s ≡ true → M.Made ≡ makeOf (checkFault N s)
-  unfolding checkFault settingFault
-  make-fitting ok e = rw (ok, e)
-
   -- what is not refused is a setting of an accepted table
   made-held : checkFault N s ≡ none → length s ≤ maxReaches
   unfolding checkFault settingFault
