@@ -9,25 +9,18 @@ use mathlib.Core.List.{List}
 use lib.ListN.{length, take}
 use Rattle.network.specs.Networks.{Network, tableFault, Accepted}
 use Rattle.network.specs.Tables.{tableOf}
-use Rattle.network.specs.Settings.{isSetting, settingFault}
+use Rattle.network.specs.Settings.{isSetting}
 use Rattle.network.specs.Plans.{stronglyConnectedUnder}
 use Rattle.network.specs.Replies.{Outcome, firstOf, checkFault, firstAnswer, nextAnswer, roomFault, firstReply, nextReply}
 use Rattle.tables.specs.Rows.{netOf}
 use Rattle.tables.proofs.Cuts.{cut-ends-a, cut-ends-b, cut-net, cut-gates}
-use Rattle.refusals.proofs.Dues.{neither-due, setting-fits, room-left}
+use Rattle.refusals.proofs.Dues.{room-left, fitting}
 use Rattle.seeking.specs.Levels.{Level}
 use Rattle.replies.specs.declared.Answer.{Answer}
 use Rattle.replies.specs.declared.CheckAnswer.{CheckAnswer}
 use Rattle.replies.specs.Answers.{Replied, yesOr, CheckCall}
 use Rattle.replies.proofs.Refusals.{check-fitting, first-by, next-by}
 use Rattle.planning.specs.Rooms.{Lent}
-
--- ---- where nothing is refused
-
--- the table is accepted and the setting is one of its settings
-pub sound : (N : Network) (s : List ℕ) → checkFault N s ≡ none → Accepted N × (isSetting N s ≡ true)
-unfolding checkFault
-sound N s e = let d = neither-due (tableFault N) (settingFault N s) e in (d .0, setting-fits N s (d .1))
 
 -- ---- rows cut to the length of the table
 
@@ -59,4 +52,4 @@ module _ {N N′ : Network} (same : N′ ≡ N) where
       (subst (λ (M : Network). Replied (nextAnswer M s) plan marks plan′ marks′ r) same w)
 
   pub check-given : (s : List ℕ) {b : Bool} {v : CheckAnswer} → checkFault N s ≡ none → b ≡ stronglyConnectedUnder N′ s → v ≡ yesOr b → CheckCall N s v
-  check-given s {b} ok e f = subst⁻¹ (CheckCall N s) f (check-fitting N s b ok (sound N s ok .1) (e ∙ ap (λ (M : Network). stronglyConnectedUnder M s) same))
+  check-given s {b} ok e f = subst⁻¹ (CheckCall N s) f (check-fitting N s b ok (fitting N s ok .1) (e ∙ ap (λ (M : Network). stronglyConnectedUnder M s) same))
