@@ -44,6 +44,7 @@ abbrev pub makeNumber : MakeAnswer → ℕ
 makeNumber (M.Refused r) = refusalNumber r
 makeNumber M.Made = 0
 
+-- What the making answers, its number, and the walker that it hands back.
 pub record Making (N : Network) (s : List ℕ) (r : Made) : Type 0 where
   pub answered : r .answer ≡ makeOf (checkFault N s)
   pub number : makeNumber (r .answer) ≡ faultNumber (checkFault N s)
