@@ -33,8 +33,8 @@ module _ (n : ℕ) (ks xs ys : List ℕ) (m : ℕ) (e : m ≡ length (tableOf ks
       let left = room-left (netOf n ks xs ys) (length plan) (length marks) room in
       record { level = cut-level ok; plan-room = omega (arith, left .0, cut-gates ks xs ys m e n); marks-room = left .1 }
 
-  pub cut-fits : (s : List ℕ) → isSetting (netOf n ks xs ys) s ≡ true → isSetting (netOf n (take m ks) (take m xs) (take m ys)) s ≡ true
-  cut-fits s fit = ap (λ (N : Network). isSetting N s) (cut-net ks xs ys m e n) ∙ fit
+  pub cut-is-setting : (s : List ℕ) → isSetting (netOf n ks xs ys) s ≡ true → isSetting (netOf n (take m ks) (take m xs) (take m ys)) s ≡ true
+  cut-is-setting s fit = ap (λ (N : Network). isSetting N s) (cut-net ks xs ys m e n) ∙ fit
 
 -- ---- the reply of the cut rows is the reply of the network
 

@@ -67,9 +67,9 @@ module _ (N : Network) (planLength marksLength : ℕ) where
   unfolding roomFault
   marks-short k l = rw (le-leb (gateCount N) planLength k, lt-leb markBytes marksLength l)
 
-  pub roomy : gateCount N ≤ planLength → markBytes ≤ marksLength → roomFault N planLength marksLength ≡ none
+  pub long-enough : gateCount N ≤ planLength → markBytes ≤ marksLength → roomFault N planLength marksLength ≡ none
   unfolding roomFault
-  roomy k l = rw (le-leb (gateCount N) planLength k, le-leb markBytes marksLength l)
+  long-enough k l = rw (le-leb (gateCount N) planLength k, le-leb markBytes marksLength l)
 
   pub room-left : roomFault N planLength marksLength ≡ none → (gateCount N ≤ planLength) × (markBytes ≤ marksLength)
   unfolding roomFault
