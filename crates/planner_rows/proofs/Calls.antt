@@ -9,25 +9,18 @@ use mathlib.Core.List.{List}
 use lib.ListN.{length, take}
 use Rattle.network.specs.Networks.{Network, tableFault, Accepted}
 use Rattle.network.specs.Tables.{tableOf}
-use Rattle.network.specs.Settings.{isSetting, settingFault}
+use Rattle.network.specs.Settings.{isSetting}
 use Rattle.network.specs.Plans.{stronglyConnectedUnder}
 use Rattle.network.specs.Replies.{Outcome, firstOf, checkFault, firstAnswer, nextAnswer, roomFault, firstReply, nextReply}
 use Rattle.tables.specs.Rows.{netOf}
 use Rattle.tables.proofs.Cuts.{cut-ends-a, cut-ends-b, cut-net, cut-gates}
-use Rattle.refusals.proofs.Dues.{neither-due, setting-fits, room-left}
+use Rattle.refusals.proofs.Dues.{room-left, fitting}
 use Rattle.seeking.specs.Levels.{Level}
 use Rattle.replies.specs.declared.Answer.{Answer}
 use Rattle.replies.specs.declared.CheckAnswer.{CheckAnswer}
 use Rattle.replies.specs.Answers.{Replied, yesOr, CheckCall}
 use Rattle.replies.proofs.Refusals.{check-fitting, first-by, next-by}
 use Rattle.planning.specs.Rooms.{Lent}
-
--- ---- where nothing is refused
-
--- the table is accepted and the setting is one of its settings
-pub sound : (N : Network) (s : List ℕ) → checkFault N s ≡ none → Accepted N × (isSetting N s ≡ true)
-unfolding checkFault
-sound N s e = let d = neither-due (tableFault N) (settingFault N s) e in (d .0, setting-fits N s (d .1))
 
 -- ---- rows cut to the length of the table
 
@@ -40,8 +33,8 @@ module _ (n : ℕ) (ks xs ys : List ℕ) (m : ℕ) (e : m ≡ length (tableOf ks
       let left = room-left (netOf n ks xs ys) (length plan) (length marks) room in
       record { level = cut-level ok; plan-room = omega (arith, left .0, cut-gates ks xs ys m e n); marks-room = left .1 }
 
-  pub cut-fits : (s : List ℕ) → isSetting (netOf n ks xs ys) s ≡ true → isSetting (netOf n (take m ks) (take m xs) (take m ys)) s ≡ true
-  cut-fits s fit = ap (λ (N : Network). isSetting N s) (cut-net ks xs ys m e n) ∙ fit
+  pub cut-is-setting : (s : List ℕ) → isSetting (netOf n ks xs ys) s ≡ true → isSetting (netOf n (take m ks) (take m xs) (take m ys)) s ≡ true
+  cut-is-setting s fit = ap (λ (N : Network). isSetting N s) (cut-net ks xs ys m e n) ∙ fit
 
 -- ---- the reply of the cut rows is the reply of the network
 
@@ -59,4 +52,4 @@ module _ {N N′ : Network} (same : N′ ≡ N) where
       (subst (λ (M : Network). Replied (nextAnswer M s) plan marks plan′ marks′ r) same w)
 
   pub check-given : (s : List ℕ) {b : Bool} {v : CheckAnswer} → checkFault N s ≡ none → b ≡ stronglyConnectedUnder N′ s → v ≡ yesOr b → CheckCall N s v
-  check-given s {b} ok e f = subst⁻¹ (CheckCall N s) f (check-fitting N s b ok (sound N s ok .1) (e ∙ ap (λ (M : Network). stronglyConnectedUnder M s) same))
+  check-given s {b} ok e f = subst⁻¹ (CheckCall N s) f (check-fitting N s b ok (fitting N s ok .1) (e ∙ ap (λ (M : Network). stronglyConnectedUnder M s) same))

@@ -1,26 +1,21 @@
 -- What is due by each test: 8 by the setting, 7 by the buffers, and the first of two.
 -- Assumes nothing.
 use Prim.Native.Nat.{ℕ, _≤_, _<_}
-use native.Mathlib.Omega.{arith}
 use mathlib.Core.Path.{_≡_, refl, ap, _∙_}
 use mathlib.Core.Bool.{Bool, true, false, cond, _&&_}
 use mathlib.Core.Option.{Option, none, some, Option·some-ne-none}
 use mathlib.Core.List.{List}
-use lib.ListN.{length, take}
 use lib.Dec.{leb}
 use borrow.Author.Tests.{le-leb, lt-leb, leb-true}
 use Rattle.network.specs.declared.Refusal.{Refusal}
 use Rattle.network.specs.declared.Refusal.the-variants.{ShortBuffer, BadSetting}
-use Rattle.network.specs.Networks.{Network}
-use Rattle.network.specs.Tables.{tableOf}
+use Rattle.network.specs.Networks.{Network, tableFault, Accepted}
 use Rattle.network.specs.Settings.{gateCount, isSetting, settingFault}
 use Rattle.network.specs.Marks.{markBytes}
-use Rattle.network.specs.Replies.{firstOf, roomFault}
+use Rattle.network.specs.Replies.{firstOf, checkFault, roomFault}
 use Rattle.tables.specs.declared.TableAnswer.{TableAnswer}
-use Rattle.tables.specs.declared.TableAnswer.the-variants.{Accepted, Refused}
-use Rattle.tables.specs.Rows.{netOf, gatesIn}
+use Rattle.tables.specs.Rows.{netOf}
 use Rattle.tables.specs.Answers.{tableAnswer}
-use Rattle.tables.proofs.Cuts.{cut-gates}
 use Rattle.refusals.specs.Firsts.{firstTold}
 
 -- ---- the first of two
@@ -43,13 +38,18 @@ pub setting-due : (N : Network) (s : List ℕ) (b : Bool) → isSetting N s ≡ 
 unfolding settingFault
 setting-due N s b e = rw e
 
-pub setting-fits : (N : Network) (s : List ℕ) → settingFault N s ≡ none → isSetting N s ≡ true
+setting-fits : (N : Network) (s : List ℕ) → settingFault N s ≡ none → isSetting N s ≡ true
 unfolding settingFault
 setting-fits N s e = go (isSetting N s) refl e
   where
     go : (b : Bool) → isSetting N s ≡ b → cond b none (some BadSetting) ≡ none → isSetting N s ≡ true
     go true f e = f
     go false f e = absurd (Option·some-ne-none BadSetting e)
+
+-- what the check of a setting does not refuse is a setting of an accepted table
+pub fitting : (N : Network) (s : List ℕ) → checkFault N s ≡ none → Accepted N × (isSetting N s ≡ true)
+unfolding checkFault
+fitting N s e = let d = neither-due (tableFault N) (settingFault N s) e in (d .0, setting-fits N s (d .1))
 
 -- the basin count does not enter
 pub setting-any : (n : ℕ) (ks xs ys s : List ℕ) → settingFault (netOf 0 ks xs ys) s ≡ settingFault (netOf n ks xs ys) s
@@ -67,9 +67,9 @@ module _ (N : Network) (planLength marksLength : ℕ) where
   unfolding roomFault
   marks-short k l = rw (le-leb (gateCount N) planLength k, lt-leb markBytes marksLength l)
 
-  pub roomy : gateCount N ≤ planLength → markBytes ≤ marksLength → roomFault N planLength marksLength ≡ none
+  pub long-enough : gateCount N ≤ planLength → markBytes ≤ marksLength → roomFault N planLength marksLength ≡ none
   unfolding roomFault
-  roomy k l = rw (le-leb (gateCount N) planLength k, le-leb markBytes marksLength l)
+  long-enough k l = rw (le-leb (gateCount N) planLength k, le-leb markBytes marksLength l)
 
   pub room-left : roomFault N planLength marksLength ≡ none → (gateCount N ≤ planLength) × (markBytes ≤ marksLength)
   unfolding roomFault

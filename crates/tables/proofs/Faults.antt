@@ -1,13 +1,14 @@
 -- Which fault a network lent as rows has, by the tests of its table in their order.
 -- Assumes nothing.
 use Prim.Native.Nat.{ℕ, _≤_, _<_}
+use native.Mathlib.Omega.{arith}
 use mathlib.Core.Path.{_≡_, refl, sym, ap, _∙_}
 use mathlib.Core.Bool.{true, false, _&&_}
 use mathlib.Core.List.{List}
 use mathlib.Core.Option.{Option, none, some}
 use lib.ListN.{length, getD}
 use lib.Dec.{leb, ltb}
-use borrow.Author.Tests.{leb-true, ltb-true, le-leb, lt-ltb}
+use borrow.Author.Tests.{leb-true, ltb-true, le-leb, lt-ltb, eq-eqb, ne-eqb}
 use mathlib.Mathlib.Data.Bool.Basic.{and-elim-left, and-elim-right, and-intro, bool-eq-false}
 use Rattle.network.specs.declared.Refusal.{Refusal}
 use Rattle.network.specs.declared.Refusal.the-variants.{BasinCount, TooManyReaches, EndOutOfRange}
@@ -17,7 +18,7 @@ use Rattle.network.specs.Bridges.{noReach}
 use Rattle.network.specs.Replies.{faultNumber}
 use Rattle.network.proofs.Networks.{endsBelow}
 use Rattle.tables.specs.declared.TableAnswer.the-variants as T
-use Rattle.tables.specs.Answers.{tableAnswer, tableNumber, TableChecked}
+use Rattle.tables.specs.Answers.{tableAnswer, tableNumber, TableChecked, StrayEnd}
 use Rattle.tables.proofs.Laws.{table-at}
 
 module _ (N : Network) where
@@ -56,6 +57,13 @@ module _ (n i : ℕ) (ks xs ys : List ℕ) (l : i < length (tableOf ks xs ys)) w
   ends-bad f =
       let below = ltb (getD xs i 0) n in
       rw (table-at i ks xs ys l) (bool-eq-false {b = below && ltb (getD ys i 0) n} (λ e. f (ltb-true (getD xs i 0) n (and-elim-left below _ e)) (ltb-true (getD ys i 0) n (and-elim-right below _ e))))
+
+-- the first reach with a stray end, and none
+pub stray-here : (N : Network) (r : ℕ) → r < length (N .reaches) → false ≡ goodEnds N → StrayEnd N r
+stray-here N r l e = record { within = omega arith; good = sym e ∙ sym (ne-eqb r (length (N .reaches)) (λ p. omega arith)) }
+
+pub stray-none : (N : Network) {r : ℕ} → r ≡ length (N .reaches) → true ≡ goodEnds N → StrayEnd N r
+stray-none N {r} p e = record { within = omega arith; good = sym e ∙ sym (eq-eqb r (length (N .reaches)) p) }
 
 -- the answer to the fault has its number
 number-faulty : (o : Option Refusal) → tableNumber (tableAnswer o) ≡ faultNumber o

@@ -1,10 +1,12 @@
 -- What a table gets as an answer.
 -- Assumes nothing.
-use Prim.Native.Nat.{ℕ}
+use Prim.Native.Nat.{ℕ, _≤_}
 use mathlib.Core.Path.{_≡_}
 use mathlib.Core.Option.{Option, none, some}
+use lib.ListN.{length}
+use lib.Dec.{eqb}
 use Rattle.network.specs.declared.Refusal.{Refusal}
-use Rattle.network.specs.Networks.{Network, tableFault}
+use Rattle.network.specs.Networks.{Network, goodEnds, tableFault}
 use Rattle.network.specs.Replies.{refusalNumber, faultNumber}
 use Rattle.tables.specs.declared.TableAnswer.{TableAnswer}
 use Rattle.tables.specs.declared.TableAnswer.the-variants.{Accepted, Refused}
@@ -23,3 +25,8 @@ tableNumber (Refused r) = refusalNumber r
 pub record TableChecked (N : Network) (r : TableAnswer) : Type 0 where
   pub answer : r ≡ tableAnswer (tableFault N)
   pub number : tableNumber r ≡ faultNumber (tableFault N)
+
+-- Reach r is the first with an end that is not below the basin count; there is none if r is the number of reaches.
+pub record StrayEnd (N : Network) (r : ℕ) : Type 0 where
+  pub within : r ≤ length (N .reaches)
+  pub good : goodEnds N ≡ eqb r (length (N .reaches))

@@ -11,11 +11,10 @@ ghost use Prim.Native.Nat.{_≤_, min};
 ghost use lib.ListN.{length, drop};
 ghost use lib.Dec.{leb, eqb};
 ghost use Rattle.lists.specs.Lists.{every};
-ghost use Rattle.network.specs.Networks.{goodEnds};
 ghost use Rattle.network.specs.Tables.{kindOf, tableOf};
 ghost use Rattle.network.specs.Orientations.{way};
 ghost use Rattle.tables.specs.Rows.{netOf, gatesIn, gatesHeld, waysRow, bytesRow};
-ghost use Rattle.tables.specs.Answers.{TableChecked};
+ghost use Rattle.tables.specs.Answers.{TableChecked, StrayEnd};
 
 // The kinds that have a number of their own.
 const GATED: u8 = 0;
@@ -45,19 +44,19 @@ pub fn row_count(kinds: &[u8], a: &[u16], b: &[u16]) -> usize
     least(kinds.len(), least(a.len(), b.len()))
 }
 
-// Whether both ends of every reach are below the basin count.
-fn good_ends(basins: u16, kinds: &[u8], a: &[u16], b: &[u16]) -> bool
-    ensures { λ r. ⌜ r ≡ goodEnds (netOf basins (now (kinds .entry)) (now (a .entry)) (now (b .entry))) ⌝ }
+// The number of the first reach with an end that is not below the basin count, or the number of reaches if there is none.
+fn stray_end(basins: u16, kinds: &[u8], a: &[u16], b: &[u16]) -> usize
+    ensures { λ r. ⌜ StrayEnd (netOf basins (now (kinds .entry)) (now (a .entry)) (now (b .entry))) r ⌝ }
 {
     let n = row_count(kinds, a, b);
     let mut i = 0;
     while i < n {
         if a[i] >= basins || b[i] >= basins {
-            return false;
+            return i;
         }
         i += 1;
     }
-    true
+    n
 }
 
 // What the table gets, in the order of document 01: the basin count, the number of reaches, the ends. Refuses: 1, 2, 3.
@@ -67,14 +66,15 @@ pub fn table_check(basins: u16, kinds: &[u8], a: &[u16], b: &[u16]) -> TableAnsw
     if basins == 0 || basins as usize > MAX_BASINS {
         return TableAnswer::Refused(Refusal::BasinCount);
     }
-    if row_count(kinds, a, b) > MAX_REACHES {
+    let n = row_count(kinds, a, b);
+    let i = stray_end(basins, kinds, a, b);
+    if n > MAX_REACHES {
         return TableAnswer::Refused(Refusal::TooManyReaches);
     }
-    if good_ends(basins, kinds, a, b) {
-        TableAnswer::Accepted
-    } else {
-        TableAnswer::Refused(Refusal::EndOutOfRange)
+    if i < n {
+        return TableAnswer::Refused(Refusal::EndOutOfRange);
     }
+    TableAnswer::Accepted
 }
 
 // The number of gated reaches.

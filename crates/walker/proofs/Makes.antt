@@ -3,52 +3,28 @@
 use Prim.Native.Nat.{ℕ, _≤_}
 use native.Mathlib.Omega.{arith}
 use mathlib.Core.Path.{_≡_, refl, ap, _∙_}
-use mathlib.Core.Bool.{Bool, true, false, cond}
-use mathlib.Core.Option.{Option, none, some, Option·some-ne-none}
+use mathlib.Core.Option.{Option, none, some}
 use mathlib.Core.List.{List, []}
 use lib.ListN.{length, take}
 use lib.Seq.{take-length}
 use Rattle.network.specs.declared.Refusal.{Refusal}
-use Rattle.network.specs.declared.Refusal.the-variants.{BadSetting}
-use Rattle.network.specs.Networks.{Network, maxReaches, tableFault, Accepted}
-use Rattle.network.specs.Settings.{isSetting, settingFault}
-use Rattle.network.specs.Replies.{faultNumber, firstOf, checkFault}
+use Rattle.network.specs.Networks.{Network, maxReaches}
+use Rattle.network.specs.Replies.{faultNumber, checkFault}
 use Rattle.network.proofs.Networks.{gates-fit}
 use Rattle.network.proofs.Order.{setting-length}
 use Rattle.packing.proofs.Packings.{ByTable}
+use Rattle.refusals.proofs.Dues.{fitting}
 use Rattle.walker.specs.declared.MakeAnswer.{MakeAnswer}
 use Rattle.walker.specs.declared.MakeAnswer.the-variants as M
 use Rattle.walker.specs.declared.Walker.{Walker}
 use Rattle.walker.specs.declared.Made.{Made}
 use Rattle.walker.specs.Walkers.{walkerOf, makeOf, makeNumber, walkerMade, keptOf, Making}
 
--- ---- what the making answers
+-- ---- what is made
 
-module _ (N : Network) (s : List ℕ) where
-  -- 1, 2 and 3, by the table
-  pub make-faulty : {r : Refusal} → tableFault N ≡ some r → M.Refused r ≡ makeOf (checkFault N s)
-  unfolding checkFault
-  make-faulty e = rw e
-
-  -- 8, by the setting
-  pub make-misfit : Accepted N → isSetting N s ≡ false → M.Refused BadSetting ≡ makeOf (checkFault N s)
-  unfolding checkFault settingFault
-  make-misfit ok e = rw (ok, e)
-
-  pub make-fitting : Accepted N → isSetting N s ≡ true → M.Made ≡ makeOf (checkFault N s)
-  unfolding checkFault settingFault
-  make-fitting ok e = rw (ok, e)
-
-  -- what is not refused is a setting of an accepted table
-  made-held : checkFault N s ≡ none → length s ≤ maxReaches
-  unfolding checkFault settingFault
-  made-held e = go (tableFault N) refl (isSetting N s) refl e
-    where
-      go : (f : Option Refusal) → tableFault N ≡ f → (b : Bool) → isSetting N s ≡ b → firstOf f (cond b none (some BadSetting)) ≡ none → length s ≤ maxReaches
-      go none ok true fit e = omega (arith, gates-fit N ok, setting-length N s fit)
-      go none ok false fit e = absurd (Option·some-ne-none BadSetting e)
-      go (some r) bad true fit e = absurd (Option·some-ne-none r e)
-      go (some r) bad false fit e = absurd (Option·some-ne-none r e)
+-- what is made holds the setting
+made-held : (N : Network) (s : List ℕ) → checkFault N s ≡ none → length s ≤ maxReaches
+made-held N s e = let d = fitting N s e in omega (arith, gates-fit N (d .0), setting-length N s (d .1))
 
 -- of a refused table the making depends on the refusal only
 pub make-alike : (s : List ℕ) {r : Made} → ByTable (λ N. Making N s r)

@@ -96,18 +96,13 @@ fn advanced(answer: Answer, walker: Walker, plan: &[u8], g: usize) -> Walker
     }
 }
 
-// What the making of a walker answers: 1, 2 and 3 by the table, then 8 by the setting.
+// What the making of a walker answers: what the check of its setting refuses.
 fn make_answer(basins: u16, kinds: &[u8], a: &[u16], b: &[u16], setting: &[u8]) -> MakeAnswer
     ensures { λ r. ⌜ r ≡ makeOf (checkFault (netOf basins (now (kinds .entry)) (now (a .entry)) (now (b .entry))) (now (setting .entry))) ⌝ }
 {
-    if let TableAnswer::Refused(r) = tables::table_check(basins, kinds, a, b) {
-        return MakeAnswer::Refused(r);
-    }
-    let m = tables::row_count(kinds, a, b);
-    if tables::fits(&kinds[..m], setting) {
-        MakeAnswer::Made
-    } else {
-        MakeAnswer::Refused(Refusal::BadSetting)
+    match refusals::check_refusal(basins, kinds, a, b, setting) {
+        TableAnswer::Refused(r) => MakeAnswer::Refused(r),
+        TableAnswer::Accepted => MakeAnswer::Made,
     }
 }
 

@@ -9,7 +9,8 @@ use Rattle.network.specs.Replies.{checkFault}
 use Rattle.tables.specs.Rows.{netOf}
 use Rattle.tables.proofs.Faults.{answer-refused, answer-accepted}
 use Rattle.tables.proofs.Cuts.{cut-kinds, cut-a, cut-b, cut-net}
-use Rattle.planner_rows.proofs.Calls.{sound, cut-level, check-given}
+use Rattle.refusals.proofs.Dues.{fitting}
+use Rattle.planner_rows.proofs.Calls.{cut-level, check-given}
 use Rattle.replies.proofs.Refusals.{check-refused}
 use Rattle.planner_rows.proofs.check.Statement.{statement}
 use Rattle.planner_rows.proofs.check.Tie as tie
@@ -59,7 +60,7 @@ check-accepted-requires : tie.Need-check-accepted-requires
 check-accepted-requires c κs =
     let s = c .before .before .before .before .before .before .before .before .before .before .before in
     let m = c .before .before .before .row-count in
-    cut-level (s .args .basins) (s .args .kinds .now) (s .args .a .now) (s .args .b .now) (m .result) (m .ensures) (sound (net s) (s .args .setting .now) (clear (c .before .before .before .before)) .0)
+    cut-level (s .args .basins) (s .args .kinds .now) (s .args .a .now) (s .args .b .now) (m .result) (m .ensures) (fitting (net s) (s .args .setting .now) (clear (c .before .before .before .before)) .0)
 
 yes-or-requires : tie.Need-yes-or-requires
 yes-or-requires c κs = search needs

@@ -9,7 +9,7 @@ use Rattle.network.specs.Settings.{gateCount}
 use Rattle.tables.specs.Rows.{netOf}
 use Rattle.tables.specs.Answers.{tableAnswer}
 use Rattle.tables.proofs.Cuts.{cut-kinds, cut-gates}
-use Rattle.refusals.proofs.Dues.{plan-short, marks-short, roomy}
+use Rattle.refusals.proofs.Dues.{plan-short, marks-short, long-enough}
 use Rattle.refusals.proofs.room_check.Statement.{statement}
 use Rattle.refusals.proofs.room_check.Tie as tie
 
@@ -49,7 +49,7 @@ returns-2 c =
 returns-3 : tie.Need-returns-3
 returns-3 c =
     let s = c .before .before .before .before .before .before .before .before in
-    sym (ap tableAnswer (roomy (net s) (s .args .plan) (s .args .marks) (omega (arith, counted (c .before .before), c .before .if1 .left)) (omega (arith, c .if2 .left))))
+    sym (ap tableAnswer (long-enough (net s) (s .args .plan) (s .args .marks) (omega (arith, counted (c .before .before), c .before .if1 .left)) (omega (arith, c .if2 .left))))
 
 pub room-check-spec : {M : Type 1} → statement M
 room-check-spec = tie.close (tie.spec row-count-requires slice-aggregate-count-gates count-gates-requires returns returns-2 returns-3)

@@ -1,13 +1,13 @@
 -- `table_check` meets its contract: the first test that fails decides.
 -- Assumes nothing.
-use mathlib.Core.Path.{_≡_, sym, _∙_}
+use mathlib.Core.Path.{_≡_, _∙_}
 use mathlib.Core.Bool.{true}
 use mathlib.Core.Logic.{⊎-elim}
 use native.Mathlib.Omega.{arith}
 use lib.ListN.{length}
 use borrow.Author.Needs.{needs}
-use borrow.Author.Tests.{ltb-true, ltb-false, le-leb, lt-leb}
-use Rattle.network.specs.Networks.{Network, goodCount, goodLength, maxBasins, maxReaches}
+use borrow.Author.Tests.{ltb-true, ltb-false, le-leb, lt-leb, eq-eqb, ne-eqb}
+use Rattle.network.specs.Networks.{Network, goodCount, maxBasins, maxReaches}
 use Rattle.tables.specs.Rows.{netOf}
 use Rattle.tables.proofs.Faults.{count-good, count-bad, fault-count, fault-length, fault-ends, fault-none, table-checked}
 use Rattle.tables.proofs.table_check.Statement.{statement}
@@ -17,16 +17,11 @@ use Rattle.tables.proofs.table_check.Tie as tie
 abbrev net : tie.Start → Network
 net c = let s = c .args in netOf (s .basins) (s .kinds .now) (s .a .now) (s .b .now)
 
--- after the first test the count is good, after the second the length is
+-- after the first test the count is good
 counted : (c : tie.Else2) → goodCount (net (c .before .before .before .before .before)) ≡ true
 counted c =
     let N = net (c .before .before .before .before .before) in
     count-good N (omega arith) (ltb-false maxBasins (N .basins) (c .if2 .left))
-
-few : (c : tie.Else3) → goodLength (net (c .before .before .before .before .before .before .before)) ≡ true
-few c =
-    let t = net (c .before .before .before .before .before .before .before) .reaches in
-    le-leb (length t) maxReaches (omega arith)
 
 returns : tie.Need-returns
 returns c =
@@ -38,25 +33,33 @@ returns c =
 row-count-requires : tie.Need-row-count-requires
 row-count-requires c κs = search needs
 
+stray-end-requires : tie.Need-stray-end-requires
+stray-end-requires c κs = search needs
+
 returns-2 : tie.Need-returns-2
 returns-2 c =
-    let N = net (c .before .before .before .before .before .before .before) in
-    table-checked N (fault-length N (counted (c .before .before)) (lt-leb (length (N .reaches)) maxReaches (omega arith)))
-
-good-ends-requires : tie.Need-good-ends-requires
-good-ends-requires c κs = search needs
+    let N = net (c .before .before .before .before .before .before .before .before) in
+    table-checked N (fault-length N (counted (c .before .before .before)) (lt-leb (length (N .reaches)) maxReaches (omega (arith, c .before .before .row-count .ensures, c .before .stray-end .ensures .within, c .if3 .taken))))
 
 returns-3 : tie.Need-returns-3
 returns-3 c =
     let N = net (c .before .before .before .before .before .before .before .before .before) in
-    table-checked N (fault-none N (counted (c .before .before .before .before)) (few (c .before .before)) (sym (c .before .good-ends .ensures) ∙ c .if4 .taken))
+    let m = c .before .before .before .row-count .ensures in
+    let stray = c .before .before .stray-end in
+    table-checked N
+    (fault-ends N (counted (c .before .before .before .before)) (le-leb (length (N .reaches)) maxReaches (omega (arith, m, c .before .if3 .left)))
+    (stray .ensures .good ∙ ne-eqb (stray .result) (length (N .reaches)) (λ e. omega (arith, m, c .if4 .taken))))
 
 returns-4 : tie.Need-returns-4
 returns-4 c =
     let N = net (c .before .before .before .before .before .before .before .before .before) in
-    table-checked N (fault-ends N (counted (c .before .before .before .before)) (few (c .before .before)) (sym (c .before .good-ends .ensures) ∙ c .if4 .left))
+    let m = c .before .before .before .row-count .ensures in
+    let stray = c .before .before .stray-end in
+    table-checked N
+    (fault-none N (counted (c .before .before .before .before)) (le-leb (length (N .reaches)) maxReaches (omega (arith, m, c .before .if3 .left, c .if4 .left)))
+    (stray .ensures .good ∙ eq-eqb (stray .result) (length (N .reaches)) (omega (arith, m, stray .ensures .within, c .if4 .left))))
 
 pub table-check-spec : {M : Type 1} → statement M
 table-check-spec =
     tie.close
-    (tie.spec returns row-count-requires returns-2 good-ends-requires returns-3 returns-4)
+    (tie.spec returns row-count-requires stray-end-requires returns-2 returns-3 returns-4)

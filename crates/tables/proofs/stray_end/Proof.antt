@@ -1,4 +1,4 @@
--- `good_ends` meets its contract. The loop's invariant: every reach has good ends exactly if every reach from i on has. The measure is what is left of the table.
+-- `stray_end` meets its contract. The loop's invariant: every reach has good ends exactly if every reach from i on has. The measure is what is left of the table.
 -- Assumes nothing.
 use Prim.Native.Nat.{_-_, _<_}
 use mathlib.Core.Logic.{⊎-elim}
@@ -6,13 +6,14 @@ use native.Mathlib.Omega.{arith}
 use lib.ListN.{length, getD}
 use borrow.Author.Tests.{leb-true, leb-false}
 use Rattle.network.specs.Tables.{tableOf}
+use Rattle.tables.specs.Rows.{netOf}
 use Rattle.network.specs.Bridges.{noReach}
 use Rattle.network.proofs.Networks.{endsBelow}
-use Rattle.tables.proofs.Faults.{ends-good, ends-bad}
+use Rattle.tables.proofs.Faults.{ends-good, ends-bad, stray-here, stray-none}
 use Rattle.tables.proofs.Laws.{table-short}
 use Rattle.lists.proofs.Searches.{Passed, passed-none, passed-more, passed-not, passed-all}
-use Rattle.tables.proofs.good_ends.Statement.{statement}
-use Rattle.tables.proofs.good_ends.Tie as tie
+use Rattle.tables.proofs.stray_end.Statement.{statement}
+use Rattle.tables.proofs.stray_end.Tie as tie
 
 abbrev Inv-loop : tie.InvT-loop
 Inv-loop basins kinds a b n i₀ i = Passed (endsBelow basins) (tableOf kinds a b) i
@@ -52,10 +53,12 @@ returns c =
     let s = turn .before .before .before .before .before .before .args in
     let i = turn .before .loop .i in
     let n = s .basins in
-    let l : i < length (tableOf (s .kinds .now) (s .a .now) (s .b .now)) = omega arith in
+    let t = tableOf (s .kinds .now) (s .a .now) (s .b .now) in
+    let l : i < length t = omega arith in
     let bad = ends-bad n i (s .kinds .now) (s .a .now) (s .b .now) l in
-    passed-not (endsBelow n) (tableOf (s .kinds .now) (s .a .now) (s .b .now)) i (turn .before .loop .inv) noReach l
-    (⊎-elim (λ w. bad (λ p q. omega arith)) (λ w. bad (λ p q. omega (arith, leb-true n (getD (s .b .now) i 0) (w .2 .taken)))) (c .if1 .came))
+    stray-here (netOf n (s .kinds .now) (s .a .now) (s .b .now)) i l
+    (passed-not (endsBelow n) t i (turn .before .loop .inv) noReach l
+    (⊎-elim (λ w. bad (λ p q. omega arith)) (λ w. bad (λ p q. omega (arith, leb-true n (getD (s .b .now) i 0) (w .2 .taken)))) (c .if1 .came)))
 
 add-i : tie.Need-add-i Inv-loop μ-loop
 add-i c = omega arith
@@ -76,10 +79,11 @@ loop-again c =
 returns-2 : tie.Need-returns-2 Inv-loop μ-loop
 returns-2 c =
     let s = c .before .before .before .before .before .before .args in
-    passed-all (endsBelow (s .basins)) (tableOf (s .kinds .now) (s .a .now) (s .b .now)) (c .before .loop .i) (c .before .loop .inv) (omega arith)
+    stray-none (netOf (s .basins) (s .kinds .now) (s .a .now) (s .b .now)) (omega arith)
+    (passed-all (endsBelow (s .basins)) (tableOf (s .kinds .now) (s .a .now) (s .b .now)) (c .before .loop .i) (c .before .loop .inv) (omega arith))
 
-pub good-ends-spec : {M : Type 1} → statement M
-good-ends-spec =
+pub stray-end-spec : {M : Type 1} → statement M
+stray-end-spec =
     tie.close
     (tie.spec
     Inv-loop
