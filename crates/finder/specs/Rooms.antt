@@ -1,11 +1,11 @@
 -- An accepted table of rows with lent working memory.
 -- Assumes nothing.
-use Prim.Native.Nat.{ℕ, _≤_}
+use Prim.Native.Nat.{ℕ, _*_, _≤_}
 use mathlib.Core.Path.{_≡_}
 use mathlib.Core.Bool.{true}
 use mathlib.Core.List.{List}
 use lib.ListN.{length}
-use Rattle.network.specs.Networks.{Accepted}
+use Rattle.network.specs.Networks.{maxBasins, maxReaches, Accepted}
 use Rattle.network.specs.Settings.{isSetting}
 use Rattle.half_edges.specs.Ends.{halves}
 use Rattle.half_edges.specs.Chains.{Index, Indexable}
@@ -36,3 +36,11 @@ pub record Seekable (n : ℕ) (ks xs ys s us ws head next seen queue : List ℕ)
   pub room : Room n ks xs ys ws head next seen queue
   pub under-room : length us ≡ length ks
   pub fits : isSetting (netOf n ks xs ys) s ≡ true
+
+-- Working memory for the largest table.
+pub record Space (ws head next seen queue : List ℕ) : Type 0 where
+  pub ways-space : length ws ≡ maxReaches
+  pub head-space : length head ≡ maxBasins
+  pub next-space : length next ≡ 2 * maxReaches
+  pub seen-space : length seen ≡ maxBasins
+  pub queue-space : length queue ≡ maxBasins

@@ -23,7 +23,7 @@ ghost use mathlib.Core.Path.{_≡_};
 ghost use Prim.Native.Nat.{_≤_};
 ghost use lib.ListN.{length, take, drop};
 ghost use Rattle.network.specs.Networks.{maxReaches};
-ghost use Rattle.planning.specs.Rooms.{Space};
+ghost use Rattle.finder.specs.Rooms.{Space};
 ghost use Rattle.lines.specs.Puts.{Put};
 ghost use Rattle.listing.specs.Keeping.{Kept};
 ghost use Rattle.listing_state.specs.Pending.{lineOf, stateNet, Filling};

@@ -20,7 +20,7 @@ use Rattle.replies.specs.declared.Answer.{Answer}
 use Rattle.replies.specs.declared.CheckAnswer.{CheckAnswer}
 use Rattle.replies.specs.Answers.{Replied, yesOr, CheckCall}
 use Rattle.replies.proofs.Refusals.{check-fitting, first-by, next-by}
-use Rattle.planning.specs.Rooms.{Lent}
+use Rattle.replies.specs.Reports.{Lent}
 
 -- ---- rows cut to the length of the table
 

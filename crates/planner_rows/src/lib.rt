@@ -2,7 +2,7 @@
 // Each call refuses bad input by number and has no `requires`; what it replies and every byte of lent memory afterwards is in its `ensures`.
 use planning::check_accepted;
 use planning::first_accepted;
-use planning::next_accepted;
+use planning_next::next_accepted;
 use refusals::check_refusal;
 use refusals::first_refusal;
 use refusals::next_refusal;

@@ -1,19 +1,27 @@
 -- What writing down a finding or a plan leaves.
 -- Assumes nothing.
 use Prim.Native.Nat.{ℕ, _+_}
-use mathlib.Core.Path.{_≡_, ap, subst, subst⁻¹, _∙_}
+use mathlib.Core.Path.{_≡_, refl, sym, ap, ap₂, subst, subst⁻¹, _∙_}
 use mathlib.Core.List.{List, _++_}
-use lib.ListN.{getD, take, drop}
+use lib.ListN.{length, getD, take, drop}
 use lib.Seq.{take-at}
+use Rattle.network.specs.Tables.{tableOf}
+use Rattle.network.specs.Replies.{shutInSide, bridgeSide, shutInFinding, loneFinding}
 use Rattle.network.specs.Marks.{markBytes, marksOf, onesIn}
 use Rattle.network.proofs.Marks.{length-marks}
-use Rattle.tables.specs.Rows.{gatesIn, bytesRow}
+use Rattle.tables.specs.Rows.{netOf, gatesIn, bytesRow}
+use Rattle.tables.proofs.Laws.{row-length, row-bytes, row-gates}
 use Rattle.marks.specs.Sets.{markedSet}
+use Rattle.orientations.proofs.Least.{bytes-length}
 use Rattle.replies.specs.declared.Verdict.the-variants.{Plan, ShutIn, Lone}
+use Rattle.replies.specs.declared.Reply.{Reply}
+use Rattle.replies.specs.declared.Answer.the-variants.{Given}
 use Rattle.seeking.specs.declared.Found.{Found}
 use Rattle.seeking.specs.declared.Found.the-variants.{Closed, Bridge, Oriented}
-use Rattle.seeking.specs.Found.{otherThan}
+use Rattle.seeking.specs.Found.{otherThan, outcomeOf, SideNoted}
+use Rattle.replies.specs.Answers.{given, Replied}
 use Rattle.replies.specs.Reports.{MarksWritten, Reported, wrote-shut, wrote-lone, wrote-plan}
+use Rattle.replies.proofs.Answers.{replied}
 
 -- the count of what was written
 pub marks-written : (S : List ℕ) {marks marks′ : List ℕ} {r : ℕ} → marks′ ≡ marksOf S ++ drop markBytes marks → r ≡ onesIn (take markBytes marks′) → MarksWritten S marks marks′ r
@@ -34,3 +42,24 @@ module _ {n : ℕ} {ks ws seen plan marks : List ℕ} {f : Found} where
 
   pub reported-plan : {plan′ : List ℕ} → f ≡ Oriented → plan′ ≡ bytesRow ks ws ++ drop (gatesIn ks) plan → Reported n ks ws seen f plan marks plan′ marks (record { verdict = Plan })
   reported-plan {plan′} e m = subst⁻¹ (λ (g : Found). Reported n ks ws seen g plan marks plan′ marks (record { verdict = Plan })) e (wrote-plan m)
+
+-- what was written down, with what was noted, is the reply
+module _ (n : ℕ) (ks xs ys : List ℕ) (ea : length xs ≡ length ks) (eb : length ys ≡ length ks) where
+  pub written : {ws seen : List ℕ} {f : Found} {plan marks plan′ marks′ : List ℕ} {r : Reply} → length ws ≡ length ks → SideNoted (netOf n ks xs ys) seen f → Reported n ks ws seen f plan marks plan′ marks′ r
+      → Replied (outcomeOf (netOf n ks xs ys) ws f) plan marks plan′ marks′ (Given r)
+  unfolding shutInFinding loneFinding
+  written {seen} {marks} full noted (wrote-shut m) =
+      replied
+      (ap (λ (c : ℕ). given (ShutIn (record { reach = 0; count = c }))) (m .count ∙ ap onesIn noted))
+      refl
+      (m .bytes ∙ ap₂ (λ (x : List ℕ) (k : ℕ). x ++ drop k marks) noted (sym (length-marks (shutInSide (netOf n ks xs ys)))))
+  written {seen} {marks} full noted (wrote-lone {r = i} m) =
+      replied
+      (ap (λ (c : ℕ). given (Lone (record { reach = i; count = c }))) (m .count ∙ ap onesIn noted))
+      refl
+      (m .bytes ∙ ap₂ (λ (x : List ℕ) (k : ℕ). x ++ drop k marks) noted (sym (length-marks (bridgeSide (netOf n ks xs ys) i))))
+  written {ws} {plan} full noted (wrote-plan e) =
+      replied
+      refl
+      (e ∙ ap₂ (λ (x : List ℕ) (k : ℕ). x ++ drop k plan) (sym (row-bytes ks xs ys ea eb ws)) (sym (bytes-length 0 (tableOf ks xs ys) ws (full ∙ sym (row-length ks xs ys ea eb)) ∙ row-gates ks xs ys ea eb 0)))
+      refl

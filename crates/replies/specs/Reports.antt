@@ -12,12 +12,19 @@ use Rattle.replies.specs.declared.Verdict.the-variants.{Plan, ShutIn, Lo
 use Rattle.replies.specs.declared.Reply.{Reply}
 use Rattle.seeking.specs.declared.Found.{Found}
 use Rattle.seeking.specs.declared.Found.the-variants.{Closed, Bridge, Oriented}
+use Rattle.seeking.specs.Levels.{Level}
 use Rattle.seeking.specs.Found.{otherThan, reachFound}
 
 -- The marks of S stand in the first bytes, and r is their count.
 pub record MarksWritten (S marks marks′ : List ℕ) (r : ℕ) : Type 0 where
   pub bytes : marks′ ≡ marksOf S ++ drop markBytes marks
   pub count : r ≡ onesIn (marksOf S)
+
+-- An accepted table of rows of one length, and lent buffers that are long enough.
+pub record Lent (n : ℕ) (ks xs ys plan marks : List ℕ) : Type 0 where
+  pub level : Level n ks xs ys
+  pub plan-room : gatesIn ks ≤ length plan
+  pub marks-room : markBytes ≤ length marks
 
 -- What writing a finding or a plan down requires.
 pub record Reportable (n : ℕ) (ks ws seen plan marks : List ℕ) (f : Found) : Type 0 where

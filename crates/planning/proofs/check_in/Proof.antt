@@ -3,7 +3,7 @@
 use native.Mathlib.Omega.{arith}
 use mathlib.Core.Path.{sym}
 use lib.Seq.{length-take-le}
-use Rattle.planning.proofs.Working.{level-few, level-room}
+use Rattle.finder.proofs.Rooms.{level-few, level-room}
 use borrow.Author.Needs.{needs}
 use Rattle.planning.proofs.check_in.Statement.{statement}
 use Rattle.planning.proofs.check_in.Tie as tie

@@ -5,7 +5,8 @@ use mathlib.Core.Path.{sym, _∙_}
 use lib.Seq.{length-take-le}
 use Rattle.network.proofs.Networks.{accepted}
 use Rattle.tables.specs.Rows.{netOf}
-use Rattle.planning.proofs.Working.{level-few, level-room, first-fits, first-written}
+use Rattle.finder.proofs.Rooms.{level-few, level-room}
+use Rattle.planning.proofs.Working.{first-fits, first-written}
 use borrow.Author.Needs.{needs}
 use Rattle.planning.proofs.first_in.Statement.{statement}
 use Rattle.planning.proofs.first_in.Tie as tie

@@ -1,4 +1,4 @@
--- `planning::next_in` meets its contract: what is found is written down, or 11.
+-- `planning_next::next_in` meets its contract: what is found is written down, or 11.
 -- Assumes nothing.
 use native.Mathlib.Omega.{arith}
 use mathlib.Core.Path.{sym, _∙_}
@@ -6,10 +6,11 @@ use lib.Seq.{length-take-le}
 use Rattle.network.proofs.Networks.{accepted}
 use Rattle.tables.specs.Rows.{netOf}
 use Rattle.replies.proofs.Refusals.{refused-written}
-use Rattle.planning.proofs.Working.{level-few, level-room, next-at, next-last, next-written}
+use Rattle.finder.proofs.Rooms.{level-few, level-room}
+use Rattle.planning_next.proofs.Working.{next-at, next-last, next-written}
 use borrow.Author.Needs.{needs}
-use Rattle.planning.proofs.next_in.Statement.{statement}
-use Rattle.planning.proofs.next_in.Tie as tie
+use Rattle.planning_next.proofs.next_in.Statement.{statement}
+use Rattle.planning_next.proofs.next_in.Tie as tie
 
 slice-relend-prefix-oriented : tie.Need-slice-relend-prefix-oriented
 slice-relend-prefix-oriented c = let s = (c .before .before .before .before .before .before .before .before .before .before .before .before) in omega (arith, level-few (s .pre .0 .level), s .pre .1 .1 .0 .ways-space)

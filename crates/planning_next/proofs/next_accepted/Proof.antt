@@ -1,9 +1,9 @@
--- `planning::next_accepted` meets its contract: working memory of its own.
+-- `planning_next::next_accepted` meets its contract: working memory of its own.
 -- Assumes nothing.
 use mathlib.Core.Path.{refl}
 use borrow.Author.Needs.{needs}
-use Rattle.planning.proofs.next_accepted.Statement.{statement}
-use Rattle.planning.proofs.next_accepted.Tie as tie
+use Rattle.planning_next.proofs.next_accepted.Statement.{statement}
+use Rattle.planning_next.proofs.next_accepted.Tie as tie
 
 slice-aggregate-next-in : tie.Need-slice-aggregate-next-in
 slice-aggregate-next-in c = search needs

@@ -1,2 +1,0 @@
--- Lent buffers, and working memory for the largest table.
-pub mod Rooms

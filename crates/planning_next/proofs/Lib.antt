@@ -1,0 +1,2 @@
+-- From what was found to the reply.
+pub mod Working
