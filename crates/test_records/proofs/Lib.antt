@@ -1,0 +1,2 @@
+-- What the walks of the relays share.
+pub mod Lending

@@ -1,0 +1,16 @@
+-- `within` counts entries at the start of the row.
+-- Assumes nothing.
+use lib.Seq.{length-take-le}
+use native.Mathlib.Omega.{arith}
+use mathlib.Core.Path.{sym}
+use Rattle.test_records.proofs.table.within.Statement.{statement}
+use Rattle.test_records.proofs.table.within.Tie as tie
+
+returns : tie.Need-returns
+returns c = (c .if1 .taken, sym (length-take-le _ _ (c .if1 .taken)))
+
+returns-2 : tie.Need-returns-2
+returns-2 c = (omega arith, sym (length-take-le _ _ (omega arith)))
+
+pub within-spec : {M : Type 1} → statement M
+within-spec = tie.close (tie.spec returns returns-2)

@@ -1,0 +1,356 @@
+// Each call over records beside the call over rows, on the same tables of a fixed sequence. All that a call replies and leaves in its buffers goes
+// into a sum, and the two sums are printed.
+mod relays;
+mod sums;
+mod table;
+
+use file_records::WriteAnswer;
+use network::Reach;
+use relays::ROOM;
+use sums::mix;
+use sums::sum;
+use table::Twice;
+use table::bounded;
+use table::front;
+use table::front_words;
+use table::table;
+use table::within;
+use table::within_words;
+use walker::Walker;
+ghost use Prim.Native.Nat.{_≤_};
+
+// The calls.
+const TABLE: u8 = 0;
+
+const CHECK: u8 = 1;
+
+const FIRST: u8 = 2;
+
+const NEXT: u8 = 3;
+
+const MAKE: u8 = 4;
+
+const STEP: u8 = 5;
+
+const READ_NETWORK: u8 = 6;
+
+const WRITE_NETWORK: u8 = 7;
+
+const READ_SHEET: u8 = 8;
+
+const WRITE_SHEET: u8 = 9;
+
+const WRITE_REPLY: u8 = 10;
+
+fn over_rows(
+    call: u8,
+    basins: u16,
+    kinds: &[u8],
+    a: &[u16],
+    b: &[u16],
+    walker: Walker,
+    s: &[u8],
+    out: &mut [u8],
+    marks: &mut [u8],
+) -> u64 {
+    match call {
+        TABLE => sums::of_table(tables::table_check(basins, kinds, a, b)),
+        CHECK => sums::of_check(planner_rows::check(basins, kinds, a, b, s)),
+        FIRST => sums::of_answer(planner_rows::first_plan(basins, kinds, a, b, out, marks)),
+        NEXT => sums::of_answer(planner_rows::next_plan(basins, kinds, a, b, s, out, marks)),
+        MAKE => sums::of_made(Walker::make_rows(basins, kinds, a, b, s)),
+        STEP => sums::of_stepped(walker.step_rows(basins, kinds, a, b, out, marks)),
+        WRITE_NETWORK => sums::of_written(netfile_rows::write_network(basins, kinds, a, b, out)),
+        READ_SHEET => sums::of_sheet(sheet_rows::read_sheet(basins, kinds, a, b, s, out)),
+        WRITE_SHEET => sums::of_written(sheet_rows::write_sheet(basins, kinds, a, b, s, out)),
+        _ => sums::of_written(sheet_rows::write_reply(basins, kinds, a, b, out)),
+    }
+}
+
+fn over_records(
+    call: u8,
+    n: usize,
+    basins: u16,
+    reaches: [Reach; ROOM],
+    walker: Walker,
+    s: &[u8],
+    out: &mut [u8],
+    marks: &mut [u8],
+) -> u64
+    requires { ⌜ n ≤ 1030 ⌝ }
+{
+    match call {
+        TABLE => sums::of_table(relays::table_check(n, basins, reaches)),
+        CHECK => sums::of_check(relays::check(n, basins, reaches, s)),
+        FIRST => sums::of_answer(relays::first_plan(n, basins, reaches, out, marks)),
+        NEXT => sums::of_answer(relays::next_plan(n, basins, reaches, s, out, marks)),
+        MAKE => sums::of_made(relays::make(n, basins, reaches, s)),
+        STEP => sums::of_stepped(relays::step(n, walker, basins, reaches, out, marks)),
+        WRITE_NETWORK => sums::of_written(relays::write_network(n, basins, reaches, out)),
+        READ_SHEET => sums::of_sheet(relays::read_sheet(n, basins, reaches, s, out)),
+        WRITE_SHEET => sums::of_written(relays::write_sheet(n, basins, reaches, s, out)),
+        _ => sums::of_written(relays::write_reply(n, basins, reaches, out)),
+    }
+}
+
+// What a lent buffer holds before a call.
+const OLD: u8 = 170;
+
+// A call over rows, with an output of p bytes: the sum of what it replies and leaves.
+fn rows(
+    call: u8,
+    basins: u16,
+    kinds: &[u8],
+    a: &[u16],
+    b: &[u16],
+    walker: Walker,
+    s: &[u8],
+    p: usize,
+) -> u64 {
+    let mut out = [OLD; 5200];
+    let mut marks = [OLD; 40];
+    let k = within(&out, p);
+    let x = over_rows(
+        call,
+        basins,
+        kinds,
+        a,
+        b,
+        walker,
+        s,
+        &mut out[..k],
+        &mut marks,
+    );
+    sums::total(x, &out, &marks)
+}
+
+// The same call over records.
+fn records(
+    call: u8,
+    n: usize,
+    basins: u16,
+    reaches: [Reach; ROOM],
+    walker: Walker,
+    s: &[u8],
+    p: usize,
+) -> u64
+    requires { ⌜ n ≤ 1030 ⌝ }
+{
+    let mut out = [OLD; 5200];
+    let mut marks = [OLD; 40];
+    let k = within(&out, p);
+    let x = over_records(
+        call,
+        n,
+        basins,
+        reaches,
+        walker,
+        s,
+        &mut out[..k],
+        &mut marks,
+    );
+    sums::total(x, &out, &marks)
+}
+
+// The sums of a call over rows and over records.
+struct Pair {
+    rows: u64,
+    records: u64,
+}
+
+// A call on the first n reaches of a table.
+fn both(call: u8, n: usize, basins: u16, t: Twice, s: &[u8], p: usize) -> Pair
+    requires { ⌜ n ≤ 1030 ⌝ }
+{
+    let kinds = t.kinds;
+    let a = t.a;
+    let b = t.b;
+    let reaches = t.reaches;
+    let bits = t.bits;
+    let walker = Walker { setting: bits };
+    Pair {
+        rows: rows(
+            call,
+            basins,
+            front(&kinds, n),
+            front_words(&a, n),
+            front_words(&b, n),
+            walker,
+            s,
+            p,
+        ),
+        records: records(call, n, basins, reaches, walker, s, p),
+    }
+}
+
+// A file is read into a table, and all of the table is written.
+fn reread_rows(kinds: &mut [u8], a: &mut [u16], b: &mut [u16], walker: Walker, s: &[u8]) -> u64 {
+    let x = sums::of_read(netfile_rows::read_network(s, kinds, a, b));
+    mix(x, rows(WRITE_NETWORK, 256, kinds, a, b, walker, s, 5200))
+}
+
+fn reread_records(n: usize, reaches: [Reach; ROOM], walker: Walker, s: &[u8]) -> u64
+    requires { ⌜ n ≤ 1030 ⌝ }
+{
+    let x = sums::of_read(relays::read_network(n, s, reaches));
+    let after = relays::read_table(n, s, reaches);
+    mix(x, records(WRITE_NETWORK, n, 256, after, walker, s, 5200))
+}
+
+fn reread(n: usize, t: Twice, s: &[u8]) -> Pair
+    requires { ⌜ n ≤ 1030 ⌝ }
+{
+    let mut kinds = t.kinds;
+    let mut a = t.a;
+    let mut b = t.b;
+    let reaches = t.reaches;
+    let bits = t.bits;
+    let walker = Walker { setting: bits };
+    let k = within(&kinds, n);
+    let x = within_words(&a, n);
+    let y = within_words(&b, n);
+    Pair {
+        rows: reread_rows(&mut kinds[..k], &mut a[..x], &mut b[..y], walker, s),
+        records: reread_records(n, reaches, walker, s),
+    }
+}
+
+// A buffer, of which the first n bytes count.
+struct Bytes {
+    n: usize,
+    bytes: [u8; 5200],
+}
+
+// The file that a reader is lent: the reply's sheet, or the network file, and sometimes a byte less.
+fn file(call: u8, n: usize, basins: u16, t: Twice, seed: u64) -> Bytes {
+    let kinds = t.kinds;
+    let a = t.a;
+    let b = t.b;
+    let bits = t.bits;
+    let walker = Walker { setting: bits };
+    let mut bytes = [0u8; 5200];
+    let mut marks = [0u8; 40];
+    let writer = if call == READ_SHEET {
+        WRITE_REPLY
+    } else {
+        WRITE_NETWORK
+    };
+    let x = over_rows(
+        writer,
+        basins,
+        front(&kinds, n),
+        front_words(&a, n),
+        front_words(&b, n),
+        walker,
+        &bits,
+        &mut bytes,
+        &mut marks,
+    );
+    let less = 100 + seed % 4 / 3;
+    let n = if x < less { 0 } else { (x - less) as usize };
+    Bytes { n, bytes }
+}
+
+// How many reaches the table of a seed has: a few, or about as many as a network may have.
+fn size(seed: u64) -> usize {
+    if seed % 32 == 31 {
+        (1022 + seed / 32 % 8) as usize
+    } else {
+        (seed % 9) as usize
+    }
+}
+
+// The basin count of a seed, for ends below a bound: sometimes one less, so that ends are out of range.
+fn basins_of(seed: u64, ends: u64) -> u16 {
+    if ends == 0 {
+        return 0;
+    }
+    ((ends - seed % 7 / 6) % 65536) as u16
+}
+
+// The room of an output: mostly enough.
+fn room(seed: u64) -> usize {
+    if seed % 8 == 3 { 2 } else { 5200 }
+}
+
+// A call that is lent the setting of a table.
+fn on_setting(call: u8, n: usize, basins: u16, t: Twice, p: usize) -> Pair
+    requires { ⌜ n ≤ 1030 ⌝ }
+{
+    let kinds = t.kinds;
+    let bits = t.bits;
+    let g = tables::count_gates(front(&kinds, n));
+    both(call, n, basins, t, front(&bits, g), p)
+}
+
+// A reader that is lent a file.
+fn on_file(call: u8, n: usize, basins: u16, t: Twice, f: Bytes, p: usize) -> Pair
+    requires { ⌜ n ≤ 1030 ⌝ }
+{
+    let bytes = f.bytes;
+    let s = front(&bytes, f.n);
+    if call == READ_NETWORK {
+        reread(n, t, s)
+    } else {
+        both(call, n, basins, t, s, p)
+    }
+}
+
+// A call on the table of a seed. A file is read into the table of the seed after it.
+fn play(call: u8, seed: u64) -> Pair {
+    let n = bounded(size(seed));
+    let ends = 2 + seed % 3;
+    let basins = basins_of(seed, ends);
+    let t = table(seed, n, ends);
+    if call == READ_NETWORK {
+        let f = file(call, n, basins, t, seed);
+        return on_file(call, n, basins, table(seed % 65536 + 1, n, ends), f, 0);
+    }
+    if call == READ_SHEET {
+        let f = file(call, n, basins, t, seed);
+        return on_file(call, n, basins, t, f, room(seed));
+    }
+    on_setting(call, n, basins, t, room(seed))
+}
+
+// A call on the tables of all seeds.
+fn play_all(call: u8) -> Pair {
+    let mut o = Pair {
+        rows: 0,
+        records: 0,
+    };
+    let mut left: u64 = 256;
+    while left > 0 {
+        left -= 1;
+        let x = play(call, left);
+        o = Pair {
+            rows: mix(o.rows, x.rows),
+            records: mix(o.records, x.records),
+        };
+    }
+    o
+}
+
+fn show(name: &[u8], call: u8) {
+    let o = play_all(call);
+    io::write_all(1, name);
+    io::write_all(1, b": rows #");
+    io::print_hex(1, o.rows, 6);
+    io::write_all(1, b", records #");
+    io::print_hex(1, o.records, 6);
+    io::write_all(1, b"\n");
+}
+
+fn main() {
+    show(b"table check", TABLE);
+    show(b"check", CHECK);
+    show(b"first plan", FIRST);
+    show(b"next plan", NEXT);
+    show(b"make a walker", MAKE);
+    show(b"step", STEP);
+    show(b"read a network", READ_NETWORK);
+    show(b"write a network", WRITE_NETWORK);
+    show(b"read a sheet", READ_SHEET);
+    show(b"write a sheet", WRITE_SHEET);
+    show(b"write the reply", WRITE_REPLY);
+}

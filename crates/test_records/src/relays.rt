@@ -1,0 +1,122 @@
+// The calls over a lent slice of records. Each relay has a table by value, and lends the first n records of its copy.
+// The borrow checker does not cover a slice of structs, nor who lends one. So a relay is one line, proved safe by a walk of its code, by hand.
+use file_records::WriteAnswer;
+use netfile_format::ReadAnswer;
+use network::Reach;
+use replies::Answer;
+use replies::CheckAnswer;
+use sheet_format::SheetAnswer;
+use tables::TableAnswer;
+use walker::Made;
+use walker::Stepped;
+use walker::Walker;
+ghost use Prim.Native.Nat.{_≤_};
+
+// The records that a table has room for: more than a network may have.
+pub const ROOM: usize = 1030;
+
+pub fn table_check(n: usize, basins: u16, reaches: [Reach; ROOM]) -> TableAnswer
+    requires { ⌜ n ≤ 1030 ⌝ }
+{
+    planner::table_check(basins, &reaches[..n])
+}
+
+pub fn check(n: usize, basins: u16, reaches: [Reach; ROOM], setting: &[u8]) -> CheckAnswer
+    requires { ⌜ n ≤ 1030 ⌝ }
+{
+    planner::check(basins, &reaches[..n], setting)
+}
+
+pub fn first_plan(
+    n: usize,
+    basins: u16,
+    reaches: [Reach; ROOM],
+    plan: &mut [u8],
+    marks: &mut [u8],
+) -> Answer
+    requires { ⌜ n ≤ 1030 ⌝ }
+{
+    planner::first_plan(basins, &reaches[..n], plan, marks)
+}
+
+pub fn next_plan(
+    n: usize,
+    basins: u16,
+    reaches: [Reach; ROOM],
+    setting: &[u8],
+    plan: &mut [u8],
+    marks: &mut [u8],
+) -> Answer
+    requires { ⌜ n ≤ 1030 ⌝ }
+{
+    planner::next_plan(basins, &reaches[..n], setting, plan, marks)
+}
+
+pub fn make(n: usize, basins: u16, reaches: [Reach; ROOM], setting: &[u8]) -> Made
+    requires { ⌜ n ≤ 1030 ⌝ }
+{
+    Walker::make(basins, &reaches[..n], setting)
+}
+
+pub fn step(
+    n: usize,
+    walker: Walker,
+    basins: u16,
+    reaches: [Reach; ROOM],
+    plan: &mut [u8],
+    marks: &mut [u8],
+) -> Stepped
+    requires { ⌜ n ≤ 1030 ⌝ }
+{
+    walker.step(basins, &reaches[..n], plan, marks)
+}
+
+pub fn write_network(n: usize, basins: u16, reaches: [Reach; ROOM], out: &mut [u8]) -> WriteAnswer
+    requires { ⌜ n ≤ 1030 ⌝ }
+{
+    netfile::write_network(basins, &reaches[..n], out)
+}
+
+pub fn read_sheet(
+    n: usize,
+    basins: u16,
+    reaches: [Reach; ROOM],
+    sheet: &[u8],
+    setting: &mut [u8],
+) -> SheetAnswer
+    requires { ⌜ n ≤ 1030 ⌝ }
+{
+    sheet::read_sheet(basins, &reaches[..n], sheet, setting)
+}
+
+pub fn write_sheet(
+    n: usize,
+    basins: u16,
+    reaches: [Reach; ROOM],
+    setting: &[u8],
+    out: &mut [u8],
+) -> WriteAnswer
+    requires { ⌜ n ≤ 1030 ⌝ }
+{
+    sheet::write_sheet(basins, &reaches[..n], setting, out)
+}
+
+pub fn write_reply(n: usize, basins: u16, reaches: [Reach; ROOM], out: &mut [u8]) -> WriteAnswer
+    requires { ⌜ n ≤ 1030 ⌝ }
+{
+    sheet::write_reply(basins, &reaches[..n], out)
+}
+
+// Reading a file over records, in two: what is replied, and the table afterwards.
+pub fn read_network(n: usize, file: &[u8], mut reaches: [Reach; ROOM]) -> ReadAnswer
+    requires { ⌜ n ≤ 1030 ⌝ }
+{
+    netfile::read_network(file, &mut reaches[..n])
+}
+
+pub fn read_table(n: usize, file: &[u8], mut reaches: [Reach; ROOM]) -> [Reach; ROOM]
+    requires { ⌜ n ≤ 1030 ⌝ }
+{
+    netfile::read_network(file, &mut reaches[..n]);
+    reaches
+}
