@@ -6,6 +6,8 @@ ghost use Rattle.network.specs.Plans.{stronglyConnectedUnder};
 ghost use Rattle.tables.specs.Rows.{netOf};
 ghost use Rattle.seeking.specs.Found.{FirstFound, NextFound};
 ghost use Rattle.finder.specs.Rooms.{Room, Preparable, Prepared, Seekable};
+use half_edges::HALF_EDGES;
+use network::MAX_BASINS;
 use seeking::Found;
 use seeking::Sought;
 
@@ -17,8 +19,8 @@ fn prepare(
     b: &[u16],
     setting: &[u8],
     ways: &mut [u8],
-    head: &mut [u16],
-    next: &mut [u16],
+    head: &mut [u16; MAX_BASINS],
+    next: &mut [u16; HALF_EDGES],
 )
     requires { ⌜ Preparable n (now kinds) (now a) (now b) (now ways) (now head) (now next) ⌝ }
     ensures { λ _. ⌜ Prepared n (now (kinds .entry)) (now (a .entry)) (now (b .entry)) (now (setting .entry))
@@ -36,10 +38,10 @@ pub fn strongly_connected_under(
     b: &[u16],
     setting: &[u8],
     ways: &mut [u8],
-    head: &mut [u16],
-    next: &mut [u16],
-    seen: &mut [u8],
-    queue: &mut [u16],
+    head: &mut [u16; MAX_BASINS],
+    next: &mut [u16; HALF_EDGES],
+    seen: &mut [u8; MAX_BASINS],
+    queue: &mut [u16; MAX_BASINS],
 ) -> bool
     requires { ⌜ Room n (now kinds) (now a) (now b) (now ways) (now head) (now next) (now seen) (now queue) ⌝ }
     ensures { λ r. ⌜ r ≡ stronglyConnectedUnder (netOf n (now (kinds .entry)) (now (a .entry)) (now (b .entry))) (now (setting .entry)) ⌝ }
@@ -55,10 +57,10 @@ pub fn find_first(
     a: &[u16],
     b: &[u16],
     ways: &mut [u8],
-    head: &mut [u16],
-    next: &mut [u16],
-    seen: &mut [u8],
-    queue: &mut [u16],
+    head: &mut [u16; MAX_BASINS],
+    next: &mut [u16; HALF_EDGES],
+    seen: &mut [u8; MAX_BASINS],
+    queue: &mut [u16; MAX_BASINS],
 ) -> Found
     requires { ⌜ Room n (now kinds) (now a) (now b) (now ways) (now head) (now next) (now seen) (now queue) ⌝ }
     ensures { λ r. ⌜ FirstFound (netOf n (now (kinds .entry)) (now (a .entry)) (now (b .entry))) (now (ways .exit)) (now (seen .exit)) r ⌝ }
@@ -76,10 +78,10 @@ pub fn find_next(
     setting: &[u8],
     under: &mut [u8],
     ways: &mut [u8],
-    head: &mut [u16],
-    next: &mut [u16],
-    seen: &mut [u8],
-    queue: &mut [u16],
+    head: &mut [u16; MAX_BASINS],
+    next: &mut [u16; HALF_EDGES],
+    seen: &mut [u8; MAX_BASINS],
+    queue: &mut [u16; MAX_BASINS],
 ) -> Sought
     requires { ⌜ Seekable n (now kinds) (now a) (now b) (now setting) (now under) (now ways) (now head) (now next) (now seen) (now queue) ⌝ }
     ensures { λ r. ⌜ NextFound (netOf n (now (kinds .entry)) (now (a .entry)) (now (b .entry))) (now (setting .entry))

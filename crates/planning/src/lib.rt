@@ -24,10 +24,10 @@ fn first_in(
     plan: &mut [u8],
     marks: &mut [u8],
     ways: &mut [u8],
-    head: &mut [u16],
-    next: &mut [u16],
-    seen: &mut [u8],
-    queue: &mut [u16],
+    head: &mut [u16; MAX_BASINS],
+    next: &mut [u16; HALF_EDGES],
+    seen: &mut [u8; MAX_BASINS],
+    queue: &mut [u16; MAX_BASINS],
 ) -> Reply
     requires { ⌜ Lent n (now kinds) (now a) (now b) (now plan) (now marks) ⌝ }
     requires { ⌜ Space (now ways) (now head) (now next) (now seen) (now queue) ⌝ }
@@ -81,10 +81,10 @@ fn check_in(
     b: &[u16],
     setting: &[u8],
     ways: &mut [u8],
-    head: &mut [u16],
-    next: &mut [u16],
-    seen: &mut [u8],
-    queue: &mut [u16],
+    head: &mut [u16; MAX_BASINS],
+    next: &mut [u16; HALF_EDGES],
+    seen: &mut [u8; MAX_BASINS],
+    queue: &mut [u16; MAX_BASINS],
 ) -> bool
     requires { ⌜ Level n (now kinds) (now a) (now b) ⌝ }
     requires { ⌜ Space (now ways) (now head) (now next) (now seen) (now queue) ⌝ }

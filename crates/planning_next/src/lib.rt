@@ -30,10 +30,10 @@ fn next_in(
     marks: &mut [u8],
     under: &mut [u8],
     ways: &mut [u8],
-    head: &mut [u16],
-    next: &mut [u16],
-    seen: &mut [u8],
-    queue: &mut [u16],
+    head: &mut [u16; MAX_BASINS],
+    next: &mut [u16; HALF_EDGES],
+    seen: &mut [u8; MAX_BASINS],
+    queue: &mut [u16; MAX_BASINS],
 ) -> Answer
     requires { ⌜ Lent n (now kinds) (now a) (now b) (now plan) (now marks) ⌝ }
     requires { ⌜ isSetting (netOf n (now kinds) (now a) (now b)) (now setting) ≡ true ⌝ }

@@ -10,31 +10,19 @@ slice-aggregate-prepare : tie.Need-slice-aggregate-prepare
 slice-aggregate-prepare c = search needs
 
 prepare-requires : tie.Need-prepare-requires
-prepare-requires c κs = let s = c .before .before .before .before .before .before .before .before .before .before .before .before in record { ways-room = s .pre .ways-room; indexable = room-index (s .pre) refl refl }
+prepare-requires c κs = let s = c .before .before .before .before .before .before .before .before in record { ways-room = s .pre .ways-room; indexable = room-index (s .pre) refl refl }
 
 first-from-requires : tie.Need-first-from-requires
 first-from-requires c κs =
-    let s = c .before .before .before .before .before .before .before .before .before .before .before .before .before .before .before .before .before .before .before .before .before .before .before .before in
-    let p = c .before .before .before .before .before .before .before .before .before .before .before .prepare in
+    let s = c .before .before .before .before .before .before .before .before .before .before .before .before .before .before .before .before .before .before in
+    let p = c .before .before .before .before .before .before .before .before .before .prepare in
     (room-ready (s .pre) (p .kept .1 .1 .1 .1 .1 .0) (p .ensures .index) refl refl, record { level = room-level (s .pre); unoriented = p .ensures .oriented })
 
 same-length : tie.Need-same-length
 same-length c = search needs
 
-same-length-2 : tie.Need-same-length-2
-same-length-2 c = search needs
-
-same-length-3 : tie.Need-same-length-3
-same-length-3 c = search needs
-
-same-length-4 : tie.Need-same-length-4
-same-length-4 c = search needs
-
-same-length-5 : tie.Need-same-length-5
-same-length-5 c = search needs
-
 returns : tie.Need-returns
-returns c = search needs
+returns c = c .before .before .first-from .ensures
 
 pub find-first-spec : {M : Type 1} → statement M
-find-first-spec = tie.close (tie.spec slice-aggregate-prepare prepare-requires first-from-requires same-length same-length-2 same-length-3 same-length-4 same-length-5 returns)
+find-first-spec = tie.close (tie.spec slice-aggregate-prepare prepare-requires first-from-requires same-length returns)

@@ -7,12 +7,12 @@ use Rattle.finder.proofs.find_next.Statement.{statement}
 use Rattle.finder.proofs.find_next.Tie as tie
 
 prepare-requires : tie.Need-prepare-requires
-prepare-requires c κs = let s = c .before .before .before .before .before .before .before .before .before .before .before .before .before in record { ways-room = s .pre .under-room; indexable = room-index (s .pre .room) refl refl }
+prepare-requires c κs = let s = c .before .before .before .before .before .before .before .before .before in record { ways-room = s .pre .under-room; indexable = room-index (s .pre .room) refl refl }
 
 next-of-requires : tie.Need-next-of-requires
 next-of-requires c κs =
-    let s = c .before .before .before .before .before .before .before .before .before .before .before .before .before .before .before .before .before .before .before .before .before .before .before .before .before .before in
-    let p = c .before .before .before .before .before .before .before .before .before .before .before .before .prepare in (
+    let s = c .before .before .before .before .before .before .before .before .before .before .before .before .before .before .before .before .before .before .before .before in
+    let p = c .before .before .before .before .before .before .before .before .before .before .prepare in (
       room-ready (s .pre .room) refl (p .ensures .index) refl refl,
       record { level = room-level (s .pre .room); fits = s .pre .fits; oriented = p .ensures .oriented; ways-room = s .pre .room .ways-room },
     )
@@ -23,20 +23,8 @@ same-length c = search needs
 same-length-2 : tie.Need-same-length-2
 same-length-2 c = search needs
 
-same-length-3 : tie.Need-same-length-3
-same-length-3 c = search needs
-
-same-length-4 : tie.Need-same-length-4
-same-length-4 c = search needs
-
-same-length-5 : tie.Need-same-length-5
-same-length-5 c = search needs
-
-same-length-6 : tie.Need-same-length-6
-same-length-6 c = search needs
-
 returns : tie.Need-returns
-returns c = search needs
+returns c = c .before .before .next-of .ensures
 
 pub find-next-spec : {M : Type 1} → statement M
-find-next-spec = tie.close (tie.spec prepare-requires next-of-requires same-length same-length-2 same-length-3 same-length-4 same-length-5 same-length-6 returns)
+find-next-spec = tie.close (tie.spec prepare-requires next-of-requires same-length same-length-2 returns)

@@ -8,31 +8,19 @@ use Rattle.finder.proofs.strongly_connected_under.Statement.{statement}
 use Rattle.finder.proofs.strongly_connected_under.Tie as tie
 
 prepare-requires : tie.Need-prepare-requires
-prepare-requires c κs = let s = c .before .before .before .before .before .before .before .before .before .before .before .before in record { ways-room = s .pre .ways-room; indexable = room-index (s .pre) refl refl }
+prepare-requires c κs = let s = c .before .before .before .before .before .before .before .before in record { ways-room = s .pre .ways-room; indexable = room-index (s .pre) refl refl }
 
 shut-in-basin-requires : tie.Need-shut-in-basin-requires
 shut-in-basin-requires c κs =
-    let s = c .before .before .before .before .before .before .before .before .before .before .before .before .before .before .before .before .before .before .before .before .before .before .before .before in
-    let p = c .before .before .before .before .before .before .before .before .before .before .before .prepare in
+    let s = c .before .before .before .before .before .before .before .before .before .before .before .before .before .before .before .before .before .before in
+    let p = c .before .before .before .before .before .before .before .before .before .prepare in
     room-ready (s .pre) (p .kept .1 .1 .1 .1 .1 .0) (p .ensures .index) refl refl
 
 same-length : tie.Need-same-length
 same-length c = search needs
 
-same-length-2 : tie.Need-same-length-2
-same-length-2 c = search needs
-
-same-length-3 : tie.Need-same-length-3
-same-length-3 c = search needs
-
-same-length-4 : tie.Need-same-length-4
-same-length-4 c = search needs
-
-same-length-5 : tie.Need-same-length-5
-same-length-5 c = search needs
-
 returns : tie.Need-returns
-returns c = let s = c .before .before .before .before .before .before .before .before .before .before .before .before .before .before .before .before .before .before .before .before .before .before .before .before .before .before .before .before .before in under-basin (room-level (s .pre)) (s .args .setting .now) (c .before .before .before .before .before .before .before .before .before .before .before .before .before .before .before .before .prepare .ensures .oriented) (c .before .before .before .before .shut-in-basin .ensures)
+returns c = let s = c .before .before .before .before .before .before .before .before .before .before .before .before .before .before .before .before .before .before .before in under-basin (room-level (s .pre)) (s .args .setting .now) (c .before .before .before .before .before .before .before .before .before .before .prepare .ensures .oriented) (c .shut-in-basin .ensures)
 
 pub strongly-connected-under-spec : {M : Type 1} → statement M
-strongly-connected-under-spec = tie.close (tie.spec prepare-requires shut-in-basin-requires same-length same-length-2 same-length-3 same-length-4 same-length-5 returns)
+strongly-connected-under-spec = tie.close (tie.spec prepare-requires shut-in-basin-requires same-length returns)

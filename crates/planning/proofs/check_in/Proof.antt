@@ -9,31 +9,19 @@ use Rattle.planning.proofs.check_in.Statement.{statement}
 use Rattle.planning.proofs.check_in.Tie as tie
 
 slice-relend-prefix-strongly-connected-under : tie.Need-slice-relend-prefix-strongly-connected-under
-slice-relend-prefix-strongly-connected-under c = omega (arith, level-few ((c .before .before .before .before .before .before .before .before .before) .pre .0), (c .before .before .before .before .before .before .before .before .before) .pre .1 .ways-space)
+slice-relend-prefix-strongly-connected-under c = omega (arith, level-few ((c .before .before .before .before .before) .pre .0), (c .before .before .before .before .before) .pre .1 .ways-space)
 
 slice-aggregate-strongly-connected-under : tie.Need-slice-aggregate-strongly-connected-under
-slice-aggregate-strongly-connected-under c = let s = (c .before .before .before .before .before .before .before .before .before .before) in sym (length-take-le _ (s .args .ways .now) (omega (arith, level-few (s .pre .0), s .pre .1 .ways-space)))
+slice-aggregate-strongly-connected-under c = let s = (c .before .before .before .before .before .before) in sym (length-take-le _ (s .args .ways .now) (omega (arith, level-few (s .pre .0), s .pre .1 .ways-space)))
 
 strongly-connected-under-requires : tie.Need-strongly-connected-under-requires
-strongly-connected-under-requires c κs = let s = (c .before .before .before .before .before .before .before .before .before .before .before .before .before .before) in level-room (s .pre .0) (s .pre .1)
+strongly-connected-under-requires c κs = let s = (c .before .before .before .before .before .before .before .before .before .before) in level-room (s .pre .0) (s .pre .1)
 
 same-length : tie.Need-same-length
 same-length c = search needs
 
-same-length-2 : tie.Need-same-length-2
-same-length-2 c = search needs
-
-same-length-3 : tie.Need-same-length-3
-same-length-3 c = search needs
-
-same-length-4 : tie.Need-same-length-4
-same-length-4 c = search needs
-
-same-length-5 : tie.Need-same-length-5
-same-length-5 c = search needs
-
 returns : tie.Need-returns
-returns c = search needs
+returns c = c .before .before .strongly-connected-under .ensures
 
 pub check-in-spec : {M : Type 1} → statement M
 check-in-spec =
@@ -43,8 +31,4 @@ check-in-spec =
     slice-aggregate-strongly-connected-under
     strongly-connected-under-requires
     same-length
-    same-length-2
-    same-length-3
-    same-length-4
-    same-length-5
     returns)

@@ -12,23 +12,23 @@ use Rattle.planning.proofs.first_in.Statement.{statement}
 use Rattle.planning.proofs.first_in.Tie as tie
 
 slice-relend-prefix-oriented : tie.Need-slice-relend-prefix-oriented
-slice-relend-prefix-oriented c = omega (arith, level-few ((c .before .before .before .before .before .before .before .before .before .before) .pre .0 .level), (c .before .before .before .before .before .before .before .before .before .before) .pre .1 .ways-space)
+slice-relend-prefix-oriented c = omega (arith, level-few ((c .before .before .before .before .before .before) .pre .0 .level), (c .before .before .before .before .before .before) .pre .1 .ways-space)
 
 slice-aggregate-oriented : tie.Need-slice-aggregate-oriented
-slice-aggregate-oriented c = let s = (c .before .before .before .before .before .before .before .before .before .before .before) in sym (length-take-le _ (s .args .ways .now) (omega (arith, level-few (s .pre .0 .level), s .pre .1 .ways-space)))
+slice-aggregate-oriented c = let s = (c .before .before .before .before .before .before .before) in sym (length-take-le _ (s .args .ways .now) (omega (arith, level-few (s .pre .0 .level), s .pre .1 .ways-space)))
 
 find-first-requires : tie.Need-find-first-requires
-find-first-requires c κs = let s = (c .before .before .before .before .before .before .before .before .before .before .before .before .before .before .before .before) in level-room (s .pre .0 .level) (s .pre .1)
+find-first-requires c κs = let s = (c .before .before .before .before .before .before .before .before .before .before .before .before) in level-room (s .pre .0 .level) (s .pre .1)
 
 report-requires : tie.Need-report-requires
-report-requires c κs = let s = (c .before .before .before .before .before .before .before .before .before .before .before .before .before .before .before .before .before .before .before .before .before .before .before .before .before .before .before .before .before .before .before) in
-    let f = (c .before .before .before .before .before .before .before .before .before .before .before .before .before .before) .find-first in
+report-requires c κs = let s = (c .before .before .before .before .before .before .before .before .before .before .before .before .before .before .before .before .before .before .before .before) in
+    let f = (c .before .before .before .before .before .before .before) .find-first in
     let l = s .pre .0 .level in
     let facts = accepted (netOf (s .args .n) (s .args .kinds .now) (s .args .a .now) (s .args .b .now)) (l .accepted) in
     record {
       ways-room = f .kept .1 .1 .1 .1 .0 ∙ (level-room l (s .pre .1)) .ways-room;
       some-basin = facts .some-basin;
-      seen-room = omega (arith, facts .few-basins, s .pre .1 .seen-space, f .kept .1 .1 .1 .1 .1 .1 .1 .0);
+      seen-room = omega (arith, facts .few-basins, c .before .before .report-arg2 .given .0);
       plan-room = s .pre .0 .plan-room;
       marks-room = s .pre .0 .marks-room;
       reach-fits = first-fits (netOf (s .args .n) (s .args .kinds .now) (s .args .a .now) (s .args .b .now)) (l .accepted) (f .ensures);
@@ -43,21 +43,9 @@ same-length-2 c = search needs
 same-length-3 : tie.Need-same-length-3
 same-length-3 c = search needs
 
-same-length-4 : tie.Need-same-length-4
-same-length-4 c = search needs
-
-same-length-5 : tie.Need-same-length-5
-same-length-5 c = search needs
-
-same-length-6 : tie.Need-same-length-6
-same-length-6 c = search needs
-
-same-length-7 : tie.Need-same-length-7
-same-length-7 c = search needs
-
 returns : tie.Need-returns
-returns c = let s = (c .before .before .before .before .before .before .before .before .before .before .before .before .before .before .before .before .before .before .before .before .before .before .before .before .before .before .before .before .before .before .before .before .before .before .before .before .before .before) in
-    let f = (c .before .before .before .before .before .before .before .before .before .before .before .before .before .before .before .before .before .before .before .before .before) .find-first in
+returns c = let s = (c .before .before .before .before .before .before .before .before .before .before .before .before .before .before .before .before .before .before .before .before .before .before .before .before .before .before .before) in
+    let f = (c .before .before .before .before .before .before .before .before .before .before .before .before .before .before) .find-first in
     let l = s .pre .0 .level in
     first-written l (f .kept .1 .1 .1 .1 .0 ∙ (level-room l (s .pre .1)) .ways-room) (f .ensures) ((c .before .before .before .before .before .before) .report .ensures)
 
@@ -72,8 +60,4 @@ first-in-spec =
     same-length
     same-length-2
     same-length-3
-    same-length-4
-    same-length-5
-    same-length-6
-    same-length-7
     returns)

@@ -11,18 +11,6 @@ slice-aggregate-next-in c = search needs
 slice-aggregate-next-in-2 : tie.Need-slice-aggregate-next-in-2
 slice-aggregate-next-in-2 c = search needs
 
-slice-aggregate-next-in-3 : tie.Need-slice-aggregate-next-in-3
-slice-aggregate-next-in-3 c = search needs
-
-slice-aggregate-next-in-4 : tie.Need-slice-aggregate-next-in-4
-slice-aggregate-next-in-4 c = search needs
-
-slice-aggregate-next-in-5 : tie.Need-slice-aggregate-next-in-5
-slice-aggregate-next-in-5 c = search needs
-
-slice-aggregate-next-in-6 : tie.Need-slice-aggregate-next-in-6
-slice-aggregate-next-in-6 c = search needs
-
 next-in-requires : tie.Need-next-in-requires
 next-in-requires c κs = let s = (c .before .before .before .before .before .before .before .before .before .before .before .before .before .before) in (s .pre .0, (s .pre .1, (record { ways-space = refl; head-space = refl; next-space = refl; seen-space = refl; queue-space = refl }, refl)))
 
@@ -41,10 +29,6 @@ next-accepted-spec =
     (tie.spec
     slice-aggregate-next-in
     slice-aggregate-next-in-2
-    slice-aggregate-next-in-3
-    slice-aggregate-next-in-4
-    slice-aggregate-next-in-5
-    slice-aggregate-next-in-6
     next-in-requires
     same-length
     same-length-2

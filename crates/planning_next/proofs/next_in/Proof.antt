@@ -13,19 +13,19 @@ use Rattle.planning_next.proofs.next_in.Statement.{statement}
 use Rattle.planning_next.proofs.next_in.Tie as tie
 
 slice-relend-prefix-oriented : tie.Need-slice-relend-prefix-oriented
-slice-relend-prefix-oriented c = let s = (c .before .before .before .before .before .before .before .before .before .before .before .before) in omega (arith, level-few (s .pre .0 .level), s .pre .1 .1 .0 .ways-space)
+slice-relend-prefix-oriented c = let s = (c .before .before .before .before .before .before .before .before) in omega (arith, level-few (s .pre .0 .level), s .pre .1 .1 .0 .ways-space)
 
 slice-aggregate-oriented : tie.Need-slice-aggregate-oriented
-slice-aggregate-oriented c = let s = (c .before .before .before .before .before .before .before .before .before .before .before .before .before) in sym (length-take-le _ (s .args .ways .now) (omega (arith, level-few (s .pre .0 .level), s .pre .1 .1 .0 .ways-space)))
+slice-aggregate-oriented c = let s = (c .before .before .before .before .before .before .before .before .before) in sym (length-take-le _ (s .args .ways .now) (omega (arith, level-few (s .pre .0 .level), s .pre .1 .1 .0 .ways-space)))
 
 slice-relend-prefix-find-next : tie.Need-slice-relend-prefix-find-next
-slice-relend-prefix-find-next c = let s = (c .before .before .before .before .before .before .before .before .before .before .before .before .before) in omega (arith, level-few (s .pre .0 .level), s .pre .1 .1 .1)
+slice-relend-prefix-find-next c = let s = (c .before .before .before .before .before .before .before .before .before) in omega (arith, level-few (s .pre .0 .level), s .pre .1 .1 .1)
 
 slice-aggregate-find-next : tie.Need-slice-aggregate-find-next
-slice-aggregate-find-next c = let s = (c .before .before .before .before .before .before .before .before .before .before .before .before .before .before) in sym (length-take-le _ (s .args .under .now) (omega (arith, level-few (s .pre .0 .level), s .pre .1 .1 .1)))
+slice-aggregate-find-next c = let s = (c .before .before .before .before .before .before .before .before .before .before) in sym (length-take-le _ (s .args .under .now) (omega (arith, level-few (s .pre .0 .level), s .pre .1 .1 .1)))
 
 find-next-requires : tie.Need-find-next-requires
-find-next-requires c κs = let s = (c .before .before .before .before .before .before .before .before .before .before .before .before .before .before .before .before .before .before .before) in
+find-next-requires c κs = let s = (c .before .before .before .before .before .before .before .before .before .before .before .before .before .before .before) in
     record {
       room = level-room (s .pre .0 .level) (s .pre .1 .1 .0);
       under-room = length-take-le _ (s .args .under .now) (omega (arith, level-few (s .pre .0 .level), s .pre .1 .1 .1));
@@ -39,17 +39,17 @@ enum-known-sought : tie.Need-enum-known-sought
 enum-known-sought c = search needs
 
 report-requires : tie.Need-report-requires
-report-requires c κs = let s = (c .before .before .before .before .before .before .before .before .before .before .before .before .before .before .before .before .before .before .before .before .before .before .before .before .before .before .before .before .before .before .before .before .before .before .before .before .before .before .before) in
-    let f = (c .before .before .before .before .before .before .before .before .before .before .before .before .before .before .before .before .before .before .before) .find-next in
+report-requires c κs = let s = (c .before .before .before .before .before .before .before .before .before .before .before .before .before .before .before .before .before .before .before .before .before .before .before .before .before .before .before .before) in
+    let f = (c .before .before .before .before .before .before .before .before .before .before .before .before) .find-next in
     let l = s .pre .0 .level in
     let facts = accepted (netOf (s .args .n) (s .args .kinds .now) (s .args .a .now) (s .args .b .now)) (l .accepted) in
     record {
       ways-room = f .kept .1 .1 .1 .1 .1 .1 .0 ∙ (level-room l (s .pre .1 .1 .0)) .ways-room;
       some-basin = facts .some-basin;
-      seen-room = omega (arith, facts .few-basins, s .pre .1 .1 .0 .seen-space, f .kept .1 .1 .1 .1 .1 .1 .1 .1 .1 .0);
+      seen-room = omega (arith, facts .few-basins, c .before .before .report-arg2 .given .0);
       plan-room = s .pre .0 .plan-room;
       marks-room = s .pre .0 .marks-room;
-      reach-fits = (next-at ((c .before .before .before .before .before) .sought .given .1) (f .ensures)) .fits;
+      reach-fits = (next-at ((c .before .before .before .before .before .before) .sought .given .1) (f .ensures)) .fits;
     }
 
 same-length : tie.Need-same-length
@@ -57,6 +57,9 @@ same-length c = search needs
 
 same-length-2 : tie.Need-same-length-2
 same-length-2 c = search needs
+
+returns : tie.Need-returns
+returns c = refused-written (next-last ((c .before .before) .enum-told .given .1) ((c .before .before .before .before .before .before .before .before) .find-next .ensures))
 
 same-length-3 : tie.Need-same-length-3
 same-length-3 c = search needs
@@ -70,38 +73,11 @@ same-length-5 c = search needs
 same-length-6 : tie.Need-same-length-6
 same-length-6 c = search needs
 
-returns : tie.Need-returns
-returns c = refused-written (next-last ((c .before .before) .enum-told .given .1) ((c .before .before .before .before .before .before .before .before .before .before .before .before .before .before .before .before) .find-next .ensures))
-
-same-length-7 : tie.Need-same-length-7
-same-length-7 c = search needs
-
-same-length-8 : tie.Need-same-length-8
-same-length-8 c = search needs
-
-same-length-9 : tie.Need-same-length-9
-same-length-9 c = search needs
-
-same-length-10 : tie.Need-same-length-10
-same-length-10 c = search needs
-
-same-length-11 : tie.Need-same-length-11
-same-length-11 c = search needs
-
-same-length-12 : tie.Need-same-length-12
-same-length-12 c = search needs
-
-same-length-13 : tie.Need-same-length-13
-same-length-13 c = search needs
-
-same-length-14 : tie.Need-same-length-14
-same-length-14 c = search needs
-
 returns-2 : tie.Need-returns-2
-returns-2 c = let s = (c .before .before .before .before .before .before .before .before .before .before .before .before .before .before .before .before .before .before .before .before .before .before .before .before .before .before .before .before .before .before .before .before .before .before .before .before .before .before .before .before .before .before .before .before .before .before) in
-    let f = (c .before .before .before .before .before .before .before .before .before .before .before .before .before .before .before .before .before .before .before .before .before .before .before .before .before .before) .find-next in
+returns-2 c = let s = (c .before .before .before .before .before .before .before .before .before .before .before .before .before .before .before .before .before .before .before .before .before .before .before .before .before .before .before .before .before .before .before .before .before .before .before) in
+    let f = (c .before .before .before .before .before .before .before .before .before .before .before .before .before .before .before .before .before .before .before) .find-next in
     let l = s .pre .0 .level in
-    next-written l (f .kept .1 .1 .1 .1 .1 .1 .0 ∙ (level-room l (s .pre .1 .1 .0)) .ways-room) (next-at ((c .before .before .before .before .before .before .before .before .before .before .before .before) .sought .given .1) (f .ensures)) ((c .before .before .before .before .before .before) .report .ensures)
+    next-written l (f .kept .1 .1 .1 .1 .1 .1 .0 ∙ (level-room l (s .pre .1 .1 .0)) .ways-room) (next-at ((c .before .before .before .before .before .before .before .before .before .before .before .before .before) .sought .given .1) (f .ensures)) ((c .before .before .before .before .before .before) .report .ensures)
 
 pub next-in-spec : {M : Type 1} → statement M
 next-in-spec =
@@ -117,17 +93,9 @@ next-in-spec =
     report-requires
     same-length
     same-length-2
+    returns
     same-length-3
     same-length-4
     same-length-5
     same-length-6
-    returns
-    same-length-7
-    same-length-8
-    same-length-9
-    same-length-10
-    same-length-11
-    same-length-12
-    same-length-13
-    same-length-14
     returns-2)
