@@ -14,17 +14,7 @@ use Rattle.network.specs.declared.Refusal.{Refusal}
 use Rattle.network.specs.declared.Refusal.the-variants.{ShortBuffer}
 use Rattle.file_records.specs.declared.WriteAnswer.the-variants.{Refused as Unwritten, Written}
 use Rattle.file_records.specs.Puts.{writeNumber, writeAnswer, bytesWritten, Wrote, roomFor, WroteWhole}
-use Rattle.network.specs.Replies.{faultNumber, firstOf}
-
--- ---- the first of two refusals
-
-pub first-assoc : (o p q : Option Refusal) → firstOf o (firstOf p q) ≡ firstOf (firstOf o p) q
-first-assoc none p q = refl
-first-assoc (some r) p q = refl
-
-pub first-of-none : (o p : Option Refusal) → firstOf o p ≡ none → o ≡ none
-first-of-none none p h = refl
-first-of-none (some r) p h = cc
+use Rattle.network.specs.Replies.{faultNumber}
 
 -- ---- bytes that are put into a buffer
 

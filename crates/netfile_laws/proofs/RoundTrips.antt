@@ -22,7 +22,8 @@ use Rattle.netfile_format.specs.Answers.{roomOf, readAnswer, withRoom, reachesR
 use Rattle.file_records.specs.Puts.{Wrote, roomFor, WroteWhole}
 use Rattle.network.specs.Replies.{firstOf}
 use Rattle.netfile_laws.specs.Laws.{networkAgain, NetworkWriteRead, TableWriteRead, fileAgain, NetworkReadWrite, TableReadWrite}
-use Rattle.file_records.proofs.Puts.{first-of-none, put-refused, unwritten, written, written-front}
+use Rattle.network.proofs.Replies.{first-of-none}
+use Rattle.file_records.proofs.Puts.{put-refused, unwritten, written, written-front}
 use Rattle.netfile_format.proofs.Files.{read-write, WasWritten, write-read}
 use Rattle.netfile_format.proofs.Calls.{answer-refused, Counted, answer-read, room-kept, counted, same-network}
 
@@ -36,7 +37,7 @@ module _ (N : Network) {out out′ : List ℕ} where
   written-again room {n} w =
       let sound : writeFault N (length out) ≡ none = written (writeFault N (length out)) (fileOf N) out out′ n w in
       ap (λ f. withRoom room (readFile f)) (written-front (writeFault N (length out)) (fileOf N) out out′ n w)
-      ∙ ap (withRoom room) (read-write N (first-of-none (tableFault N) (roomFor (fileOf N) (length out)) sound))
+      ∙ ap (withRoom room) (read-write N (first-of-none (tableFault N) (roomFor (fileOf N) (length out)) sound .0))
       ∙ ap (λ o. networkAgain o room N) (sym sound)
 
   -- over rows

@@ -5,7 +5,7 @@ use native.Mathlib.Omega.{arith}
 use mathlib.Core.Path.{_≡_, refl, sym, ap, _∙_}
 use mathlib.Core.Bool.{Bool, true, false, cond}
 use mathlib.Core.Logic.{_↔_}
-use mathlib.Core.Option.{Option, none, some}
+use mathlib.Core.Option.{Option, none, some, Option·some-ne-none}
 use mathlib.Core.List.{List, []}
 use lib.ListN.{length}
 use mathlib.Mathlib.Data.Bool.Basic.{bool-eq-false}
@@ -17,7 +17,7 @@ use Rattle.network.specs.Networks.{Network, Accepted, maxReaches}
 use Rattle.network.specs.Settings.{isSetting, before, gateCount}
 use Rattle.network.specs.Plans.{isPlan, passable, firstPlan, nextPlan}
 use Rattle.network.specs.Bridges.{isBridge, lowestBridge}
-use Rattle.network.specs.Replies.{Outcome, plan, shutIn, lone, refused, refusalNumber, number, planIn, reachIn, marksIn, countIn, SameReply, shutInFinding, loneFinding, chosen, orLone, answer, firstAnswer, nextAnswer, unless, roomFault}
+use Rattle.network.specs.Replies.{Outcome, plan, shutIn, lone, refused, refusalNumber, number, planIn, reachIn, marksIn, countIn, SameReply, shutInFinding, loneFinding, chosen, orLone, answer, firstAnswer, nextAnswer, firstOf, unless, roomFault}
 use Rattle.lists.proofs.Bools.{clash}
 use Rattle.lists.proofs.Searches.{find-some, find-none}
 use Rattle.lists.proofs.Ranges.{range-has}
@@ -196,3 +196,13 @@ module _ (N : Network) (ok : Accepted N) where
       go (plans q e f) = (λ a. same .0 (chosen-inj _ _ (sym (f (nextPlan N s)) ∙ a ∙ f (nextPlan N t))), λ h. ap (answer N) (same .1 h))
       go (no-way n none-is f) = (λ a p e l m. none-is p e, λ h. f (nextPlan N s) ∙ sym (f (nextPlan N t)))
       go (one-bridge i e y none-is f) = (λ a p e′ l m. none-is p e′, λ h. f (nextPlan N s) ∙ sym (f (nextPlan N t)))
+
+-- ---- the first of two refusals
+
+pub first-assoc : (o p q : Option Refusal) → firstOf o (firstOf p q) ≡ firstOf (firstOf o p) q
+first-assoc none p q = refl
+first-assoc (some r) p q = refl
+
+pub first-of-none : (o p : Option Refusal) → firstOf o p ≡ none → (o ≡ none) × (p ≡ none)
+first-of-none none p h = (refl, h)
+first-of-none (some r) p h = absurd (Option·some-ne-none r h)

@@ -13,6 +13,7 @@ use Rattle.network.specs.Networks.{Network, tableFault, Accepted}
 use Rattle.network.specs.Settings.{gateCount, isSetting, settingFault}
 use Rattle.network.specs.Marks.{markBytes}
 use Rattle.network.specs.Replies.{firstOf, checkFault, roomFault}
+use Rattle.network.proofs.Replies.{first-of-none}
 use Rattle.tables.specs.declared.TableAnswer.{TableAnswer}
 use Rattle.tables.specs.Rows.{netOf}
 use Rattle.tables.specs.Answers.{tableAnswer}
@@ -26,11 +27,6 @@ told-first (some r) g = refl
 
 pub first-due : (f g : Option Refusal) {x y z : TableAnswer} → x ≡ tableAnswer f → y ≡ tableAnswer g → z ≡ firstTold x y → z ≡ tableAnswer (firstOf f g)
 first-due f g {y = y} p q e = e ∙ ap (λ (u : TableAnswer). firstTold u y) p ∙ ap (λ (u : TableAnswer). firstTold (tableAnswer f) u) q ∙ told-first f g
-
--- where neither is due
-pub neither-due : (f g : Option Refusal) → firstOf f g ≡ none → (f ≡ none) × (g ≡ none)
-neither-due none g e = (refl, e)
-neither-due (some r) g e = absurd (Option·some-ne-none r e)
 
 -- ---- 8, by the setting
 
@@ -49,7 +45,7 @@ setting-fits N s e = go (isSetting N s) refl e
 -- what the check of a setting does not refuse is a setting of an accepted table
 pub fitting : (N : Network) (s : List ℕ) → checkFault N s ≡ none → Accepted N × (isSetting N s ≡ true)
 unfolding checkFault
-fitting N s e = let d = neither-due (tableFault N) (settingFault N s) e in (d .0, setting-fits N s (d .1))
+fitting N s e = let d = first-of-none (tableFault N) (settingFault N s) e in (d .0, setting-fits N s (d .1))
 
 -- the basin count does not enter
 pub setting-any : (n : ℕ) (ks xs ys s : List ℕ) → settingFault (netOf 0 ks xs ys) s ≡ settingFault (netOf n ks xs ys) s

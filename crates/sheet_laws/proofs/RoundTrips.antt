@@ -20,7 +20,7 @@ use Rattle.network.specs.Replies.{Outcome, lone, bridgeSide, firstAnswer, first
 use Rattle.lists.proofs.Bools.{clash}
 use Rattle.network.proofs.Bridges.{bridge-blocks}
 use Rattle.network.proofs.Order.{first-is-plan}
-use Rattle.network.proofs.Replies.{lowest-is-bridge}
+use Rattle.network.proofs.Replies.{lowest-is-bridge, first-assoc, first-of-none}
 use Rattle.network.proofs.Theorem.{plan-passable}
 use Rattle.file_records.specs.declared.WriteAnswer.{WriteAnswer}
 use Rattle.file_records.specs.declared.WriteAnswer.the-variants.{Refused as Unwritten, Written}
@@ -37,7 +37,7 @@ use Rattle.sheet_format.specs.Readings.{SheetReading, sheetRefused, sheetSays, 
 use Rattle.sheet_format.specs.Answers.{sheetAnswer, settingRead, Got, planFault, sheetFault, replyFault, SheetRead, SheetWritten, ReplyWritten}
 use Rattle.sheet_laws.specs.Laws.{SheetWriteRead, sheetAgain, SheetReadWrite, checkedBack, SheetReadCheck, replyRead, ReplyWriteRead, Replies, says-plan, says-shut-in, says-lone}
 use Rattle.sheet_format.proofs.Sheets.{read-write, write-read, was-read}
-use Rattle.file_records.proofs.Puts.{first-assoc, first-of-none, put-refused, unwritten, written, written-front}
+use Rattle.file_records.proofs.Puts.{put-refused, unwritten, written, written-front}
 use Rattle.sheet_plans.proofs.Calls.{Plan, no-fault}
 use Rattle.sheet_plans.proofs.Getting.{got-refused, refused-is}
 use Rattle.sheet_plans.proofs.Replies.{First, is-plan, is-shut, is-bridge, first-cases}
@@ -64,7 +64,7 @@ its-plan : (N : Network) (s : List ℕ) (room : ℕ) → sheetFault N s room ≡
 its-plan N s room sound =
     no-fault N s (tableFault N) (isPlan N s) refl refl
     (first-of-none (firstOf (tableFault N) (planFault N s)) (roomFor (sheetOf N s) room)
-    (sym (first-assoc (tableFault N) (planFault N s) (roomFor (sheetOf N s) room)) ∙ sound))
+    (sym (first-assoc (tableFault N) (planFault N s) (roomFor (sheetOf N s) room)) ∙ sound) .0)
 
 module _ (N : Network) (s : List ℕ) {out out′ setting : List ℕ} where
   pub plan-unwritten : {x : Refusal} → SheetWritten N s out (Unwritten x) out′ → SheetWriteRead N s out setting (Refused x) out′ setting
@@ -214,6 +214,6 @@ module _ (N : Network) {out out′ setting : List ℕ} where
       record {
         again =
             written-got N (replyFault N (length out)) (replySheet N) (replyRead (firstAnswer N)) p
-            (λ sound. read-reply N (first-of-none (tableFault N) (roomFor (replySheet N) (length out)) sound)) g;
+            (λ sound. read-reply N (first-of-none (tableFault N) (roomFor (replySheet N) (length out)) sound .0)) g;
         sheet = p .bytes;
       }

@@ -24,7 +24,8 @@ use Rattle.sheet_format.specs.Sheets.{sheetOf}
 use Rattle.sheet_format.specs.Rows.{Fitting}
 use Rattle.sheet_format.specs.Answers.{planFault, sheetFault, SheetWritten}
 use Rattle.sheet_format.proofs.Sheets.{plan-long}
-use Rattle.file_records.proofs.Puts.{first-assoc, put-refused}
+use Rattle.network.proofs.Replies.{first-assoc}
+use Rattle.file_records.proofs.Puts.{put-refused}
 
 -- the refusal that the answer of the check stands for
 abbrev pub faultSaid : CheckAnswer → Option Refusal

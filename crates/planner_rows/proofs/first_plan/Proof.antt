@@ -11,7 +11,7 @@ use Rattle.tables.specs.Rows.{netOf}
 use Rattle.tables.proofs.Faults.{answer-refused, answer-accepted}
 use Rattle.tables.proofs.Cuts.{cut-kinds, cut-a, cut-b, cut-net}
 use Rattle.planner_rows.proofs.Calls.{cut-lent, first-given}
-use Rattle.refusals.proofs.Dues.{neither-due}
+use Rattle.network.proofs.Replies.{first-of-none}
 use Rattle.replies.proofs.Refusals.{refused-written, first-by}
 use Rattle.planner_rows.proofs.first_plan.Statement.{statement}
 use Rattle.planner_rows.proofs.first_plan.Tie as tie
@@ -61,7 +61,7 @@ first-accepted-requires : tie.Need-first-accepted-requires
 first-accepted-requires c κs =
     let s = c .before .before .before .before .before .before .before .before .before .before .before .before .before .before in
     let m = c .before .before .before .before .before .row-count in
-    let due = neither-due (tableFault (net s)) (roomFault (net s) (length (s .args .plan .now)) (length (s .args .marks .now))) (clear (c .before .before .before .before .before .before)) in
+    let due = first-of-none (tableFault (net s)) (roomFault (net s) (length (s .args .plan .now)) (length (s .args .marks .now))) (clear (c .before .before .before .before .before .before)) in
     cut-lent (s .args .basins) (s .args .kinds .now) (s .args .a .now) (s .args .b .now) (m .result) (m .ensures) (s .args .plan .now) (s .args .marks .now) (due .0) (due .1)
 
 same-length : tie.Need-same-length

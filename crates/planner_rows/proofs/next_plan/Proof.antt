@@ -11,7 +11,8 @@ use Rattle.tables.specs.Rows.{netOf}
 use Rattle.tables.proofs.Faults.{answer-refused, answer-accepted}
 use Rattle.tables.proofs.Cuts.{cut-kinds, cut-a, cut-b, cut-net}
 use Rattle.planner_rows.proofs.Calls.{cut-lent, cut-is-setting, next-given}
-use Rattle.refusals.proofs.Dues.{neither-due, fitting}
+use Rattle.network.proofs.Replies.{first-of-none}
+use Rattle.refusals.proofs.Dues.{fitting}
 use Rattle.replies.proofs.Refusals.{refused-written, next-by}
 use Rattle.planner_rows.proofs.next_plan.Statement.{statement}
 use Rattle.planner_rows.proofs.next_plan.Tie as tie
@@ -61,7 +62,7 @@ next-accepted-requires : tie.Need-next-accepted-requires
 next-accepted-requires c κs =
     let s = c .before .before .before .before .before .before .before .before .before .before .before .before .before .before .before in
     let m = c .before .before .before .before .before .row-count in
-    let due = neither-due (checkFault (net s) (s .args .setting .now)) (roomFault (net s) (length (s .args .plan .now)) (length (s .args .marks .now))) (clear (c .before .before .before .before .before .before)) in
+    let due = first-of-none (checkFault (net s) (s .args .setting .now)) (roomFault (net s) (length (s .args .plan .now)) (length (s .args .marks .now))) (clear (c .before .before .before .before .before .before)) in
     let ok = fitting (net s) (s .args .setting .now) (due .0) in (
       cut-lent (s .args .basins) (s .args .kinds .now) (s .args .a .now) (s .args .b .now) (m .result) (m .ensures) (s .args .plan .now) (s .args .marks .now) (ok .0) (due .1),
       cut-is-setting (s .args .basins) (s .args .kinds .now) (s .args .a .now) (s .args .b .now) (m .result) (m .ensures) (s .args .setting .now) (ok .1),
