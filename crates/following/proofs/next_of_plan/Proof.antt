@@ -1,5 +1,6 @@
 -- `following::next_of_plan` meets its contract: a plan is all hung, and it is left at the last gate at which another can part.
 -- Assumes nothing.
+use mathlib.Core.Path.{_∙_}
 use Rattle.orienting.proofs.Readies.{ready-ways}
 use Rattle.seeking.proofs.Seeks.{plan-partable, plan-found}
 use borrow.Author.Needs.{needs}
@@ -15,13 +16,13 @@ part-from-requires c κs = let s = (c .before .before .before .before .before .b
     (ready-ways _ (s .pre .0) (h .kept .1 .1 .0), plan-partable (s .args .n) (s .args .kinds .now) (s .args .a .now) (s .args .b .now) (s .pre .1) (h .ensures))
 
 same-length : tie.Need-same-length
-same-length c = search needs
+same-length c = c .before .before .before .before .before .before .part-from .kept .1 .1 .1 .1 .1 .0 ∙ c .before .before .before .before .before .before .before .before .before .before .before .before .orient .kept .1 .1 .0
 
 same-length-2 : tie.Need-same-length-2
-same-length-2 c = search needs
+same-length-2 c = c .before .before .before .before .before .before .part-from .kept .1 .1 .1 .1 .1 .1 .1 .1 .1 .0
 
 same-length-3 : tie.Need-same-length-3
-same-length-3 c = search needs
+same-length-3 c = c .before .before .before .before .before .before .part-from .kept .1 .1 .1 .1 .1 .1 .1 .1 .1 .1 .0
 
 returns : tie.Need-returns
 returns c = let s = (c .before .before .before .before .before .before .before .before .before .before .before .before .before .before .before .before .before .before .before .before .before .before .before .before) in
