@@ -26,7 +26,8 @@ pub record TableChecked (N : Network) (r : TableAnswer) : Type 0 where
   pub answer : r ≡ tableAnswer (tableFault N)
   pub number : tableNumber r ≡ faultNumber (tableFault N)
 
--- Reach r is the first with an end that is not below the basin count; there is none if r is the number of reaches.
+-- r is below the number of reaches if an end is not below the basin count, and is that number if all are. Which reach it then is, is free: the check
+-- of a table asks only whether.
 pub record StrayEnd (N : Network) (r : ℕ) : Type 0 where
   pub within : r ≤ length (N .reaches)
   pub good : goodEnds N ≡ eqb r (length (N .reaches))

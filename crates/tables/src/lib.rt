@@ -44,7 +44,8 @@ pub fn row_count(kinds: &[u8], a: &[u16], b: &[u16]) -> usize
     least(kinds.len(), least(a.len(), b.len()))
 }
 
-// The number of the first reach with an end that is not below the basin count, or the number of reaches if there is none.
+// The number of the first reach with an end that is not below the basin count, or the number of reaches if there is none. Of the number of such a reach
+// only its bound is promised.
 fn stray_end(basins: u16, kinds: &[u8], a: &[u16], b: &[u16]) -> usize
     ensures { λ r. ⌜ StrayEnd (netOf basins (now (kinds .entry)) (now (a .entry)) (now (b .entry))) r ⌝ }
 {
