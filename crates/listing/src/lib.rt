@@ -48,7 +48,8 @@ fn put_line(l: Lister, g: usize, out: &mut [u8]) -> usize
     }
 }
 
-// The state after the line of a plan: by a step where the working memory stands at the plan in hand, and else by asking.
+// The state after the line of a plan: by a step where the working memory stands at the plan in hand, which it then does again, and else by asking: the
+// working memory is then free, as it was.
 fn line_after(
     l: Lister,
     left: usize,
@@ -90,7 +91,8 @@ fn line_after(
     asked(l, left, g, kinds, a, b)
 }
 
-// The state with something left of its line, if anything is left: where the line of a plan is printed, the state after it.
+// The state with something left of its line, if anything is left: where the line of a plan is printed, the state after it. What it leaves in working memory
+// is as `line_after` says.
 fn turned(
     l: Lister,
     g: usize,
@@ -139,7 +141,7 @@ fn turned(
     }
 }
 
-// Fills a buffer line by line, in working memory that stands at the plan in hand, if it does.
+// Fills a buffer line by line, in working memory that stands at the plan in hand, if it does. What it leaves there is free.
 fn print_lines(
     l: Lister,
     g: usize,
@@ -193,7 +195,7 @@ fn print_lines(
     }
 }
 
-// The same with lent working memory, which is prepared if the plan in hand is one.
+// The same with lent working memory, which is prepared if the plan in hand is one. What it leaves there is free.
 fn fill_in(
     l: Lister,
     kinds: &[u8],
