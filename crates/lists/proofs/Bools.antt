@@ -47,8 +47,9 @@ both-differ false true true false e f = refl
 both-differ false true false true e f = refl
 both-differ false true false false e f = absurd (false≢true f)
 
-pub differ-not : (x y : Bool) → not (Bool·beq x y) ≡ true → not (Bool·beq (not x) (not y)) ≡ true
-differ-not true true e = e
-differ-not true false e = e
-differ-not false true e = e
-differ-not false false e = e
+-- tests that are both turned round differ as they did
+pub beq-not : (x y : Bool) → Bool·beq (not x) (not y) ≡ Bool·beq x y
+beq-not true true = refl
+beq-not true false = refl
+beq-not false true = refl
+beq-not false false = refl

@@ -14,18 +14,18 @@ use borrow.Author.Tests.{eqb-true, eq-eqb, ne-eqb, not-false, not-true}
 use mathlib.Mathlib.Data.Bool.Basic.{and-elim-left, and-elim-right, and-intro, eq-true-of-not-eq-false}
 use Rattle.network.specs.declared.Reach.{Reach}
 use Rattle.lists.specs.Lists.{range, some?, find, keep, elem}
-use Rattle.network.specs.Networks.{Network, basinsOf, lowestBasin, Accepted}
+use Rattle.network.specs.Networks.{Network, inService, basinsOf, lowestBasin, Accepted}
 use Rattle.network.specs.Settings.{isGated, gateCount, isSetting}
 use Rattle.network.specs.Orientations.{Arc, arc, passing, arcs, ways, arcsUnder}
 use Rattle.network.specs.Plans.{stronglyConnected, stronglyConnectedUnder, isPlan}
-use Rattle.network.specs.Bridges.{sides, isCut, crosses, noReach, reachAt, crossesAlone, isBridge}
+use Rattle.network.specs.Bridges.{sides, isCut, crossesBy, crosses, noReach, reachAt, crossesAlone, isBridge}
 use Rattle.network.specs.Replies.{bridgeSide}
-use Rattle.lists.proofs.Bools.{decide, clash, beq-true, beq-make, both-differ, differ-not}
+use Rattle.lists.proofs.Bools.{decide, clash, beq-true, beq-make, both-differ, beq-not}
 use Rattle.lists.proofs.Searches.{every-at, every-make, some-make, some-has, find-some, find-none, elem-keep}
 use Rattle.lists.proofs.Ranges.{range-has, range-in}
 use Rattle.network.proofs.Walks.{walk-inside}
 use Rattle.network.proofs.Cuts.{strong-walks, one-crossing}
-use Rattle.network.proofs.Ways.{passingAt, arcs-in, gate-small}
+use Rattle.network.proofs.Ways.{passingAt, arcs-in, gate-small, gated-served, ShutOut, shut-out, arc-served}
 use Rattle.network.proofs.Networks.{accepted, basin-in, lowest-in, reach-alike, arc-alike}
 
 -- ---- sides
@@ -53,22 +53,40 @@ side-basins (x ∷ bs) S m b mb =
     (λ other. List·Memᴰ·tail (side-basins bs S other b mb))
     (List·Memᴰ·append-cases (map (λ X. x ∷ X) (sides bs)) m)
 
+-- ---- crossing
+
+-- a reach that crosses has its ends on both sides
+pub crossing-ends : (S : ℕ → Bool) (r : Reach) → crossesBy S r ≡ true → not (Bool·beq (S (r .a)) (S (r .b))) ≡ true
+crossing-ends S r e = and-elim-right (inService (r .state)) _ e
+
+-- a reach in service that does not cross has them on one
+pub uncrossed-ends : (S : ℕ → Bool) (r : Reach) → crossesBy S r ≡ false → inService (r .state) ≡ true → S (r .a) ≡ S (r .b)
+uncrossed-ends S r e serves = beq-true (S (r .a)) (S (r .b)) (not-false _ (rw serves at e))
+
+pub uncrossed : (S : ℕ → Bool) (r : Reach) → (inService (r .state) ≡ true → S (r .a) ≡ S (r .b)) → crossesBy S r ≡ false
+uncrossed S r f = go (inService (r .state)) refl
+  where
+    go : (x : Bool) → inService (r .state) ≡ x → x && not (Bool·beq (S (r .a)) (S (r .b))) ≡ false
+    go true e = ap not (beq-make _ _ (f e))
+    go false e = refl
+
+-- tests that agree on both ends are crossed alike
+crossed-same : (S S′ : ℕ → Bool) (r : Reach) → S′ (r .a) ≡ S (r .a) → S′ (r .b) ≡ S (r .b) → crossesBy S′ r ≡ crossesBy S r
+crossed-same S S′ r ea eb = rw (ea, eb)
+
 -- ---- the only reach that crosses
 
 -- reach i is the only one that crosses the side S, as facts
 pub record Alone (N : Network) (S : ℕ → Bool) (i : ℕ) : Type 0 where
-  pub crossing : not (Bool·beq (S ((reachAt N i) .a)) (S ((reachAt N i) .b))) ≡ true
-  pub others : (j : ℕ) → j < length (N .reaches) → j ≢ i → S ((reachAt N j) .a) ≡ S ((reachAt N j) .b)
+  pub crossing : crossesBy S (reachAt N i) ≡ true
+  pub others : (j : ℕ) → j < length (N .reaches) → j ≢ i → crossesBy S (reachAt N j) ≡ false
 
 pub alone-facts : (N : Network) (S : List ℕ) (i : ℕ) → i < length (N .reaches) → crossesAlone N S i ≡ true → Alone N (λ b. elem b S) i
 unfolding crossesAlone
 alone-facts N S i l e =
     let at : (j : ℕ) → j < length (N .reaches) → crosses S (reachAt N j) ≡ eqb j i =
     λ j k. beq-true (crosses S (reachAt N j)) (eqb j i) (every-at (λ j. Bool·beq (crosses S (reachAt N j)) (eqb j i)) e (range-has 0 (length (N .reaches)) (omega arith) (omega arith))) in
-    record {
-      crossing = at i l ∙ eq-eqb i i refl;
-      others = λ j k n. beq-true (elem ((reachAt N j) .a) S) (elem ((reachAt N j) .b) S) (not-false _ (at j k ∙ ne-eqb j i n));
-    }
+    record { crossing = at i l ∙ eq-eqb i i refl; others = λ j k n. at j k ∙ ne-eqb j i n }
 
 pub alone-test : (N : Network) (S : List ℕ) (i : ℕ) → Alone N (λ b. elem b S) i → crossesAlone N S i ≡ true
 unfolding crossesAlone
@@ -79,16 +97,14 @@ alone-test N S i f = every-make (λ j. Bool·beq (crosses S (reachAt N j)) (eqb 
       where
         go : Dec (j ≡ i) → Bool·beq (crosses S (reachAt N j)) (eqb j i) ≡ true
         go (yes e) = beq-make (crosses S (reachAt N j)) (eqb j i) (subst⁻¹ (λ (x : ℕ). crosses S (reachAt N x) ≡ true) e (f .crossing) ∙ sym (eq-eqb j i e))
-        go (no n) =
-            beq-make (crosses S (reachAt N j)) (eqb j i)
-            (ap not (beq-make _ _ (f .others j (omega (arith, (range-in 0 (length (N .reaches)) m) .1)) n)) ∙ sym (ne-eqb j i n))
+        go (no n) = beq-make (crosses S (reachAt N j)) (eqb j i) (f .others j (omega (arith, (range-in 0 (length (N .reaches)) m) .1)) n ∙ sym (ne-eqb j i n))
 
 -- a side that agrees with S on the basins is crossed like S
 pub alone-same : (N : Network) → Accepted N → (S S′ : ℕ → Bool) (i : ℕ) → i < length (N .reaches) → ((b : ℕ) → List·Memᴰ b (basinsOf N) → S′ b ≡ S b) → Alone N S i → Alone N S′ i
 alone-same N ok S S′ i l same f =
-    let at-a : (j : ℕ) → j < length (N .reaches) → S′ ((reachAt N j) .a) ≡ S ((reachAt N j) .a) = λ j k. same _ (basin-in N _ ((accepted N ok) .end-a j k)) in
-    let at-b : (j : ℕ) → j < length (N .reaches) → S′ ((reachAt N j) .b) ≡ S ((reachAt N j) .b) = λ j k. same _ (basin-in N _ ((accepted N ok) .end-b j k)) in
-    record { crossing = rw (at-a i l, at-b i l) (f .crossing); others = λ j k n. at-a j k ∙ f .others j k n ∙ sym (at-b j k) }
+    let alike : (j : ℕ) → j < length (N .reaches) → crossesBy S′ (reachAt N j) ≡ crossesBy S (reachAt N j) =
+    λ j k. crossed-same S S′ (reachAt N j) (same _ (basin-in N _ ((accepted N ok) .end-a j k))) (same _ (basin-in N _ ((accepted N ok) .end-b j k))) in
+    record { crossing = alike i l ∙ f .crossing; others = λ j k n. alike j k ∙ f .others j k n }
 
 -- ---- lone reaches
 
@@ -100,12 +116,12 @@ bridge-below N i e = go (decLt i (length (N .reaches)))
     go : Dec (i < length (N .reaches)) → i < length (N .reaches)
     go (yes l) = l
     go (no n) =
-        clash (and-elim-left (isGated ((reachAt N i) .kind)) _ e)
-        (ap (λ (r : Reach). isGated (r .kind)) (List·getD-eq-default (N .reaches) noReach {n = i} (omega arith)))
+        clash (and-elim-left (isGated ((reachAt N i) .state)) _ e)
+        (ap (λ (r : Reach). isGated (r .state)) (List·getD-eq-default (N .reaches) noReach {n = i} (omega arith)))
 
-pub bridge-gated : (N : Network) (i : ℕ) → isBridge N i ≡ true → isGated ((reachAt N i) .kind) ≡ true
+pub bridge-gated : (N : Network) (i : ℕ) → isBridge N i ≡ true → isGated ((reachAt N i) .state) ≡ true
 unfolding isBridge
-bridge-gated N i e = and-elim-left (isGated ((reachAt N i) .kind)) _ e
+bridge-gated N i e = and-elim-left (isGated ((reachAt N i) .state)) _ e
 
 -- a division that reach i crosses alone
 pub record Cut (N : Network) (i : ℕ) (S : List ℕ) : Type 0 where
@@ -117,7 +133,7 @@ pub bridge-cut : (N : Network) (i : ℕ) → isBridge N i ≡ true → (S : List
 unfolding isBridge
 bridge-cut N i e =
     let test : List ℕ → Bool = λ S. isCut (basinsOf N) S && crossesAlone N S i in
-    let k = some-has test (sides (basinsOf N)) (and-elim-right (isGated ((reachAt N i) .kind)) _ e) in
+    let k = some-has test (sides (basinsOf N)) (and-elim-right (isGated ((reachAt N i) .state)) _ e) in
     (k .0, record { side = k .1; division = and-elim-left (isCut (basinsOf N) (k .0)) _ (k .2); alone = and-elim-right (isCut (basinsOf N) (k .0)) _ (k .2) })
 
 -- the basins that pass a test S are such a division if reach i alone crosses S
@@ -147,9 +163,9 @@ cut-of N ok i l S f =
     go false false ea eb e = absurd (false≢true e)
 
     division : isCut (basinsOf N) (keep S (basinsOf N)) ≡ true
-    division = go (S ((reachAt N i) .a)) (S ((reachAt N i) .b)) refl refl (f .crossing)
+    division = go (S ((reachAt N i) .a)) (S ((reachAt N i) .b)) refl refl (crossing-ends S (reachAt N i) (f .crossing))
 
-pub bridge-make : (N : Network) → Accepted N → (i : ℕ) → i < length (N .reaches) → isGated ((reachAt N i) .kind) ≡ true → (S : ℕ → Bool) → Alone N S i → isBridge N i ≡ true
+pub bridge-make : (N : Network) → Accepted N → (i : ℕ) → i < length (N .reaches) → isGated ((reachAt N i) .state) ≡ true → (S : ℕ → Bool) → Alone N S i → isBridge N i ≡ true
 unfolding isBridge
 bridge-make N ok i l g S f =
     let c = cut-of N ok i l S f in
@@ -163,15 +179,15 @@ one-arc zero a b l = (a, b, λ y m. ⊎-elim (λ e. e) (λ n. absurd (List·Mem�
 one-arc (suc zero) a b l = (b, a, λ y m. ⊎-elim (λ e. e) (λ n. absurd (List·Memᴰ·not-nil n)) (List·Memᴰ·cases-cons m))
 one-arc (suc (suc x)) a b l = absurd (omega arith)
 
-pub plan-gate-small : (N : Network) (s : List ℕ) (i : ℕ) → isPlan N s ≡ true → i < length (N .reaches) → isGated ((reachAt N i) .kind) ≡ true → getD (ways (N .reaches) s) i 3 ≤ 1
+pub plan-gate-small : (N : Network) (s : List ℕ) (i : ℕ) → isPlan N s ≡ true → i < length (N .reaches) → isGated ((reachAt N i) .state) ≡ true → getD (ways (N .reaches) s) i 3 ≤ 1
 unfolding isPlan isSetting
 plan-gate-small N s i e l g =
     let set : isSetting N s ≡ true = and-elim-left (isSetting N s) _ e in
     gate-small (N .reaches) s i (eqb-true (length s) (gateCount N) (and-elim-left (eqb (length s) (gateCount N)) _ set)) (and-elim-right (eqb (length s) (gateCount N)) _ set) l g
 
 -- If a reach alone crosses a division and passes one way only, not everything reaches everything.
-pub cut-parts : (N : Network) (i : ℕ) (S : List ℕ) → i < length (N .reaches) → Cut N i S → (ws : List ℕ) → getD ws i 3 ≤ 1 → stronglyConnected (basinsOf N) (arcs (N .reaches) ws) ≡ true → ⊥
-cut-parts N i S l cut ws small e =
+pub cut-parts : (N : Network) (i : ℕ) (S : List ℕ) → i < length (N .reaches) → Cut N i S → (ws : List ℕ) → ShutOut (N .reaches) ws → getD ws i 3 ≤ 1 → stronglyConnected (basinsOf N) (arcs (N .reaches) ws) ≡ true → ⊥
+cut-parts N i S l cut ws out small e =
     let f = alone-facts N S i l (cut .alone) in
     let one = one-arc (getD ws i 3) ((reachAt N i) .a) ((reachAt N i) .b) small in
     let u = some-has (λ b. elem b S) (basinsOf N) (and-elim-left (some? (λ b. elem b S) (basinsOf N)) _ (cut .division)) in
@@ -183,18 +199,19 @@ cut-parts N i S l cut ws small e =
     let src = arcs-in (N .reaches) ws (arc c d) m in
     elim (ℕ-discrete (src .reach) i) [
       | yes same ↦ inl (one .2 (arc c d) (subst (λ (j : ℕ). List·Memᴰ (arc c d) (passingAt (N .reaches) j (getD ws j 3))) same (src .passes)))
-      | no other ↦ inr (reach-alike (λ b. elem b S) (getD ws (src .reach) 3) _ _ c d (f .others (src .reach) (src .below) other) (src .passes))
+      | no other ↦ inr (reach-alike (λ b. elem b S) (getD ws (src .reach) 3) _ _ c d
+        (uncrossed-ends (λ b. elem b S) (reachAt N (src .reach)) (f .others (src .reach) (src .below) other) (arc-served (N .reaches) ws out (src .reach) (src .below) (arc c d) (src .passes))) (src .passes))
     ])
     (str (u .0) (v .0) (u .1) (v .1)) (str (v .0) (u .0) (v .1) (u .1)) in
     clash (sym alike ∙ u .2) (not-true (elem (v .0) S) (v .2))
 
 -- so no setting is a plan if a gated reach does
-pub cut-blocks : (N : Network) (i : ℕ) (S : List ℕ) → i < length (N .reaches) → isGated ((reachAt N i) .kind) ≡ true → Cut N i S → (s : List ℕ) → isPlan N s ≡ true → ⊥
+pub cut-blocks : (N : Network) (i : ℕ) (S : List ℕ) → i < length (N .reaches) → isGated ((reachAt N i) .state) ≡ true → Cut N i S → (s : List ℕ) → isPlan N s ≡ true → ⊥
 unfolding isPlan stronglyConnectedUnder
-cut-blocks N i S l g cut s e = cut-parts N i S l cut (ways (N .reaches) s) (plan-gate-small N s i e l g) (and-elim-right (isSetting N s) _ e)
+cut-blocks N i S l g cut s e = cut-parts N i S l cut (ways (N .reaches) s) (shut-out (N .reaches) s) (plan-gate-small N s i e l g) (and-elim-right (isSetting N s) _ e)
 
 -- a lone reach that is hung, whatever else is
-pub bridge-parts : (N : Network) (i : ℕ) → isBridge N i ≡ true → (ws : List ℕ) → getD ws i 3 ≤ 1 → stronglyConnected (basinsOf N) (arcs (N .reaches) ws) ≡ true → ⊥
+pub bridge-parts : (N : Network) (i : ℕ) → isBridge N i ≡ true → (ws : List ℕ) → ShutOut (N .reaches) ws → getD ws i 3 ≤ 1 → stronglyConnected (basinsOf N) (arcs (N .reaches) ws) ≡ true → ⊥
 bridge-parts N i e = let c = bridge-cut N i e in cut-parts N i (c .0) (bridge-below N i e) (c .1)
 
 pub bridge-blocks : (N : Network) (i : ℕ) → isBridge N i ≡ true → (s : List ℕ) → isPlan N s ≡ true → ⊥
@@ -208,22 +225,25 @@ cut-unique N ok h str i S S′ f f′ low b m =
     beq-true (S b) (S′ b)
     (walk-inside (λ x. Bool·beq (S x) (S′ x)) closed (strong-walks (basinsOf N) (arcsUnder N h) str (lowestBasin N) b (lowest-in N ok) m) (beq-make (S (lowestBasin N)) (S′ (lowestBasin N)) low))
   where
-    alike : (j : ℕ) → j < length (N .reaches) → Bool·beq (S ((reachAt N j) .a)) (S′ ((reachAt N j) .a)) ≡ Bool·beq (S ((reachAt N j) .b)) (S′ ((reachAt N j) .b))
-    alike j l = go (ℕ-discrete j i)
+    alike : (j : ℕ) → j < length (N .reaches) → inService ((reachAt N j) .state) ≡ true → Bool·beq (S ((reachAt N j) .a)) (S′ ((reachAt N j) .a)) ≡ Bool·beq (S ((reachAt N j) .b)) (S′ ((reachAt N j) .b))
+    alike j l serves = go (ℕ-discrete j i)
       where
         go : Dec (j ≡ i) → Bool·beq (S ((reachAt N j) .a)) (S′ ((reachAt N j) .a)) ≡ Bool·beq (S ((reachAt N j) .b)) (S′ ((reachAt N j) .b))
         go (yes e) =
             subst⁻¹ (λ (x : ℕ). Bool·beq (S ((reachAt N x) .a)) (S′ ((reachAt N x) .a)) ≡ Bool·beq (S ((reachAt N x) .b)) (S′ ((reachAt N x) .b))) e
-            (both-differ (S ((reachAt N i) .a)) (S ((reachAt N i) .b)) (S′ ((reachAt N i) .a)) (S′ ((reachAt N i) .b)) (f .crossing) (f′ .crossing))
-        go (no n) = rw (f .others j l n, f′ .others j l n)
+            (both-differ (S ((reachAt N i) .a)) (S ((reachAt N i) .b)) (S′ ((reachAt N i) .a)) (S′ ((reachAt N i) .b)) (crossing-ends S (reachAt N i) (f .crossing)) (crossing-ends S′ (reachAt N i) (f′ .crossing)))
+        go (no n) = rw (uncrossed-ends S (reachAt N j) (f .others j l n) serves, uncrossed-ends S′ (reachAt N j) (f′ .others j l n) serves)
 
     closed : (c d : ℕ) → List·Memᴰ (arc c d) (arcsUnder N h) → Bool·beq (S c) (S′ c) ≡ true → Bool·beq (S d) (S′ d) ≡ true
-    closed c d m′ e = sym (arc-alike (λ x. Bool·beq (S x) (S′ x)) (N .reaches) (ways (N .reaches) h) alike c d m′) ∙ e
+    closed c d m′ e = sym (arc-alike (λ x. Bool·beq (S x) (S′ x)) (N .reaches) (ways (N .reaches) h) (shut-out (N .reaches) h) alike c d m′) ∙ e
 
 -- ---- the side of a lone reach without the lowest basin
 
 pub alone-rest : (N : Network) (S : ℕ → Bool) (i : ℕ) → Alone N S i → Alone N (λ b. not (S b)) i
-alone-rest N S i f = record { crossing = differ-not (S ((reachAt N i) .a)) (S ((reachAt N i) .b)) (f .crossing); others = λ j l n. ap not (f .others j l n) }
+alone-rest N S i f = record { crossing = alike i ∙ f .crossing; others = λ j l n. alike j ∙ f .others j l n }
+  where
+    alike : (j : ℕ) → crossesBy (λ b. not (S b)) (reachAt N j) ≡ crossesBy S (reachAt N j)
+    alike j = rw (beq-not (S ((reachAt N j) .a)) (S ((reachAt N j) .b)))
 
 pub record LoneSide (N : Network) (i : ℕ) (S : List ℕ) : Type 0 where
   pub cut : Cut N i S

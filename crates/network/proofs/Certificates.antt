@@ -139,7 +139,7 @@ shut-in-shown N ok n =
 -- What the reach i, the marks m and the count c of finding 10 show.
 pub record BridgeShown (N : Network) (i : ℕ) (m : List ℕ) (c : ℕ) : Type 0 where
   pub below : i < length (N .reaches)
-  pub gated : isGated ((reachAt N i) .kind) ≡ true
+  pub gated : isGated ((reachAt N i) .state) ≡ true
   -- it crosses the marked side, and no other reach does
   pub crossing : Alone N (marked m) i
   -- the side is without basin 0

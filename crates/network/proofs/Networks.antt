@@ -14,16 +14,17 @@ use mathlib.Mathlib.Data.Bool.Basic.{and-elim-left, and-elim-right}
 use Rattle.lists.proofs.Lists.{length-cond-le}
 use Rattle.lists.proofs.Searches.{every-getD}
 use Rattle.network.specs.declared.Kind.the-variants.{TwoWay}
+use Rattle.network.specs.declared.State.the-variants.{InService, Shut}
 use Rattle.network.specs.declared.Reach.{Reach}
 use Rattle.network.specs.declared.Refusal.{Refusal}
 use Rattle.network.specs.declared.Refusal.the-variants.{BasinCount, TooManyReaches, EndOutOfRange}
-use Rattle.network.specs.Networks.{Network, maxBasins, maxReaches, basinsOf, lowestBasin, goodCount, goodLength, goodEnds, tableFault, Accepted}
-use Rattle.network.specs.Tables.{kindOf}
+use Rattle.network.specs.Networks.{Network, inService, maxBasins, maxReaches, basinsOf, lowestBasin, goodCount, goodLength, goodEnds, tableFault, Accepted}
+use Rattle.network.specs.Tables.{stateOf}
 use Rattle.network.specs.Settings.{isGated, gatesFrom, gateCount}
 use Rattle.network.specs.Orientations.{arc, passing, arcs}
 use Rattle.network.specs.Bridges.{noReach, reachAt}
 use Rattle.lists.proofs.Ranges.{range-has, range-in, range-head}
-use Rattle.network.proofs.Ways.{arcs-in}
+use Rattle.network.proofs.Ways.{arcs-in, ShutOut, arc-served}
 use Rattle.network.proofs.Walks.{arc-from, arc-to}
 
 -- an end is below the basin count
@@ -56,24 +57,38 @@ accepted N e =
       end-b = λ i l. ltb-true ((reachAt N i) .b) (N .basins) (and-elim-right (ltb ((reachAt N i) .a) (N .basins)) _ (ends i l));
     }
 
--- ---- kinds and gates
+-- ---- states and gates
 
--- only the kind 0 is gated
-pub not-gated : (k : ℕ) → (k ≡ 0 → ⊥) → isGated (kindOf k) ≡ false
+-- only the number 0 is gated
+pub not-gated : (k : ℕ) → (k ≡ 0 → ⊥) → isGated (stateOf k) ≡ false
 not-gated zero n = absurd (n refl)
 not-gated (suc zero) n = refl
-not-gated (suc (suc k)) n = refl
+not-gated (suc (suc zero)) n = refl
+not-gated (suc (suc (suc zero))) n = refl
+not-gated (suc (suc (suc (suc zero)))) n = refl
+not-gated (suc (suc (suc (suc (suc k))))) n = refl
 
--- a number that is neither 0 nor 1 is two-way
-pub kind-other : (k : ℕ) → (k ≡ 0 → ⊥) → (k ≡ 1 → ⊥) → TwoWay ≡ kindOf k
-kind-other zero m n = absurd (m refl)
-kind-other (suc zero) m n = absurd (n refl)
-kind-other (suc (suc k)) m n = refl
+-- 3, 4 and a number that is none of 0 to 4 are shut
+pub state-other : (k : ℕ) → 5 ≤ k → Shut TwoWay ≡ stateOf k
+state-other zero l = absurd (omega arith)
+state-other (suc zero) l = absurd (omega arith)
+state-other (suc (suc zero)) l = absurd (omega arith)
+state-other (suc (suc (suc zero))) l = absurd (omega arith)
+state-other (suc (suc (suc (suc zero)))) l = absurd (omega arith)
+state-other (suc (suc (suc (suc (suc k))))) l = refl
+
+pub state-shut : (k : ℕ) → 3 ≤ k → inService (stateOf k) ≡ false
+state-shut zero l = absurd (omega arith)
+state-shut (suc zero) l = absurd (omega arith)
+state-shut (suc (suc zero)) l = absurd (omega arith)
+state-shut (suc (suc (suc zero))) l = refl
+state-shut (suc (suc (suc (suc zero)))) l = refl
+state-shut (suc (suc (suc (suc (suc k))))) l = refl
 
 -- there are no more gated reaches than reaches, and so no more than a network may have
 pub gates-below : (o : ℕ) (t : List Reach) → length (gatesFrom o t) ≤ length t
 gates-below o [] = omega arith
-gates-below o (r ∷ t) = length-cond-le (isGated (r .kind)) o (gatesFrom (suc o) t) (length t) (gates-below (suc o) t)
+gates-below o (r ∷ t) = length-cond-le (isGated (r .state)) o (gatesFrom (suc o) t) (length t) (gates-below (suc o) t)
 
 pub gates-fit : (N : Network) → Accepted N → gateCount N ≤ maxReaches
 gates-fit N ok = omega (arith, gates-below 0 (N .reaches), accepted N ok .few-reaches)
@@ -119,8 +134,8 @@ arcs-in-basins N ok ws =
     arc-ends (λ x. List·Memᴰ x (basinsOf N)) (N .reaches) ws
     (λ i l. (basin-in N _ ((accepted N ok) .end-a i l), basin-in N _ ((accepted N ok) .end-b i l)))
 
--- what is alike at both ends of each reach is alike at both ends of each arc
-pub arc-alike : (f : ℕ → Bool) (t : List Reach) (ws : List ℕ) → ((i : ℕ) → i < length t → f ((getD t i noReach) .a) ≡ f ((getD t i noReach) .b)) → (c d : ℕ) → List·Memᴰ (arc c d) (arcs t ws) → f c ≡ f d
-arc-alike f t ws same c d m =
+-- what is alike at both ends of each reach in service is alike at both ends of each arc
+pub arc-alike : (f : ℕ → Bool) (t : List Reach) (ws : List ℕ) → ShutOut t ws → ((i : ℕ) → i < length t → inService ((getD t i noReach) .state) ≡ true → f ((getD t i noReach) .a) ≡ f ((getD t i noReach) .b)) → (c d : ℕ) → List·Memᴰ (arc c d) (arcs t ws) → f c ≡ f d
+arc-alike f t ws out same c d m =
     let s = arcs-in t ws (arc c d) m in
-    reach-alike f (getD ws (s .reach) 3) _ _ c d (same (s .reach) (s .below)) (s .passes)
+    reach-alike f (getD ws (s .reach) 3) _ _ c d (same (s .reach) (s .below) (arc-served t ws out (s .reach) (s .below) (arc c d) (s .passes))) (s .passes)

@@ -8,7 +8,7 @@ use mathlib.Core.Logic.{_⊎_, inl, inr, ⊎-elim, _≢_}
 use mathlib.Core.List.{List, [], _∷_, List·Memᴰ, List·Memᴰ·head, List·Memᴰ·not-nil, List·Memᴰ·cases-cons}
 use lib.ListN.{length, getD, set}
 use lib.Seq.{getD-set-other}
-use Rattle.network.specs.Networks.{Network, basinsOf, Accepted}
+use Rattle.network.specs.Networks.{Network, inService, basinsOf, Accepted}
 use Rattle.network.specs.Settings.{isGated}
 use Rattle.network.specs.Orientations.{Arc, arc, passing, arcs, reached}
 use Rattle.network.specs.Plans.{stronglyConnected}
@@ -18,7 +18,7 @@ use Rattle.network.proofs.Walks.{reached-walk, reached-refl}
 use Rattle.network.proofs.Cuts.{OneMore, TwoMore, strong-walks, walks-strong, detour, came-back, bridge, other-side}
 use Rattle.network.proofs.Ways.{arcs-has, split-in, split-own, split-rest, passingAt}
 use Rattle.network.proofs.Networks.{accepted, basin-in, arcs-in-basins}
-use Rattle.network.proofs.Bridges.{Alone, bridge-make}
+use Rattle.network.proofs.Bridges.{Alone, uncrossed, bridge-make}
 
 -- a reach whose way is 0, 1 or 2 passes between its ends
 some-arc : (w a b : ℕ) → w ≤ 2 → List·Memᴰ (arc a b) (passing w a b) ⊎ List·Memᴰ (arc b a) (passing w a b)
@@ -81,18 +81,18 @@ module _ (N : Network) (ok : Accepted N) (ws : List ℕ) (i : ℕ) (below : i < 
   pub orient-turned : stronglyConnected (basinsOf N) (under 2) ≡ true → stronglyConnected (basinsOf N) (under 1) ≡ reached (under 3) endA endB
   orient-turned str = one-way 1 endB endA turned both′ in-b in-a str
 
-  module _ (small : (j : ℕ) → j < length (N .reaches) → getD ws j 3 ≤ 2) (str : stronglyConnected (basinsOf N) (under 2) ≡ true)
+  module _ (serves : inService ((reachAt N i) .state) ≡ true) (small : (j : ℕ) → j < length (N .reaches) → inService ((reachAt N j) .state) ≡ true → getD ws j 3 ≤ 2) (str : stronglyConnected (basinsOf N) (under 2) ≡ true)
       (ba : reached (under 3) endB endA ≡ false) (ab : reached (under 3) endA endB ≡ false) where
     -- Where both ways lose something, the reach alone crosses the side that B leads to without it.
     pub stuck-alone : Alone N (reached (under 3) endB) i
-    stuck-alone = record { crossing = rw (ba, reached-refl (under 3) endB); others = others }
+    stuck-alone = record { crossing = rw (serves, ba, reached-refl (under 3) endB); others = λ j l n. uncrossed (reached (under 3) endB) (reachAt N j) (others j l n) }
       where
         level : (c d : ℕ) → List·Memᴰ (arc c d) (under 3) → reached (under 3) endB c ≡ reached (under 3) endB d
         level = bridge (basinsOf N) (under 3) (under 2) endA endB both (strong-walks (basinsOf N) (under 2) str) (arcs-in-basins N ok (set ws i 3)) in-a in-b ba ab
 
-        others : (j : ℕ) → j < length (N .reaches) → j ≢ i → reached (under 3) endB ((reachAt N j) .a) ≡ reached (under 3) endB ((reachAt N j) .b)
-        others j l n =
-            let w : getD (set ws i 3) j 3 ≤ 2 = rw (getD-set-other ws i j 3 3 n) (small j l) in
+        others : (j : ℕ) → j < length (N .reaches) → j ≢ i → inService ((reachAt N j) .state) ≡ true → reached (under 3) endB ((reachAt N j) .a) ≡ reached (under 3) endB ((reachAt N j) .b)
+        others j l n inj =
+            let w : getD (set ws i 3) j 3 ≤ 2 = rw (getD-set-other ws i j 3 3 n) (small j l inj) in
             ⊎-elim
             (λ m. level _ _ (arcs-has (N .reaches) (set ws i 3) j _ l m))
             (λ m. sym (level _ _ (arcs-has (N .reaches) (set ws i 3) j _ l m)))
@@ -102,5 +102,5 @@ module _ (N : Network) (ok : Accepted N) (ws : List ℕ) (i : ℕ) (below : i < 
     pub stuck-other : (v : ℕ) → List·Memᴰ v (basinsOf N) → reached (under 3) endA v ≡ not (reached (under 3) endB v)
     stuck-other = other-side (basinsOf N) (under 3) (under 2) endA endB both (strong-walks (basinsOf N) (under 2) str) (arcs-in-basins N ok (set ws i 3)) in-a in-b ba ab
 
-    pub stuck-bridge : isGated ((reachAt N i) .kind) ≡ true → isBridge N i ≡ true
+    pub stuck-bridge : isGated ((reachAt N i) .state) ≡ true → isBridge N i ≡ true
     stuck-bridge g = bridge-make N ok i below g (reached (under 3) endB) stuck-alone

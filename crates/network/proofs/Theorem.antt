@@ -14,14 +14,14 @@ use lib.Dec.{leb, eqb}
 use borrow.Author.Tests.{eqb-true, eq-eqb, leb-true, le-leb}
 use mathlib.Mathlib.Data.Bool.Basic.{and-elim-left, and-elim-right, and-intro, bool-eq-false}
 use Rattle.lists.proofs.Lists.{getD-replicate-all}
-use Rattle.network.specs.Networks.{Network, basinsOf, Accepted}
+use Rattle.network.specs.Networks.{Network, inService, basinsOf, Accepted}
 use Rattle.network.specs.Settings.{gates, gateCount, isSetting}
 use Rattle.network.specs.Orientations.{Arc, arcs, ways, arcsUnder, reached, isPartialOrientation, unoriented}
 use Rattle.network.specs.Plans.{stronglyConnected, stronglyConnectedUnder, isPlan, passable}
 use Rattle.network.specs.Bridges.{reachAt, isBridge}
 use Rattle.lists.proofs.Bools.{decide, clash}
 use Rattle.network.proofs.Cuts.{strong-within}
-use Rattle.network.proofs.Ways.{Gate, gate-at, length-ways, way-small, Looser, looser-within}
+use Rattle.network.proofs.Ways.{Gate, gate-at, length-ways, gated-served, way-small, Looser, looser-within}
 use Rattle.lists.proofs.Searches.{every-getD, every-from}
 use Rattle.network.proofs.Bridges.{bridge-blocks}
 use Rattle.network.proofs.Steps.{orient-drawn, orient-turned, stuck-bridge}
@@ -128,12 +128,12 @@ module _ (N : Network) (ok : Accepted N) (h : List ℕ) (oriented : Hung N h) (k
   stuck : stronglyConnectedUnder N (set h k 0) ≡ false → stronglyConnectedUnder N (set h k 1) ≡ false → isBridge N (getD (gates N) k 0) ≡ true
   stuck not-drawn not-turned =
       rw numbered
-      (stuck-bridge N ok ws (g .reach) (g .below) full (λ j jl. way-small′ j jl) both-ways
+      (stuck-bridge N ok ws (g .reach) (g .below) full (gated-served ((reachAt N (g .reach)) .state) (g .gated)) (λ j jl. way-small′ j jl) both-ways
       (sym (orient-drawn N ok ws (g .reach) (g .below) full both-ways) ∙ sym (oriented-as 0) ∙ not-drawn)
       (sym (orient-turned N ok ws (g .reach) (g .below) full both-ways) ∙ sym (oriented-as 1) ∙ not-turned)
       (g .gated))
     where
-      way-small′ : (j : ℕ) → j < length (N .reaches) → getD ws j 3 ≤ 2
+      way-small′ : (j : ℕ) → j < length (N .reaches) → inService ((reachAt N j) .state) ≡ true → getD ws j 3 ≤ 2
       way-small′ j jl = way-small (N .reaches) h j (oriented .size) (every-from (λ x. leb x 2) h 2 (λ i il. le-leb (getD h i 2) 2 (oriented .small i))) jl
 
   -- It can be hung at least one way without loss, unless it is lone.

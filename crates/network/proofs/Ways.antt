@@ -11,9 +11,11 @@ use lib.ListN.{length, getD, set, drop}
 use lib.Dec.{leb}
 use borrow.Author.Tests.{leb-true}
 use Rattle.lists.proofs.Searches.{every-getD}
-use Rattle.network.specs.declared.Kind.{Kind}
 use Rattle.network.specs.declared.Kind.the-variants.{Gated, Flap, TwoWay}
+use Rattle.network.specs.declared.State.{State}
+use Rattle.network.specs.declared.State.the-variants.{InService, Shut}
 use Rattle.network.specs.declared.Reach.{Reach}
+use Rattle.network.specs.Networks.{inService}
 use Rattle.network.specs.Settings.{isGated, gatesFrom}
 use Rattle.network.specs.Orientations.{Arc, way, after, ways, passing, arcs}
 use Rattle.network.specs.Bridges.{noReach}
@@ -81,24 +83,24 @@ split-rest (r ∷ t) (w ∷ ws) (suc i) x y m =
 
 pub length-ways : (t : List Reach) (h : List ℕ) → length (ways t h) ≡ length t
 length-ways [] h = refl
-length-ways (r ∷ t) h = ap suc (length-ways t (after (r .kind) h))
+length-ways (r ∷ t) h = ap suc (length-ways t (after (r .state) h))
 
 -- the gate k of a table: the number of its reach, and what its byte decides
 pub record Gate (o : ℕ) (t : List Reach) (h : List ℕ) (k : ℕ) : Type 0 where
   pub reach : ℕ
   pub below : reach < length t
   pub numbered : getD (gatesFrom o t) k 0 ≡ o + reach
-  pub gated : isGated ((getD t reach noReach) .kind) ≡ true
+  pub gated : isGated ((getD t reach noReach) .state) ≡ true
   pub byte : getD (ways t h) reach 3 ≡ getD h k 2
   pub turn : (x : ℕ) → k < length h → ways t (set h k x) ≡ set (ways t h) reach x
 
-abbrev reachOf : Kind → ℕ → ℕ → Reach
-reachOf d a b = record { kind = d; a = a; b = b }
+abbrev reachOf : State → ℕ → ℕ → Reach
+reachOf d a b = record { state = d; a = a; b = b }
 
 -- a gate of the tail is a gate of the table, after a reach that is no gate
-passed : (d : Kind) (a b o : ℕ) (t : List Reach) (h : List ℕ) (k : ℕ) → isGated d ≡ false → after d h ≡ h → Gate (suc o) t h k → Gate o (reachOf d a b ∷ t) h k
-passed Gated a b o t h k e f g = absurd (true≢false e)
-passed Flap a b o t h k e f g =
+passed : (d : State) (a b o : ℕ) (t : List Reach) (h : List ℕ) (k : ℕ) → isGated d ≡ false → after d h ≡ h → Gate (suc o) t h k → Gate o (reachOf d a b ∷ t) h k
+passed (InService Gated) a b o t h k e f g = absurd (true≢false e)
+passed (InService Flap) a b o t h k e f g =
     record {
       reach = suc (g .reach);
       below = omega (arith, g .below);
@@ -107,7 +109,7 @@ passed Flap a b o t h k e f g =
       byte = g .byte;
       turn = λ x l. ap (λ (l : List ℕ). 0 ∷ l) (g .turn x l);
     }
-passed TwoWay a b o t h k e f g =
+passed (InService TwoWay) a b o t h k e f g =
     record {
       reach = suc (g .reach);
       below = omega (arith, g .below);
@@ -116,12 +118,21 @@ passed TwoWay a b o t h k e f g =
       byte = g .byte;
       turn = λ x l. ap (λ (l : List ℕ). 2 ∷ l) (g .turn x l);
     }
+passed (Shut d) a b o t h k e f g =
+    record {
+      reach = suc (g .reach);
+      below = omega (arith, g .below);
+      numbered = g .numbered ∙ omega arith;
+      gated = g .gated;
+      byte = g .byte;
+      turn = λ x l. ap (λ (l : List ℕ). 3 ∷ l) (g .turn x l);
+    }
 
-first-gate : (a b o : ℕ) (t : List Reach) (h : List ℕ) → Gate o (reachOf Gated a b ∷ t) h 0
+first-gate : (a b o : ℕ) (t : List Reach) (h : List ℕ) → Gate o (reachOf (InService Gated) a b ∷ t) h 0
 first-gate a b o t [] = record { reach = 0; below = omega arith; numbered = omega arith; gated = refl; byte = refl; turn = λ x l. absurd (not-suc-le-zero l) }
 first-gate a b o t (y ∷ h) = record { reach = 0; below = omega arith; numbered = omega arith; gated = refl; byte = refl; turn = λ x l. refl }
 
-later-gate : (a b o : ℕ) (t : List Reach) (h : List ℕ) (k : ℕ) → Gate (suc o) t (drop 1 h) k → Gate o (reachOf Gated a b ∷ t) h (suc k)
+later-gate : (a b o : ℕ) (t : List Reach) (h : List ℕ) (k : ℕ) → Gate (suc o) t (drop 1 h) k → Gate o (reachOf (InService Gated) a b ∷ t) h (suc k)
 later-gate a b o t [] k g =
     record { reach = suc (g .reach); below = omega (arith, g .below); numbered = g .numbered ∙ omega arith; gated = g .gated; byte = g .byte; turn = λ x l. absurd (not-suc-le-zero l) }
 later-gate a b o t (y ∷ h) k g =
@@ -134,15 +145,16 @@ later-gate a b o t (y ∷ h) k g =
       turn = λ x l. ap (λ (l : List ℕ). y ∷ l) (g .turn x (le-of-suc-le-suc l));
     }
 
-gate-step : (d : Kind) (a b o : ℕ) (t : List Reach) (h : List ℕ) (k : ℕ) → ((h′ : List ℕ) (k′ : ℕ) → k′ < length (gatesFrom (suc o) t) → Gate (suc o) t h′ k′) → k < length (gatesFrom o (reachOf d a b ∷ t)) → Gate o (reachOf d a b ∷ t) h k
-gate-step Gated a b o t h zero f l = first-gate a b o t h
-gate-step Gated a b o t h (suc k) f l = later-gate a b o t h k (f (drop 1 h) k (le-of-suc-le-suc l))
-gate-step Flap a b o t h k f l = passed Flap a b o t h k refl refl (f h k l)
-gate-step TwoWay a b o t h k f l = passed TwoWay a b o t h k refl refl (f h k l)
+gate-step : (d : State) (a b o : ℕ) (t : List Reach) (h : List ℕ) (k : ℕ) → ((h′ : List ℕ) (k′ : ℕ) → k′ < length (gatesFrom (suc o) t) → Gate (suc o) t h′ k′) → k < length (gatesFrom o (reachOf d a b ∷ t)) → Gate o (reachOf d a b ∷ t) h k
+gate-step (InService Gated) a b o t h zero f l = first-gate a b o t h
+gate-step (InService Gated) a b o t h (suc k) f l = later-gate a b o t h k (f (drop 1 h) k (le-of-suc-le-suc l))
+gate-step (InService Flap) a b o t h k f l = passed (InService Flap) a b o t h k refl refl (f h k l)
+gate-step (InService TwoWay) a b o t h k f l = passed (InService TwoWay) a b o t h k refl refl (f h k l)
+gate-step (Shut d) a b o t h k f l = passed (Shut d) a b o t h k refl refl (f h k l)
 
 pub gate-at : (o : ℕ) (t : List Reach) (h : List ℕ) (k : ℕ) → k < length (gatesFrom o t) → Gate o t h k
 gate-at o [] h k l = absurd (not-suc-le-zero l)
-gate-at o (r ∷ t) h k l = gate-step (r .kind) (r .a) (r .b) o t h k (λ h′ k′ l′. gate-at (suc o) t h′ k′ l′) l
+gate-at o (r ∷ t) h k l = gate-step (r .state) (r .a) (r .b) o t h k (λ h′ k′ l′. gate-at (suc o) t h′ k′ l′) l
 
 -- every gated reach is a gate: its place among the gates
 pub record Rank (o : ℕ) (t : List Reach) (i : ℕ) : Type 0 where
@@ -150,31 +162,34 @@ pub record Rank (o : ℕ) (t : List Reach) (i : ℕ) : Type 0 where
   pub below : place < length (gatesFrom o t)
   pub numbered : getD (gatesFrom o t) place 0 ≡ o + i
 
-rank-step : (d : Kind) (a b o : ℕ) (t : List Reach) (i : ℕ) → Rank (suc o) t i → Rank o (reachOf d a b ∷ t) (suc i)
-rank-step Gated a b o t i r = record { place = suc (r .place); below = omega (arith, r .below); numbered = r .numbered ∙ omega arith }
-rank-step Flap a b o t i r = record { place = r .place; below = r .below; numbered = r .numbered ∙ omega arith }
-rank-step TwoWay a b o t i r = record { place = r .place; below = r .below; numbered = r .numbered ∙ omega arith }
+rank-step : (d : State) (a b o : ℕ) (t : List Reach) (i : ℕ) → Rank (suc o) t i → Rank o (reachOf d a b ∷ t) (suc i)
+rank-step (InService Gated) a b o t i r = record { place = suc (r .place); below = omega (arith, r .below); numbered = r .numbered ∙ omega arith }
+rank-step (InService Flap) a b o t i r = record { place = r .place; below = r .below; numbered = r .numbered ∙ omega arith }
+rank-step (InService TwoWay) a b o t i r = record { place = r .place; below = r .below; numbered = r .numbered ∙ omega arith }
+rank-step (Shut d) a b o t i r = record { place = r .place; below = r .below; numbered = r .numbered ∙ omega arith }
 
-rank-here : (d : Kind) (a b o : ℕ) (t : List Reach) → isGated d ≡ true → Rank o (reachOf d a b ∷ t) 0
-rank-here Gated a b o t e = record { place = 0; below = omega arith; numbered = omega arith }
-rank-here Flap a b o t e = absurd (false≢true e)
-rank-here TwoWay a b o t e = absurd (false≢true e)
+rank-here : (d : State) (a b o : ℕ) (t : List Reach) → isGated d ≡ true → Rank o (reachOf d a b ∷ t) 0
+rank-here (InService Gated) a b o t e = record { place = 0; below = omega arith; numbered = omega arith }
+rank-here (InService Flap) a b o t e = absurd (false≢true e)
+rank-here (InService TwoWay) a b o t e = absurd (false≢true e)
+rank-here (Shut d) a b o t e = absurd (false≢true e)
 
-pub rank-of : (o : ℕ) (t : List Reach) (i : ℕ) → i < length t → isGated ((getD t i noReach) .kind) ≡ true → Rank o t i
+pub rank-of : (o : ℕ) (t : List Reach) (i : ℕ) → i < length t → isGated ((getD t i noReach) .state) ≡ true → Rank o t i
 rank-of o [] i l e = absurd (not-suc-le-zero l)
-rank-of o (r ∷ t) zero l e = rank-here (r .kind) (r .a) (r .b) o t e
-rank-of o (r ∷ t) (suc i) l e = rank-step (r .kind) (r .a) (r .b) o t i (rank-of (suc o) t i (le-of-suc-le-suc l) e)
+rank-of o (r ∷ t) zero l e = rank-here (r .state) (r .a) (r .b) o t e
+rank-of o (r ∷ t) (suc i) l e = rank-step (r .state) (r .a) (r .b) o t i (rank-of (suc o) t i (le-of-suc-le-suc l) e)
 
--- a reach that is no gate has the way of its kind, whatever the partial orientation
-plain-here : (d : Kind) (h : List ℕ) → isGated d ≡ false → way d h ≡ way d []
-plain-here Gated h e = absurd (true≢false e)
-plain-here Flap h e = refl
-plain-here TwoWay h e = refl
+-- a reach that is no gate has the way of its state, whatever the partial orientation
+plain-here : (d : State) (h : List ℕ) → isGated d ≡ false → way d h ≡ way d []
+plain-here (InService Gated) h e = absurd (true≢false e)
+plain-here (InService Flap) h e = refl
+plain-here (InService TwoWay) h e = refl
+plain-here (Shut d) h e = refl
 
-pub plain-way : (t : List Reach) (h : List ℕ) (i : ℕ) → i < length t → isGated ((getD t i noReach) .kind) ≡ false → getD (ways t h) i 3 ≡ way ((getD t i noReach) .kind) []
+pub plain-way : (t : List Reach) (h : List ℕ) (i : ℕ) → i < length t → isGated ((getD t i noReach) .state) ≡ false → getD (ways t h) i 3 ≡ way ((getD t i noReach) .state) []
 plain-way [] h i l e = absurd (not-suc-le-zero l)
-plain-way (r ∷ t) h zero l e = plain-here (r .kind) h e
-plain-way (r ∷ t) h (suc i) l e = plain-way t (after (r .kind) h) i (le-of-suc-le-suc l) e
+plain-way (r ∷ t) h zero l e = plain-here (r .state) h e
+plain-way (r ∷ t) h (suc i) l e = plain-way t (after (r .state) h) i (le-of-suc-le-suc l) e
 
 -- a gated reach has the way that its byte says
 pub record GateWay (t : List Reach) (h : List ℕ) (i : ℕ) : Type 0 where
@@ -184,7 +199,7 @@ pub record GateWay (t : List Reach) (h : List ℕ) (i : ℕ) : Type 0 where
   pub byte : getD (ways t h) i 3 ≡ getD h place 2
   pub turn : (x : ℕ) → place < length h → ways t (set h place x) ≡ set (ways t h) i x
 
-pub gate-way : (t : List Reach) (h : List ℕ) (i : ℕ) → i < length t → isGated ((getD t i noReach) .kind) ≡ true → GateWay t h i
+pub gate-way : (t : List Reach) (h : List ℕ) (i : ℕ) → i < length t → isGated ((getD t i noReach) .state) ≡ true → GateWay t h i
 gate-way t h i l e =
     let r = rank-of 0 t i l e in
     let g = gate-at 0 t h (r .place) (r .below) in
@@ -197,25 +212,52 @@ gate-way t h i l e =
       turn = λ x k. subst (λ (j : ℕ). ways t (set h (r .place) x) ≡ set (ways t h) j x) same (g .turn x k);
     }
 
-pub plain-small : (d : Kind) → isGated d ≡ false → way d [] ≤ 2
-plain-small Gated e = absurd (true≢false e)
-plain-small Flap e = omega arith
-plain-small TwoWay e = omega arith
+-- a reach in service that is no gate passes, a shut reach does not
+pub plain-small : (d : State) → isGated d ≡ false → inService d ≡ true → way d [] ≤ 2
+plain-small (InService Gated) e f = absurd (true≢false e)
+plain-small (InService Flap) e f = omega arith
+plain-small (InService TwoWay) e f = omega arith
+plain-small (Shut d) e f = absurd (false≢true f)
 
--- under a partial orientation each reach has a way up to 2
-pub way-small : (t : List Reach) (h : List ℕ) (i : ℕ) → length h ≡ length (gatesFrom 0 t) → every (λ x. leb x 2) h ≡ true → i < length t → getD (ways t h) i 3 ≤ 2
-way-small t h i e all l = ⊎-elim gated plain (decide (isGated ((getD t i noReach) .kind)))
+pub shut-way : (d : State) → inService d ≡ false → way d [] ≡ 3
+shut-way (InService k) e = absurd (true≢false e)
+shut-way (Shut k) e = refl
+
+pub shut-plain : (d : State) → inService d ≡ false → isGated d ≡ false
+shut-plain (InService k) e = absurd (true≢false e)
+shut-plain (Shut k) e = refl
+
+pub gated-served : (d : State) → isGated d ≡ true → inService d ≡ true
+gated-served (InService k) e = refl
+gated-served (Shut k) e = absurd (false≢true e)
+
+-- Item 1: "While shut it passes no water". The shut reaches of the table have way 3.
+abbrev pub ShutOut : List Reach → List ℕ → Type 0
+ShutOut t ws = (j : ℕ) → j < length t → inService ((getD t j noReach) .state) ≡ false → getD ws j 3 ≡ 3
+
+-- so they are under every partial orientation
+pub shut-out : (t : List Reach) (h : List ℕ) → ShutOut t (ways t h)
+shut-out t h j l e = plain-way t h j l (shut-plain ((getD t j noReach) .state) e) ∙ shut-way ((getD t j noReach) .state) e
+
+-- an arc comes from a reach in service
+pub arc-served : (t : List Reach) (ws : List ℕ) → ShutOut t ws → (j : ℕ) → j < length t → (y : Arc) → List·Memᴰ y (passingAt t j (getD ws j 3)) → inService ((getD t j noReach) .state) ≡ true
+arc-served t ws out j l y m =
+    ⊎-elim (λ e. e) (λ n. absurd (List·Memᴰ·not-nil (subst (λ (x : ℕ). List·Memᴰ y (passingAt t j x)) (out j l n) m))) (decide (inService ((getD t j noReach) .state)))
+
+-- under a partial orientation each reach in service has a way up to 2
+pub way-small : (t : List Reach) (h : List ℕ) (i : ℕ) → length h ≡ length (gatesFrom 0 t) → every (λ x. leb x 2) h ≡ true → i < length t → inService ((getD t i noReach) .state) ≡ true → getD (ways t h) i 3 ≤ 2
+way-small t h i e all l serves = ⊎-elim gated plain (decide (isGated ((getD t i noReach) .state)))
   where
-    gated : isGated ((getD t i noReach) .kind) ≡ true → getD (ways t h) i 3 ≤ 2
+    gated : isGated ((getD t i noReach) .state) ≡ true → getD (ways t h) i 3 ≤ 2
     gated y =
         let g = gate-way t h i l y in
         rw (g .byte) (leb-true (getD h (g .place) 2) 2 (every-getD (λ x. leb x 2) h (g .place) 2 all (omega (arith, g .below, e))))
 
-    plain : isGated ((getD t i noReach) .kind) ≡ false → getD (ways t h) i 3 ≤ 2
-    plain n = rw (plain-way t h i l n) (plain-small ((getD t i noReach) .kind) n)
+    plain : isGated ((getD t i noReach) .state) ≡ false → getD (ways t h) i 3 ≤ 2
+    plain n = rw (plain-way t h i l n) (plain-small ((getD t i noReach) .state) n serves)
 
 -- under a setting each gated reach has a way up to 1
-pub gate-small : (t : List Reach) (s : List ℕ) (i : ℕ) → length s ≡ length (gatesFrom 0 t) → every (λ x. leb x 1) s ≡ true → i < length t → isGated ((getD t i noReach) .kind) ≡ true → getD (ways t s) i 3 ≤ 1
+pub gate-small : (t : List Reach) (s : List ℕ) (i : ℕ) → length s ≡ length (gatesFrom 0 t) → every (λ x. leb x 1) s ≡ true → i < length t → isGated ((getD t i noReach) .state) ≡ true → getD (ways t s) i 3 ≤ 1
 gate-small t s i e all l y =
     let g = gate-way t s i l y in
     rw (g .byte) (leb-true (getD s (g .place) 2) 1 (every-getD (λ x. leb x 1) s (g .place) 2 all (omega (arith, g .below, e))))
@@ -236,7 +278,7 @@ pub looser-within : (t : List Reach) (h h′ : List ℕ) → Looser h h′ → W
 unfolding gate-way
 looser-within t h h′ f y m = go (arcs-in t (ways t h) y m)
   where
-    gated : (i : ℕ) → i < length t → isGated ((getD t i noReach) .kind) ≡ true → List·Memᴰ y (passingAt t i (getD (ways t h) i 3)) → List·Memᴰ y (passingAt t i (getD (ways t h′) i 3))
+    gated : (i : ℕ) → i < length t → isGated ((getD t i noReach) .state) ≡ true → List·Memᴰ y (passingAt t i (getD (ways t h) i 3)) → List·Memᴰ y (passingAt t i (getD (ways t h′) i 3))
     gated i l e p =
         let g = gate-way t h i l e in
         let g′ = gate-way t h′ i l e in
@@ -245,10 +287,10 @@ looser-within t h h′ f y m = go (arcs-in t (ways t h) y m)
         (λ same. subst (λ (x : ℕ). List·Memᴰ y (passingAt t i x)) (g .byte ∙ sym (g′ .byte ∙ same)) p)
         (f (g′ .place))
 
-    plain : (i : ℕ) → i < length t → isGated ((getD t i noReach) .kind) ≡ false → List·Memᴰ y (passingAt t i (getD (ways t h) i 3)) → List·Memᴰ y (passingAt t i (getD (ways t h′) i 3))
+    plain : (i : ℕ) → i < length t → isGated ((getD t i noReach) .state) ≡ false → List·Memᴰ y (passingAt t i (getD (ways t h) i 3)) → List·Memᴰ y (passingAt t i (getD (ways t h′) i 3))
     plain i l e p = subst (λ (x : ℕ). List·Memᴰ y (passingAt t i x)) (plain-way t h i l e ∙ sym (plain-way t h′ i l e)) p
 
     go : Source t (ways t h) y → List·Memᴰ y (arcs t (ways t h′))
     go s =
         arcs-has t (ways t h′) (s .reach) y (s .below)
-        (⊎-elim (λ e. gated (s .reach) (s .below) e (s .passes)) (λ e. plain (s .reach) (s .below) e (s .passes)) (decide (isGated ((getD t (s .reach) noReach) .kind))))
+        (⊎-elim (λ e. gated (s .reach) (s .below) e (s .passes)) (λ e. plain (s .reach) (s .below) e (s .passes)) (decide (isGated ((getD t (s .reach) noReach) .state))))

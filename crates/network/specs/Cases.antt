@@ -1,26 +1,28 @@
--- The marked cases 1 to 11 of document 01, in one table. proofs/Cases.antt computes them from the definitions.
+-- The marked cases 1 to 11 of document 01 in one table, and cases with shut reaches in another. proofs/Cases.antt computes them from the definitions.
 -- Assumes nothing.
 use Prim.Native.Nat.{ℕ}
 use mathlib.Core.Path.{_≡_}
 use mathlib.Core.List.{List, [], _∷_}
 use lib.ListN.{replicate}
 use Rattle.network.specs.declared.Kind.the-variants.{Gated, Flap, TwoWay}
+use Rattle.network.specs.declared.State.the-variants.{InService}
 use Rattle.network.specs.declared.Reach.{Reach}
 use Rattle.network.specs.declared.Refusal.the-variants.{LastPlan}
 use Rattle.network.specs.Networks.{Network, net}
 use Rattle.network.specs.Settings.{gateCount}
 use Rattle.network.specs.Marks.{markBytes}
+use Rattle.network.specs.Services.{shutReach}
 use Rattle.network.specs.Replies.{Outcome, plan, shutIn, lone, refused, firstReply, nextReply}
 
 -- "G gated, F flap, T two-way."
 abbrev pub G : ℕ → ℕ → Reach
-G a b = record { kind = Gated; a = a; b = b }
+G a b = record { state = InService Gated; a = a; b = b }
 
 abbrev pub F : ℕ → ℕ → Reach
-F a b = record { kind = Flap; a = a; b = b }
+F a b = record { state = InService Flap; a = a; b = b }
 
 abbrev pub T : ℕ → ℕ → Reach
-T a b = record { kind = TwoWay; a = a; b = b }
+T a b = record { state = InService TwoWay; a = a; b = b }
 
 -- marks whose first byte is x, the others 0
 abbrev pub firstByte : ℕ → List ℕ
@@ -72,6 +74,25 @@ cases =
     row (net 3 (G 0 1 ∷ T 1 2 ∷ [])) (lone 0 (firstByte 6) 2) [] ∷
     -- 11. F 0-1, G 1-2: 9, marked {1, 2}, though reach 1 is lone.
     row (net 3 (F 0 1 ∷ G 1 2 ∷ [])) (shutIn (firstByte 6) 2) [] ∷ []
+
+-- Cases with reaches shut for works (document 02, item 1).
+abbrev pub shutCases : List Case
+shutCases =
+    -- Case 2 with its gate shut: 9, marked {0}; the gate would be 10.
+    row (net 2 (shutReach (G 0 1) ∷ [])) (shutIn (firstByte 1) 1) [] ∷
+    -- Case 3 with the first of the two shut: the other is lone, at its number in the whole table.
+    row (net 2 (shutReach (G 0 1) ∷ G 0 1 ∷ [])) (lone 1 (firstByte 2) 1) [] ∷
+    -- Case 3 with a third gate, shut, between the two: it has no byte.
+    row (net 2 (G 0 1 ∷ shutReach (G 0 1) ∷ G 0 1 ∷ [])) (plan (0 ∷ 1 ∷ []))
+    (comes (0 ∷ 0 ∷ []) (plan (0 ∷ 1 ∷ [])) ∷ comes (0 ∷ 1 ∷ []) (plan (1 ∷ 0 ∷ [])) ∷ comes (1 ∷ 0 ∷ []) (refused LastPlan) ∷ []) ∷
+    -- Case 4 shut: 9, marked {0}.
+    row (net 2 (shutReach (T 0 1) ∷ [])) (shutIn (firstByte 1) 1) [] ∷
+    -- Case 7 with reach 2 shut: the other two are lone, reach 0 the lower.
+    row (net 3 (G 0 1 ∷ G 1 2 ∷ shutReach (G 2 0) ∷ [])) (lone 0 (firstByte 6) 2) [] ∷
+    -- Case 8 with its flap shut: reach 1 is lone.
+    row (net 2 (shutReach (F 1 0) ∷ G 0 1 ∷ [])) (lone 1 (firstByte 2) 1) [] ∷
+    -- Case 9 with its loop shut: the empty plan, and no other.
+    row (net 1 (shutReach (G 0 0) ∷ [])) (plan []) (comes [] (refused LastPlan) ∷ []) ∷ []
 
 -- The replies hold: first's and each of next's, with lent buffers of just the length needed.
 abbrev pub NextsHold : Network → List After → Type 0

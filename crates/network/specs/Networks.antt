@@ -2,11 +2,13 @@
 -- Assumes nothing.
 use Prim.Native.Nat.{ℕ}
 use mathlib.Core.Path.{_≡_}
-use mathlib.Core.Bool.{Bool, cond, not, _&&_}
+use mathlib.Core.Bool.{Bool, true, false, cond, not, _&&_}
 use mathlib.Core.List.{List}
 use mathlib.Core.Option.{Option, none, some}
 use lib.ListN.{length, getD}
 use lib.Dec.{leb, ltb}
+use Rattle.network.specs.declared.State.{State}
+use Rattle.network.specs.declared.State.the-variants.{InService, Shut}
 use Rattle.network.specs.declared.Reach.{Reach}
 use Rattle.network.specs.declared.Refusal.{Refusal}
 use Rattle.network.specs.declared.Refusal.the-variants.{BasinCount, TooManyReaches, EndOutOfRange}
@@ -27,6 +29,12 @@ pub record Network : Type 0 where
 -- The network of a basin count and a reach table.
 abbrev pub net : ℕ → List Reach → Network
 net n t = record { basins = n; reaches = t }
+
+-- Document 02, item 1: "A reach under repair should keep its number." "The reach record everywhere gains this state, its old kind inside it." So a reach is
+-- in service or shut; its number is its place in the whole table, and the limit on reaches and the test of ends (2, 3) ask shut reaches too.
+abbrev pub inService : State → Bool
+inService (InService k) = true
+inService (Shut k) = false
 
 -- The basins of a network, lowest first.
 abbrev pub basinsOf : Network → List ℕ

@@ -5,8 +5,9 @@ use mathlib.Core.Bool.{Bool, _&&_, _||_}
 use mathlib.Core.List.{List, [], _∷_, _++_, List·Memᴰ}
 use lib.ListN.{length, getD, drop, replicate}
 use lib.Dec.{leb, eqb}
-use Rattle.network.specs.declared.Kind.{Kind}
 use Rattle.network.specs.declared.Kind.the-variants.{Gated, Flap, TwoWay}
+use Rattle.network.specs.declared.State.{State}
+use Rattle.network.specs.declared.State.the-variants.{InService, Shut}
 use Rattle.network.specs.declared.Reach.{Reach}
 use Rattle.lists.specs.Lists.{every}
 use Rattle.network.specs.Networks.{Network}
@@ -20,22 +21,24 @@ use Rattle.network.specs.Settings.{gateCount}
 unfoldable pub isPartialOrientation : Network → List ℕ → Bool
 isPartialOrientation N h = eqb (length h) (gateCount N) && every (λ x. leb x 2) h
 
--- The way of a reach of the kind, if the partial orientation of the gates from it on is h.
-abbrev pub way : Kind → List ℕ → ℕ
-way Gated h = getD h 0 2
-way Flap h = 0
-way TwoWay h = 2
+-- The way of a reach in the state, if the partial orientation of the gates from it on is h. Item 1: "While shut it passes no water", whatever is hung.
+abbrev pub way : State → List ℕ → ℕ
+way (InService Gated) h = getD h 0 2
+way (InService Flap) h = 0
+way (InService TwoWay) h = 2
+way (Shut k) h = 3
 
--- The partial orientation of the gates after a reach of the kind.
-abbrev pub after : Kind → List ℕ → List ℕ
-after Gated h = drop 1 h
-after Flap h = h
-after TwoWay h = h
+-- The partial orientation of the gates after a reach in the state.
+abbrev pub after : State → List ℕ → List ℕ
+after (InService Gated) h = drop 1 h
+after (InService Flap) h = h
+after (InService TwoWay) h = h
+after (Shut k) h = h
 
 -- The way of each reach of a table, in reach order.
 abbrev pub ways : List Reach → List ℕ → List ℕ
 ways [] h = []
-ways (r ∷ t) h = way (r .kind) h ∷ ways t (after (r .kind) h)
+ways (r ∷ t) h = way (r .state) h ∷ ways t (after (r .state) h)
 
 -- Water passes from the first basin to the second.
 pub data Arc : Type 0 where

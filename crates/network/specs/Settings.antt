@@ -6,24 +6,26 @@ use mathlib.Core.List.{List, [], _∷_, _++_, map}
 use mathlib.Core.Option.{Option, none, some}
 use lib.ListN.{length}
 use lib.Dec.{leb, ltb, eqb}
-use Rattle.network.specs.declared.Kind.{Kind}
 use Rattle.network.specs.declared.Kind.the-variants.{Gated, Flap, TwoWay}
+use Rattle.network.specs.declared.State.{State}
+use Rattle.network.specs.declared.State.the-variants.{InService, Shut}
 use Rattle.network.specs.declared.Reach.{Reach}
 use Rattle.network.specs.declared.Refusal.{Refusal}
 use Rattle.network.specs.declared.Refusal.the-variants.{BadSetting}
 use Rattle.lists.specs.Lists.{every}
 use Rattle.network.specs.Networks.{Network}
 
--- The kind is gated: the reach has a byte in a setting.
-abbrev pub isGated : Kind → Bool
-isGated Gated = true
-isGated Flap = false
-isGated TwoWay = false
+-- The reach is a gated reach: it has a byte in a setting. Item 1: a shut reach "has no byte in a setting".
+abbrev pub isGated : State → Bool
+isGated (InService Gated) = true
+isGated (InService Flap) = false
+isGated (InService TwoWay) = false
+isGated (Shut k) = false
 
 -- The numbers of the gated reaches of a table whose first reach has number i, in reach order.
 abbrev pub gatesFrom : ℕ → List Reach → List ℕ
 gatesFrom i [] = []
-gatesFrom i (r ∷ t) = cond (isGated (r .kind)) (i ∷ gatesFrom (suc i) t) (gatesFrom (suc i) t)
+gatesFrom i (r ∷ t) = cond (isGated (r .state)) (i ∷ gatesFrom (suc i) t) (gatesFrom (suc i) t)
 
 abbrev pub gates : Network → List ℕ
 gates N = gatesFrom 0 (N .reaches)

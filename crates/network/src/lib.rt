@@ -1,4 +1,4 @@
-// The data model of a drainage network: the reach record, its kinds, the limits, and the refusals by number.
+// The data model of a drainage network: the reach record, its kinds and states, the limits, and the refusals by number.
 // What they mean is in specs/; the laws about those definitions are in proofs/.
 
 // The most basins and the most reaches of a network.
@@ -16,9 +16,16 @@ pub enum Kind {
     TwoWay,
 }
 
-// One record of the reach table: a kind and two ends, A and B, which are basin numbers.
+// The state of a reach, its kind inside it: in service, or shut for works and then of the kind that it goes back to.
+pub enum State {
+    InService(Kind),
+    // Passes no water, and has no byte in a setting; it keeps its number.
+    Shut(Kind),
+}
+
+// One record of the reach table: a state and two ends, A and B, which are basin numbers.
 pub struct Reach {
-    pub kind: Kind,
+    pub state: State,
     pub a: u16,
     pub b: u16,
 }

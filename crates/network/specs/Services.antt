@@ -1,0 +1,56 @@
+-- Document 02, item 1, "Reaches shut for works": a reach shut and put back, and the network of the reaches in service alone. proofs/Services.antt: "Plans and
+-- findings are those of the reaches in service."
+-- Assumes nothing.
+use Prim.Native.Nat.{ℕ}
+use mathlib.Core.Bool.{Bool}
+use mathlib.Core.List.{List}
+use lib.ListN.{length, take, set}
+use Rattle.lists.specs.Lists.{keep}
+use Rattle.network.specs.declared.State.{State}
+use Rattle.network.specs.declared.State.the-variants.{InService, Shut}
+use Rattle.network.specs.declared.Reach.{Reach}
+use Rattle.network.specs.Networks.{Network, net, inService}
+use Rattle.network.specs.Bridges.{reachAt}
+use Rattle.network.specs.Replies.{Outcome, plan, shutIn, lone, refused}
+
+-- A state with its kind shut, and in service: "the kind .. it goes back to".
+abbrev pub shutState : State → State
+shutState (InService k) = Shut k
+shutState (Shut k) = Shut k
+
+abbrev pub serviceState : State → State
+serviceState (InService k) = InService k
+serviceState (Shut k) = InService k
+
+-- A reach shut for works, and put back in service.
+abbrev pub shutReach : Reach → Reach
+shutReach r = record { state = shutState (r .state); a = r .a; b = r .b }
+
+abbrev pub backReach : Reach → Reach
+backReach r = record { state = serviceState (r .state); a = r .a; b = r .b }
+
+-- The network with its reach i shut, and with it put back in service.
+abbrev pub shutAt : Network → ℕ → Network
+shutAt N i = net (N .basins) (set (N .reaches) i (shutReach (reachAt N i)))
+
+abbrev pub backAt : Network → ℕ → Network
+backAt N i = net (N .basins) (set (N .reaches) i (backReach (reachAt N i)))
+
+-- The reaches in service of a table, in reach order.
+abbrev pub served : List Reach → List Reach
+served t = keep (λ r. inService (r .state)) t
+
+-- The network of the reaches in service: its shut reaches are dropped, and the others have new numbers.
+abbrev pub servedNet : Network → Network
+servedNet N = net (N .basins) (served (N .reaches))
+
+-- The new number of reach i: how many reaches before it are in service.
+abbrev pub servedNumber : Network → ℕ → ℕ
+servedNumber N i = length (served (take i (N .reaches)))
+
+-- A reply with its reach, if it has one, at its new number.
+abbrev pub renumbered : Network → Outcome → Outcome
+renumbered N (plan s) = plan s
+renumbered N (shutIn m c) = shutIn m c
+renumbered N (lone i m c) = lone (servedNumber N i) m c
+renumbered N (refused r) = refused r
