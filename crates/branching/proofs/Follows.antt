@@ -68,10 +68,10 @@ module _ (n : ℕ) (ks xs ys : List ℕ) (ea : length xs ≡ length ks) (eb : le
     byte : getD us i 0 ≡ getD us i 3
     byte = getD-any us i 0 3 (omega (arith, under-length))
 
-    byte-small : isGated ((reachAt N i) .kind) ≡ true → getD us i 0 ≤ 1
+    byte-small : isGated ((reachAt N i) .state) ≡ true → getD us i 0 ≤ 1
     byte-small g = omega (arith, byte, byte-under N (u .setting) us (u .is) (u .fits) i below g)
 
-    module _ (str : StronglyConnected N (upTo N us i)) (g : isGated ((reachAt N i) .kind) ≡ true) where
+    module _ (str : StronglyConnected N (upTo N us i)) (g : isGated ((reachAt N i) .state) ≡ true) where
       either : StronglyConnected N (set (upTo N us i) i 2)
       either = subst⁻¹ (λ (v : List ℕ). StronglyConnected N v) (up-either N (u .setting) us (u .is) i below g) str
 

@@ -26,6 +26,6 @@ pub data Followed (N : Network) (us : List ℕ) : List ℕ → ℕ → Type 0 wh
 
 -- The last gate below `to` at which one can part, now turned, with the gates after it usable either way; or the number of reaches if there is none.
 pub data TurnedBack (N : Network) (us : List ℕ) (to : ℕ) : List ℕ → ℕ → Type 0 where
-  turned-at : {ws : List ℕ} {r : ℕ} → r < to → isGated ((reachAt N r) .kind) ≡ true → getD us r 3 ≡ 0 → ws ≡ set (upTo N us r) r 1 → StronglyConnected N ws
+  turned-at : {ws : List ℕ} {r : ℕ} → r < to → isGated ((reachAt N r) .state) ≡ true → getD us r 3 ≡ 0 → ws ≡ set (upTo N us r) r 1 → StronglyConnected N ws
       → ((j : ℕ) → r < j → j < to → NoPart N us j) → TurnedBack N us to ws r
   nowhere : {ws : List ℕ} {r : ℕ} → r ≡ length (N .reaches) → ((j : ℕ) → j < to → NoPart N us j) → TurnedBack N us to ws r

@@ -6,7 +6,7 @@ use mathlib.Core.Bool.{Bool, true, false}
 use mathlib.Core.List.{List}
 use lib.ListN.{getD, set}
 use lib.Seq.{set-set}
-use Rattle.network.specs.Tables.{kindOf}
+use Rattle.network.specs.Tables.{stateOf}
 use Rattle.network.specs.Settings.{isGated}
 use Rattle.network.specs.Orientations.{reached}
 use Rattle.network.specs.Marks.{bit}
@@ -16,7 +16,7 @@ use Rattle.orienting.specs.Tries.{Tried}
 use Rattle.orienting.proofs.Readies.{tried-same, tried-rest, tried-led, tried-lost}
 use Rattle.deciding.specs.Gates.{OrientedGate, drawn, turned, neither, Settled, as-drawn, as-turned}
 
-module _ (ks : List ℕ) {xs ys : List ℕ} (ws : List ℕ) (i : ℕ) (g : isGated (kindOf (getD ks i 0)) ≡ true) {ws₁ : List ℕ} {r₁ : Bool} (t : Tried xs ys ws i 0 ws₁ r₁) where
+module _ (ks : List ℕ) {xs ys : List ℕ} (ws : List ℕ) (i : ℕ) (g : isGated (stateOf (getD ks i 0)) ≡ true) {ws₁ : List ℕ} {r₁ : Bool} (t : Tried xs ys ws i 0 ws₁ r₁) where
   -- the first try succeeded
   pub gate-drawn : {n : ℕ} {seen : List ℕ} → r₁ ≡ true → OrientedGate n ks xs ys ws i ws₁ seen true
   gate-drawn y = let d = tried-led xs ys ws i t y in drawn g (d .0) (d .1) refl

@@ -19,7 +19,7 @@ use Rattle.network.proofs.Order.{first-none}
 use Rattle.network.proofs.Replies as R
 use Rattle.file_records.specs.Records.{Front, broken, whole, bodyOf, withBody, takeRecord, endKind}
 use lib.Pow.{areBytes}
-use Rattle.netfile_format.specs.Files.{Reading, refused, read, headDue, reachDue, onRecord, atEnd, recordReach, withReach, inside, readReaches, readFile}
+use Rattle.netfile_format.specs.Files.{Reading, refused, read, headDue, reachDue, onRecord, atEnd, goodInner, recordReach, withReach, inside, readReaches, readFile}
 use Rattle.netfile_format.proofs.Files.{write-read}
 use Rattle.lines.specs.Listings.{maxBytes, maxPlans, refusalLine, replyLines, readingLines, listing}
 use Rattle.listing.specs.Laws.{Printed, one-line, plans}
@@ -65,7 +65,7 @@ reach-fair r fair-read = fair-read
 
 inside-fair : (n : ℕ) (g : Reach → List ℕ → Reading) → ((r : Reach) (rest : List ℕ) → Fair (g r rest)) → (f : List ℕ) → Fair (inside n g f)
 inside-fair n g h f =
-    record-fair (front-fair reachDue f) (λ k body rest. pick Fair (eqb k endKind) (end-fair n rest) (h (recordReach k body) rest))
+    record-fair (front-fair reachDue f) (λ k body rest. pick Fair (eqb k endKind) (end-fair n rest) (pick Fair (goodInner k body) (h (recordReach k body) rest) (fair-refused refl)))
 
 reaches-fair : (n left : ℕ) (f : List ℕ) → Fair (readReaches n left f)
 unfolding readReaches

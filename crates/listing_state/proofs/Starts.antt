@@ -14,7 +14,7 @@ use mathlib.Mathlib.Data.Bool.Basic.{and-elim-left, and-elim-right, and-intro}
 use Rattle.network.specs.declared.Reach.{Reach}
 use Rattle.network.specs.declared.Refusal.{Refusal}
 use Rattle.network.specs.Networks.{maxReaches, Accepted}
-use Rattle.network.specs.Tables.{kindNumber, tableOf}
+use Rattle.network.specs.Tables.{stateNumber, tableOf}
 use Rattle.network.specs.Replies.{refusalNumber}
 use Rattle.network.proofs.Networks.{accepted}
 use Rattle.tables.specs.Rows.{netOf}
@@ -67,7 +67,7 @@ module _ (file kinds a b kinds′ a′ b′ : List ℕ) where
     same-table : tableOf (take m kinds′) (take m a′) (take m b′) ≡ t
     same-table =
         rw (
-          row-front (λ r. kindNumber (r .kind)) kinds kinds′ (rows .kind-row),
+          row-front (λ r. stateNumber (r .state)) kinds kinds′ (rows .kind-row),
           row-front (λ r. r .a) a a′ (rows .a-row),
           row-front (λ r. r .b) b b′ (rows .b-row),
         )

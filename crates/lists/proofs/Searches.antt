@@ -9,12 +9,13 @@ use mathlib.Core.Option.{none, some, Option·some-injective, Option·none-ne-som
 use native.Mathlib.Nat.{not-suc-le-zero, le-of-suc-le-suc}
 use native.Mathlib.Omega.{arith}
 use mathlib.Mathlib.Data.Bool.Basic.{and-elim-left, and-elim-right, and-intro, or-inl, or-inr, bool-eq-false}
-use lib.ListN.{length, getD, drop, drop-of-length-le, length-append}
+use lib.ListN.{length, getD, take, drop, drop-of-length-le, length-append, length-take}
+use lib.Seq.{split-at, take-take, getD-take, getD-append-seam}
 use lib.Dec.{eqb}
 use borrow.Author.Tests.{eqb-true, eqb-false, eq-eqb}
 use Rattle.lists.specs.Lists.{range, every, some?, find, keep, elem}
 use Rattle.lists.proofs.Bools.{decide, clash, same-test}
-use Rattle.lists.proofs.Lists.{drop-one}
+use Rattle.lists.proofs.Lists.{drop-one, length-cond, length-cond-le}
 
 module _ {A : Type 0} (p : A → Bool) where
   -- every: what holds of each member, and the other way round
@@ -186,6 +187,53 @@ find-lowest p i (suc n) k l m y f =
     let n′ : k ≡ i → ⊥ = eqb-false k i other in
     find-no p (range (suc i) n) (f i (omega arith) (omega arith)) ∙ find-lowest p (suc i) n k (omega arith) (omega arith) y (λ j a b. f j (omega arith) b))
     (decide (eqb k i))
+
+-- ---- places among the kept
+
+module _ {A : Type 0} (p : A → Bool) where
+  -- no more are kept than there are
+  pub length-keep : (l : List A) → length (keep p l) ≤ length l
+  length-keep [] = omega arith
+  length-keep (x ∷ l) = length-cond-le (p x) x (keep p l) (length l) (length-keep l)
+
+  -- a member that is kept has the place that says how many before it are kept
+  module _ (l : List A) (i : ℕ) (d : A) (h : i < length l) (e : p (getD l i d) ≡ true) where
+    keep-split : keep p l ≡ keep p (take i l) ++ getD l i d ∷ keep p (drop (suc i) l)
+    keep-split = ap (keep p) (split-at l i d h) ∙ keep-append p (take i l) (getD l i d ∷ drop (suc i) l) ∙ rw e
+
+    pub kept-at : getD (keep p l) (length (keep p (take i l))) d ≡ getD l i d
+    kept-at = ap (λ (m : List A). getD m (length (keep p (take i l))) d) keep-split ∙ getD-append-seam (keep p (take i l)) (getD l i d) _ d
+
+    pub kept-below : length (keep p (take i l)) < length (keep p l)
+    kept-below = omega (arith, ap length keep-split, length-append (keep p (take i l)) (getD l i d ∷ keep p (drop (suc i) l)))
+
+  -- these places rise
+  pub kept-rises : (l : List A) (i j : ℕ) (d : A) → i < length l → p (getD l i d) ≡ true → i < j → length (keep p (take i l)) < length (keep p (take j l))
+  kept-rises l i j d h e k =
+      rw (take-take i j l (omega arith)) at (kept-below (take j l) i d (omega (arith, length-take j l)) (rw (getD-take j l i d k) e))
+
+  -- and each place among the kept is that of a member
+  pub record KeptFrom (l : List A) (d : A) (k : ℕ) : Type 0 where
+    pub from : ℕ
+    pub below : from < length l
+    pub passes : p (getD l from d) ≡ true
+    pub place : length (keep p (take from l)) ≡ k
+
+  kept-after : (x : A) (l : List A) (d : A) (k : ℕ) → KeptFrom l d k → KeptFrom (x ∷ l) d (cond (p x) (suc k) k)
+  kept-after x l d k r = record { from = suc (r .from); below = omega (arith, r .below); passes = r .passes; place = length-cond (p x) x (keep p (take (r .from) l)) (r .place) }
+
+  pub kept-from : (l : List A) (d : A) (k : ℕ) → k < length (keep p l) → KeptFrom l d k
+  kept-from [] d k h = absurd (not-suc-le-zero h)
+  kept-from (x ∷ l) d zero h =
+      ⊎-elim
+      (λ e. record { from = 0; below = omega arith; passes = e; place = refl })
+      (λ e. rw e at (kept-after x l d 0 (kept-from l d 0 (rw e at h))))
+      (decide (p x))
+  kept-from (x ∷ l) d (suc k) h =
+      ⊎-elim
+      (λ e. rw e at (kept-after x l d k (kept-from l d k (le-of-suc-le-suc (rw e at h)))))
+      (λ e. rw e at (kept-after x l d (suc k) (kept-from l d (suc k) (rw e at h))))
+      (decide (p x))
 
 -- ---- a loop that tests one member after the other
 

@@ -55,6 +55,14 @@ side-basins (x ∷ bs) S m b mb =
 
 -- ---- crossing
 
+-- a reach that is shut, or has its ends on one side, does not cross
+pub uncrossed : (S : ℕ → Bool) (r : Reach) → (inService (r .state) ≡ true → S (r .a) ≡ S (r .b)) → crossesBy S r ≡ false
+uncrossed S r f = go (inService (r .state)) refl
+  where
+    go : (x : Bool) → inService (r .state) ≡ x → x && not (Bool·beq (S (r .a)) (S (r .b))) ≡ false
+    go true e = ap not (beq-make _ _ (f e))
+    go false e = refl
+
 -- a reach that crosses has its ends on both sides
 pub crossing-ends : (S : ℕ → Bool) (r : Reach) → crossesBy S r ≡ true → not (Bool·beq (S (r .a)) (S (r .b))) ≡ true
 crossing-ends S r e = and-elim-right (inService (r .state)) _ e
@@ -62,13 +70,6 @@ crossing-ends S r e = and-elim-right (inService (r .state)) _ e
 -- a reach in service that does not cross has them on one
 pub uncrossed-ends : (S : ℕ → Bool) (r : Reach) → crossesBy S r ≡ false → inService (r .state) ≡ true → S (r .a) ≡ S (r .b)
 uncrossed-ends S r e serves = beq-true (S (r .a)) (S (r .b)) (not-false _ (rw serves at e))
-
-pub uncrossed : (S : ℕ → Bool) (r : Reach) → (inService (r .state) ≡ true → S (r .a) ≡ S (r .b)) → crossesBy S r ≡ false
-uncrossed S r f = go (inService (r .state)) refl
-  where
-    go : (x : Bool) → inService (r .state) ≡ x → x && not (Bool·beq (S (r .a)) (S (r .b))) ≡ false
-    go true e = ap not (beq-make _ _ (f e))
-    go false e = refl
 
 -- tests that agree on both ends are crossed alike
 crossed-same : (S S′ : ℕ → Bool) (r : Reach) → S′ (r .a) ≡ S (r .a) → S′ (r .b) ≡ S (r .b) → crossesBy S′ r ≡ crossesBy S r

@@ -11,3 +11,4 @@ pub mod Replies
 pub mod Certificates
 pub mod Marks
 pub mod Order
+pub mod Services

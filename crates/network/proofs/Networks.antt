@@ -42,17 +42,22 @@ passed : (b : Bool) (r : Refusal) (rest : Option Refusal) → cond (not b) (some
 passed true r rest e = (refl, e)
 passed false r rest e = absurd (Option·some-ne-none r e)
 
-pub accepted : (N : Network) → Accepted N → Facts N
+-- the three tests of an accepted network pass
+pub tests-passed : (N : Network) → Accepted N → (goodCount N ≡ true) × (goodLength N ≡ true) × (goodEnds N ≡ true)
 unfolding tableFault
-accepted N e =
+tests-passed N e =
     let one = passed (goodCount N) BasinCount _ e in
     let two = passed (goodLength N) TooManyReaches _ (one .1) in
-    let three = passed (goodEnds N) EndOutOfRange none (two .1) in
-    let ends : (i : ℕ) → i < length (N .reaches) → endsBelow (N .basins) (reachAt N i) ≡ true = λ i l. every-getD (endsBelow (N .basins)) (N .reaches) i noReach (three .0) l in
+    (one .0, two .0, (passed (goodEnds N) EndOutOfRange none (two .1)) .0)
+
+pub accepted : (N : Network) → Accepted N → Facts N
+accepted N e =
+    let good = tests-passed N e in
+    let ends : (i : ℕ) → i < length (N .reaches) → endsBelow (N .basins) (reachAt N i) ≡ true = λ i l. every-getD (endsBelow (N .basins)) (N .reaches) i noReach (good .2) l in
     record {
-      some-basin = leb-true 1 (N .basins) (and-elim-left (leb 1 (N .basins)) _ (one .0));
-      few-basins = leb-true (N .basins) maxBasins (and-elim-right (leb 1 (N .basins)) _ (one .0));
-      few-reaches = leb-true (length (N .reaches)) maxReaches (two .0);
+      some-basin = leb-true 1 (N .basins) (and-elim-left (leb 1 (N .basins)) _ (good .0));
+      few-basins = leb-true (N .basins) maxBasins (and-elim-right (leb 1 (N .basins)) _ (good .0));
+      few-reaches = leb-true (length (N .reaches)) maxReaches (good .1);
       end-a = λ i l. ltb-true ((reachAt N i) .a) (N .basins) (and-elim-left (ltb ((reachAt N i) .a) (N .basins)) _ (ends i l));
       end-b = λ i l. ltb-true ((reachAt N i) .b) (N .basins) (and-elim-right (ltb ((reachAt N i) .a) (N .basins)) _ (ends i l));
     }
@@ -68,7 +73,7 @@ not-gated (suc (suc (suc zero))) n = refl
 not-gated (suc (suc (suc (suc zero)))) n = refl
 not-gated (suc (suc (suc (suc (suc k))))) n = refl
 
--- 3, 4 and a number that is none of 0 to 4 are shut
+-- the numbers from 5 on are shut two-way reaches
 pub state-other : (k : ℕ) → 5 ≤ k → Shut TwoWay ≡ stateOf k
 state-other zero l = absurd (omega arith)
 state-other (suc zero) l = absurd (omega arith)
@@ -77,6 +82,7 @@ state-other (suc (suc (suc zero))) l = absurd (omega arith)
 state-other (suc (suc (suc (suc zero)))) l = absurd (omega arith)
 state-other (suc (suc (suc (suc (suc k))))) l = refl
 
+-- those from 3 on are shut
 pub state-shut : (k : ℕ) → 3 ≤ k → inService (stateOf k) ≡ false
 state-shut zero l = absurd (omega arith)
 state-shut (suc zero) l = absurd (omega arith)

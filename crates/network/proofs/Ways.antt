@@ -180,11 +180,18 @@ rank-of o (r ∷ t) zero l e = rank-here (r .state) (r .a) (r .b) o t e
 rank-of o (r ∷ t) (suc i) l e = rank-step (r .state) (r .a) (r .b) o t i (rank-of (suc o) t i (le-of-suc-le-suc l) e)
 
 -- a reach that is no gate has the way of its state, whatever the partial orientation
-plain-here : (d : State) (h : List ℕ) → isGated d ≡ false → way d h ≡ way d []
+pub plain-here : (d : State) (h : List ℕ) → isGated d ≡ false → way d h ≡ way d []
 plain-here (InService Gated) h e = absurd (true≢false e)
 plain-here (InService Flap) h e = refl
 plain-here (InService TwoWay) h e = refl
 plain-here (Shut d) h e = refl
+
+-- and has no byte
+pub plain-after : (d : State) (h : List ℕ) → isGated d ≡ false → after d h ≡ h
+plain-after (InService Gated) h e = absurd (true≢false e)
+plain-after (InService Flap) h e = refl
+plain-after (InService TwoWay) h e = refl
+plain-after (Shut d) h e = refl
 
 pub plain-way : (t : List Reach) (h : List ℕ) (i : ℕ) → i < length t → isGated ((getD t i noReach) .state) ≡ false → getD (ways t h) i 3 ≡ way ((getD t i noReach) .state) []
 plain-way [] h i l e = absurd (not-suc-le-zero l)

@@ -13,7 +13,7 @@ use lib.Dec.{eqb}
 use Rattle.network.proofs.Marks.{bit-is}
 use mathlib.Mathlib.Data.Bool.Basic.{bool-eq-false}
 use Rattle.lists.specs.Lists.{keep}
-use Rattle.network.specs.Networks.{Network, basinsOf, Accepted}
+use Rattle.network.specs.Networks.{Network, inService, basinsOf, Accepted}
 use Rattle.network.specs.Settings.{isGated}
 use Rattle.network.specs.Orientations.{way, arcs, reached}
 use Rattle.network.specs.Plans.{stronglyConnected}
@@ -21,7 +21,7 @@ use Rattle.network.specs.Bridges.{reachAt, crossesAlone, isBridge}
 use Rattle.network.specs.Marks.{bit}
 use Rattle.lists.proofs.Bools.{decide, clash}
 use Rattle.lists.proofs.Searches.{keep-same}
-use Rattle.network.proofs.Ways.{plain-small}
+use Rattle.network.proofs.Ways.{plain-small, gated-served, shut-plain, shut-way, ShutOut}
 use Rattle.network.proofs.Networks.{basin-below}
 use Rattle.network.proofs.Bridges.{Alone, alone-rest, alone-same, cut-of, bridge-gated, bridge-parts}
 use Rattle.network.proofs.Steps.{orient-drawn, orient-turned, stuck-alone, stuck-other, stuck-bridge}
@@ -45,19 +45,22 @@ module _ (N : Network) (ok : Accepted N) (ws : List ℕ) (i : ℕ) (below : i < 
 
   -- ---- a reach that is no gate
 
-  plain-decided : isGated ((reachAt N i) .kind) ≡ false → Decided N ws (suc i)
+  plain-decided : isGated ((reachAt N i) .state) ≡ false → Decided N ws (suc i)
   plain-decided n j l g = go (ℕ-discrete j i)
     where
       go : Dec (j ≡ i) → getD ws j 3 ≤ 1
-      go (yes e) = clash (subst (λ (k : ℕ). isGated ((reachAt N k) .kind) ≡ true) e g) n
+      go (yes e) = clash (subst (λ (k : ℕ). isGated ((reachAt N k) .state) ≡ true) e g) n
       go (no m) = b .decided j (omega arith) g
 
-  begun-plain : isGated ((reachAt N i) .kind) ≡ false → Begun N ws (suc i)
+  begun-plain : isGated ((reachAt N i) .state) ≡ false → Begun N ws (suc i)
   begun-plain n = record { full = b .full; shaped = b .shaped; decided = plain-decided n; undecided = λ j l. b .undecided j (omega arith); connected = b .connected }
 
   -- ---- a gate
 
-  module _ (g : isGated ((reachAt N i) .kind) ≡ true) where
+  module _ (g : isGated ((reachAt N i) .state) ≡ true) where
+    serves : inService ((reachAt N i) .state) ≡ true
+    serves = gated-served ((reachAt N i) .state) g
+
     free : getD ws i 3 ≡ 2
     free = b .undecided i (omega arith) below g
 
@@ -71,8 +74,8 @@ module _ (N : Network) (ok : Accepted N) (ws : List ℕ) (i : ℕ) (below : i < 
         shaped : Shaped (N .reaches) (set ws i x)
         shaped j l n = go (ℕ-discrete j i)
           where
-            go : Dec (j ≡ i) → getD (set ws i x) j 3 ≡ way ((reachAt N j) .kind) []
-            go (yes e) = clash g (subst (λ (k : ℕ). isGated ((reachAt N k) .kind) ≡ false) e n)
+            go : Dec (j ≡ i) → getD (set ws i x) j 3 ≡ way ((reachAt N j) .state) []
+            go (yes e) = clash g (subst (λ (k : ℕ). isGated ((reachAt N k) .state) ≡ false) e n)
             go (no m) = getD-set-other ws i j x 3 m ∙ b .shaped j l n
 
         decided : Decided N (set ws i x) (suc i)
@@ -87,16 +90,21 @@ module _ (N : Network) (ok : Accepted N) (ws : List ℕ) (i : ℕ) (below : i < 
 
     -- oriented without loss, it is no bridge
     not-bridge : (x : ℕ) → x ≤ 1 → stronglyConnected (basinsOf N) (arcs (N .reaches) (set ws i x)) ≡ true → isBridge N i ≡ false
-    not-bridge x small str = bool-eq-false {b = isBridge N i} (λ e. bridge-parts N i e (set ws i x) (rw (getD-set-same ws i x 3 room) small) str)
-
-    -- the ways of all reaches are 0, 1 or 2
-    all-small : (j : ℕ) → j < length (N .reaches) → getD ws j 3 ≤ 2
-    all-small j l = ⊎-elim gated plain (decide (isGated ((reachAt N j) .kind)))
+    not-bridge x small str = bool-eq-false {b = isBridge N i} (λ e. bridge-parts N i e (set ws i x) out (rw (getD-set-same ws i x 3 room) small) str)
       where
-        plain : isGated ((reachAt N j) .kind) ≡ false → getD ws j 3 ≤ 2
-        plain n = rw (b .shaped j l n) (plain-small ((reachAt N j) .kind) n)
+        out : ShutOut (N .reaches) (set ws i x)
+        out j l e =
+            let n = shut-plain ((reachAt N j) .state) e in
+            begun-oriented x small str .shaped j l n ∙ shut-way ((reachAt N j) .state) e
 
-        gated : isGated ((reachAt N j) .kind) ≡ true → getD ws j 3 ≤ 2
+    -- the ways of all reaches in service are 0, 1 or 2
+    all-small : (j : ℕ) → j < length (N .reaches) → inService ((reachAt N j) .state) ≡ true → getD ws j 3 ≤ 2
+    all-small j l s = ⊎-elim gated plain (decide (isGated ((reachAt N j) .state)))
+      where
+        plain : isGated ((reachAt N j) .state) ≡ false → getD ws j 3 ≤ 2
+        plain n = rw (b .shaped j l n) (plain-small ((reachAt N j) .state) n s)
+
+        gated : isGated ((reachAt N j) .state) ≡ true → getD ws j 3 ≤ 2
         gated y = go (decLt j i)
           where
             go : Dec (j < i) → getD ws j 3 ≤ 2
@@ -108,8 +116,8 @@ module _ (N : Network) (ok : Accepted N) (ws : List ℕ) (i : ℕ) (below : i < 
       alone-on : Alone N (reached (arcs (N .reaches) (set ws i 3)) ((reachAt N i) .a)) i
       alone-on =
           alone-same N ok (λ v. not (reached (arcs (N .reaches) (set ws i 3)) ((reachAt N i) .b) v)) (reached (arcs (N .reaches) (set ws i 3)) ((reachAt N i) .a)) i below
-          (stuck-other N ok ws i below (b .full) all-small either ba ab)
-          (alone-rest N (reached (arcs (N .reaches) (set ws i 3)) ((reachAt N i) .b)) i (stuck-alone N ok ws i below (b .full) all-small either ba ab))
+          (stuck-other N ok ws i below (b .full) serves all-small either ba ab)
+          (alone-rest N (reached (arcs (N .reaches) (set ws i 3)) ((reachAt N i) .b)) i (stuck-alone N ok ws i below (b .full) serves all-small either ba ab))
 
       pub bridge-cut : (seen : List ℕ) → ((v : ℕ) → v < N .basins → getD seen v 0 ≡ bit (reached (arcs (N .reaches) (set ws i 3)) ((reachAt N i) .a) v)) → crossesAlone N (keep (λ v. eqb (getD seen v 0) 1) (basinsOf N)) i ≡ true
       bridge-cut seen noted =
@@ -119,7 +127,7 @@ module _ (N : Network) (ok : Accepted N) (ws : List ℕ) (i : ℕ) (below : i < 
           ((cut-of N ok i below (reached (arcs (N .reaches) (set ws i 3)) ((reachAt N i) .a)) alone-on) .alone)
 
       pub is-bridge : isBridge N i ≡ true
-      is-bridge = stuck-bridge N ok ws i below (b .full) all-small either ba ab g
+      is-bridge = stuck-bridge N ok ws i below (b .full) serves all-small either ba ab g
 
 -- ---- one step of the loop
 
@@ -131,13 +139,13 @@ module _ (N : Network) (ok : Accepted N) (ws₀ : List ℕ) (from : ℕ) (ws : L
       go (yes e) = rw e n
       go (no m) = w .clear j l (omega arith)
 
-  plain-not-bridge : isGated ((reachAt N i) .kind) ≡ false → isBridge N i ≡ false
+  plain-not-bridge : isGated ((reachAt N i) .state) ≡ false → isBridge N i ≡ false
   plain-not-bridge n = bool-eq-false {b = isBridge N i} (λ e. clash (bridge-gated N i e) n)
 
-  pub going-plain : isGated ((reachAt N i) .kind) ≡ false → Going N ws₀ from ws (suc i)
+  pub going-plain : isGated ((reachAt N i) .state) ≡ false → Going N ws₀ from ws (suc i)
   going-plain n = record { begun = begun-plain N ok ws i below (w .begun) n; onward = w .onward; clear = clear-more (plain-not-bridge n) }
 
-  module _ (g : isGated ((reachAt N i) .kind) ≡ true) where
+  module _ (g : isGated ((reachAt N i) .state) ≡ true) where
     as-drawn : stronglyConnected (basinsOf N) (arcs (N .reaches) (set ws i 0)) ≡ reached (arcs (N .reaches) (set ws i 3)) ((reachAt N i) .b) ((reachAt N i) .a)
     as-drawn = orient-drawn N ok ws i below (w .begun .full) (either N ok ws i below (w .begun) g)
 

@@ -14,8 +14,9 @@ use lib.Seq.{getD-set-same, getD-set-other, ext-getD}
 use lib.Dec.{leb, ltb, eqb}
 use borrow.Author.Tests.{le-leb, lt-ltb, le-ltb, eq-eqb, ne-eqb}
 use mathlib.Mathlib.Data.Bool.Basic.{and-intro, or-inl, or-inr}
-use Rattle.network.specs.declared.Kind.{Kind}
 use Rattle.network.specs.declared.Kind.the-variants.{Gated, Flap, TwoWay}
+use Rattle.network.specs.declared.State.{State}
+use Rattle.network.specs.declared.State.the-variants.{InService, Shut}
 use Rattle.network.specs.declared.Reach.{Reach}
 use Rattle.lists.specs.Lists.{every}
 use Rattle.network.specs.Networks.{Network, basinsOf}
@@ -33,8 +34,8 @@ use Rattle.network.proofs.Theorem.{plan-reaches}
 use Rattle.orientations.specs.Least.{Fits, LeastPlan, Decided, Shaped}
 use Rattle.tables.specs.Bytes.{bytesOf}
 
-abbrev reachOf : Kind → ℕ → ℕ → Reach
-reachOf d a b = record { kind = d; a = a; b = b }
+abbrev reachOf : State → ℕ → ℕ → Reach
+reachOf d a b = record { state = d; a = a; b = b }
 
 -- ---- the order of settings is the order of the ways under them
 
@@ -44,16 +45,17 @@ same-head c xs ys = rw (le-ltb c c (omega arith), eq-eqb c c refl)
 pub ways-order : (o : ℕ) (t : List Reach) (p q : List ℕ) → length p ≡ length (gatesFrom o t) → length q ≡ length (gatesFrom o t) → before (ways t p) (ways t q) ≡ before p q
 ways-order o [] [] q e f = refl
 ways-order o [] (x ∷ p) q e f = absurd (omega arith)
-ways-order o (r ∷ t) p q e f = go (r .kind) (r .a) (r .b) p q e f (λ p′ q′ e′ f′. ways-order (suc o) t p′ q′ e′ f′)
+ways-order o (r ∷ t) p q e f = go (r .state) (r .a) (r .b) p q e f (λ p′ q′ e′ f′. ways-order (suc o) t p′ q′ e′ f′)
   where
-    go : (d : Kind) (a b : ℕ) (p q : List ℕ) → length p ≡ length (gatesFrom o (reachOf d a b ∷ t)) → length q ≡ length (gatesFrom o (reachOf d a b ∷ t)) →
+    go : (d : State) (a b : ℕ) (p q : List ℕ) → length p ≡ length (gatesFrom o (reachOf d a b ∷ t)) → length q ≡ length (gatesFrom o (reachOf d a b ∷ t)) →
         ((p′ q′ : List ℕ) → length p′ ≡ length (gatesFrom (suc o) t) → length q′ ≡ length (gatesFrom (suc o) t) → before (ways t p′) (ways t q′) ≡ before p′ q′) →
         before (ways (reachOf d a b ∷ t) p) (ways (reachOf d a b ∷ t) q) ≡ before p q
-    go Gated a b [] q e f rec = absurd (omega arith)
-    go Gated a b (x ∷ p) [] e f rec = absurd (omega arith)
-    go Gated a b (x ∷ p) (y ∷ q) e f rec = ap (λ (v : Bool). ltb x y || eqb x y && v) (rec p q (suc-inj e) (suc-inj f))
-    go Flap a b p q e f rec = rec p q e f
-    go TwoWay a b p q e f rec = rec p q e f
+    go (InService Gated) a b [] q e f rec = absurd (omega arith)
+    go (InService Gated) a b (x ∷ p) [] e f rec = absurd (omega arith)
+    go (InService Gated) a b (x ∷ p) (y ∷ q) e f rec = ap (λ (v : Bool). ltb x y || eqb x y && v) (rec p q (suc-inj e) (suc-inj f))
+    go (InService Flap) a b p q e f rec = rec p q e f
+    go (InService TwoWay) a b p q e f rec = rec p q e f
+    go (Shut k) a b p q e f rec = rec p q e f
 
 -- two lists that agree below i and differ there
 pub before-at : (xs ys : List ℕ) (i d : ℕ) → i < length xs → i < length ys → ((j : ℕ) → j < i → getD xs j d ≡ getD ys j d) → getD xs i d < getD ys i d → before xs ys ≡ true
@@ -146,7 +148,7 @@ module _ (N : Network) where
   -- ---- deciding one gate
 
   -- a reach that is no gate has one way under every setting
-  pub same-plain : (p q : List ℕ) (j : ℕ) → j < length t → isGated ((reachAt N j) .kind) ≡ false → getD (ways t p) j 3 ≡ getD (ways t q) j 3
+  pub same-plain : (p q : List ℕ) (j : ℕ) → j < length t → isGated ((reachAt N j) .state) ≡ false → getD (ways t p) j 3 ≡ getD (ways t q) j 3
   same-plain p q j l n = plain-way t p j l n ∙ sym (plain-way t q j l n)
 
   pub has-decided : (q ws : List ℕ) (j : ℕ) → j < length t → getD ws j 3 ≤ 1 → Fits N q ws → getD (ways t q) j 3 ≡ getD ws j 3
@@ -158,9 +160,9 @@ module _ (N : Network) where
       ⊎-elim
       (λ y. has-decided p ws j (omega arith) (d j l y) f ∙ sym (has-decided q ws j (omega arith) (d j l y) g))
       (λ n. same-plain p q j (omega arith) n)
-      (decide (isGated ((reachAt N j) .kind)))
+      (decide (isGated ((reachAt N j) .state)))
 
-  module _ (ws : List ℕ) (i : ℕ) (below : i < length t) (full : length ws ≡ length t) (gated : isGated ((reachAt N i) .kind) ≡ true) (free : getD ws i 3 ≡ 2) where
+  module _ (ws : List ℕ) (i : ℕ) (below : i < length t) (full : length ws ≡ length t) (gated : isGated ((reachAt N i) .state) ≡ true) (free : getD ws i 3 ≡ 2) where
     room : i < length ws
     room = omega (arith, full)
 
@@ -209,32 +211,35 @@ pub bytes-ways : (t : List Reach) (ws : List ℕ) → length ws ≡ length t →
 bytes-ways [] [] e f = refl
 bytes-ways [] (w ∷ ws) e f = absurd (omega arith)
 bytes-ways (r ∷ t) [] e f = absurd (omega arith)
-bytes-ways (r ∷ t) (w ∷ ws) e f = go (r .kind) (r .a) (r .b) (f 0 (omega arith)) (bytes-ways t ws (suc-inj e) (λ j l n. f (suc j) (omega arith) n))
+bytes-ways (r ∷ t) (w ∷ ws) e f = go (r .state) (r .a) (r .b) (f 0 (omega arith)) (bytes-ways t ws (suc-inj e) (λ j l n. f (suc j) (omega arith) n))
   where
-    go : (d : Kind) (a b : ℕ) → (isGated d ≡ false → w ≡ way d []) → ways t (bytesOf t ws) ≡ ws → ways (reachOf d a b ∷ t) (bytesOf (reachOf d a b ∷ t) (w ∷ ws)) ≡ w ∷ ws
-    go Gated a b g rec = ap (λ (l : List ℕ). w ∷ l) rec
-    go Flap a b g rec = rw (g refl) (ap (λ (l : List ℕ). 0 ∷ l) rec)
-    go TwoWay a b g rec = rw (g refl) (ap (λ (l : List ℕ). 2 ∷ l) rec)
+    go : (d : State) (a b : ℕ) → (isGated d ≡ false → w ≡ way d []) → ways t (bytesOf t ws) ≡ ws → ways (reachOf d a b ∷ t) (bytesOf (reachOf d a b ∷ t) (w ∷ ws)) ≡ w ∷ ws
+    go (InService Gated) a b g rec = ap (λ (l : List ℕ). w ∷ l) rec
+    go (InService Flap) a b g rec = rw (g refl) (ap (λ (l : List ℕ). 0 ∷ l) rec)
+    go (InService TwoWay) a b g rec = rw (g refl) (ap (λ (l : List ℕ). 2 ∷ l) rec)
+    go (Shut k) a b g rec = rw (g refl) (ap (λ (l : List ℕ). 3 ∷ l) rec)
 
 pub bytes-length : (o : ℕ) (t : List Reach) (ws : List ℕ) → length ws ≡ length t → length (bytesOf t ws) ≡ length (gatesFrom o t)
 bytes-length o [] ws e = refl
 bytes-length o (r ∷ t) [] e = absurd (omega arith)
-bytes-length o (r ∷ t) (w ∷ ws) e = go (r .kind) (r .a) (r .b) (bytes-length (suc o) t ws (suc-inj e))
+bytes-length o (r ∷ t) (w ∷ ws) e = go (r .state) (r .a) (r .b) (bytes-length (suc o) t ws (suc-inj e))
   where
-    go : (d : Kind) (a b : ℕ) → length (bytesOf t ws) ≡ length (gatesFrom (suc o) t) → length (bytesOf (reachOf d a b ∷ t) (w ∷ ws)) ≡ length (gatesFrom o (reachOf d a b ∷ t))
-    go Gated a b rec = ap suc rec
-    go Flap a b rec = rec
-    go TwoWay a b rec = rec
+    go : (d : State) (a b : ℕ) → length (bytesOf t ws) ≡ length (gatesFrom (suc o) t) → length (bytesOf (reachOf d a b ∷ t) (w ∷ ws)) ≡ length (gatesFrom o (reachOf d a b ∷ t))
+    go (InService Gated) a b rec = ap suc rec
+    go (InService Flap) a b rec = rec
+    go (InService TwoWay) a b rec = rec
+    go (Shut k) a b rec = rec
 
-pub bytes-small : (t : List Reach) (ws : List ℕ) → ((j : ℕ) → j < length t → isGated ((getD t j noReach) .kind) ≡ true → getD ws j 3 ≤ 1) → every (λ x. leb x 1) (bytesOf t ws) ≡ true
+pub bytes-small : (t : List Reach) (ws : List ℕ) → ((j : ℕ) → j < length t → isGated ((getD t j noReach) .state) ≡ true → getD ws j 3 ≤ 1) → every (λ x. leb x 1) (bytesOf t ws) ≡ true
 bytes-small [] ws f = refl
 bytes-small (r ∷ t) [] f = refl
-bytes-small (r ∷ t) (w ∷ ws) f = go (r .kind) (r .a) (r .b) (f 0 (omega arith)) (bytes-small t ws (λ j l g. f (suc j) (omega arith) g))
+bytes-small (r ∷ t) (w ∷ ws) f = go (r .state) (r .a) (r .b) (f 0 (omega arith)) (bytes-small t ws (λ j l g. f (suc j) (omega arith) g))
   where
-    go : (d : Kind) (a b : ℕ) → (isGated d ≡ true → w ≤ 1) → every (λ x. leb x 1) (bytesOf t ws) ≡ true → every (λ x. leb x 1) (bytesOf (reachOf d a b ∷ t) (w ∷ ws)) ≡ true
-    go Gated a b g rec = and-intro (le-leb w 1 (g refl)) rec
-    go Flap a b g rec = rec
-    go TwoWay a b g rec = rec
+    go : (d : State) (a b : ℕ) → (isGated d ≡ true → w ≤ 1) → every (λ x. leb x 1) (bytesOf t ws) ≡ true → every (λ x. leb x 1) (bytesOf (reachOf d a b ∷ t) (w ∷ ws)) ≡ true
+    go (InService Gated) a b g rec = and-intro (le-leb w 1 (g refl)) rec
+    go (InService Flap) a b g rec = rec
+    go (InService TwoWay) a b g rec = rec
+    go (Shut k) a b g rec = rec
 
 module _ (N : Network) where
   -- With all gates decided, and everything reaching everything, the bytes are the one plan that fits.
@@ -269,7 +274,7 @@ module _ (N : Network) where
   -- every setting fits the ways with no gate decided
   pub fits-unoriented : (q : List ℕ) → Fits N q (ways (N .reaches) [])
   fits-unoriented q j l =
-      ⊎-elim (λ y. inl ((gate-way (N .reaches) [] j l y) .byte)) (λ n. inr (same-plain N [] q j l n)) (decide (isGated ((reachAt N j) .kind)))
+      ⊎-elim (λ y. inl ((gate-way (N .reaches) [] j l y) .byte)) (λ n. inr (same-plain N [] q j l n)) (decide (isGated ((reachAt N j) .state)))
 
   pub least-first : (s : List ℕ) → LeastPlan N (ways (N .reaches) []) s → firstPlan N ≡ some s
   least-first s m = first-unique N s (m .is-plan) (λ q e. m .least q e (fits-unoriented q))

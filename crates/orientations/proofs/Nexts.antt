@@ -32,7 +32,7 @@ use Rattle.orientations.proofs.Least.{ways-order, before-at, before-up,
 -- ---- ways oriented as a setting has them up to a reach
 
 -- under a setting a gate has the way 0 or 1
-pub gate-byte : (N : Network) (s : List ℕ) → isSetting N s ≡ true → (j : ℕ) → j < length (N .reaches) → isGated ((reachAt N j) .kind) ≡ true → getD (ways (N .reaches) s) j 3 ≤ 1
+pub gate-byte : (N : Network) (s : List ℕ) → isSetting N s ≡ true → (j : ℕ) → j < length (N .reaches) → isGated ((reachAt N j) .state) ≡ true → getD (ways (N .reaches) s) j 3 ≤ 1
 unfolding isSetting
 gate-byte N s e j l g =
     gate-small (N .reaches) s j (eqb-true (length s) (gateCount N) (and-elim-left (eqb (length s) (gateCount N)) _ e)) (and-elim-right (eqb (length s) (gateCount N)) _ e) l g
@@ -57,7 +57,7 @@ module _ (N : Network) (s : List ℕ) where
   pub oriented-above : (i j : ℕ) → i ≤ length t → i ≤ j → getD (upTo N (ways t s) i) j 3 ≡ getD (ways t []) j 3
   oriented-above i j l k = getD-back (ways t s) (ways t []) i j 3 (omega (arith, length-ways t s)) k
 
-  pub oriented-gate : (i j : ℕ) → i ≤ length t → i ≤ j → j < length t → isGated ((reachAt N j) .kind) ≡ true → getD (upTo N (ways t s) i) j 3 ≡ 2
+  pub oriented-gate : (i j : ℕ) → i ≤ length t → i ≤ j → j < length t → isGated ((reachAt N j) .state) ≡ true → getD (upTo N (ways t s) i) j 3 ≡ 2
   oriented-gate i j l k jl g = oriented-above i j l k ∙ (gate-way t [] j jl g) .byte
 
   pub oriented-all : upTo N (ways t s) (length t) ≡ ways t s
@@ -70,7 +70,7 @@ module _ (N : Network) (s : List ℕ) where
   pub oriented-shaped : (i : ℕ) → i ≤ length t → Shaped t (upTo N (ways t s) i)
   oriented-shaped i l j jl n = go (decLt j i)
     where
-      go : Dec (j < i) → getD (upTo N (ways t s) i) j 3 ≡ way ((reachAt N j) .kind) []
+      go : Dec (j < i) → getD (upTo N (ways t s) i) j 3 ≡ way ((reachAt N j) .state) []
       go (yes k) = oriented-below i j l k ∙ plain-way t s j jl n
       go (no k) = oriented-above i j l (omega arith) ∙ plain-way t [] j jl n
 
@@ -105,7 +105,7 @@ module _ (N : Network) (s : List ℕ) where
           go (no n) (no k) = getD-set-other (upTo N (ways t s) (suc i)) i j x 3 n ∙ oriented-above (suc i) j l (omega arith) ∙ sym (oriented-above i j (omega arith) (omega arith))
 
   -- a reach that is no gate: nothing changes
-  pub oriented-plain : (i : ℕ) → i < length t → isGated ((reachAt N i) .kind) ≡ false → upTo N (ways t s) (suc i) ≡ upTo N (ways t s) i
+  pub oriented-plain : (i : ℕ) → i < length t → isGated ((reachAt N i) .state) ≡ false → upTo N (ways t s) (suc i) ≡ upTo N (ways t s) i
   oriented-plain i l n =
       sym (oriented-more i l)
       ∙ ap (λ (x : ℕ). set (upTo N (ways t s) i) i x) (plain-way t s i l n ∙ sym (oriented-shaped i (omega arith) i l n))
@@ -130,7 +130,7 @@ module _ (N : Network) (s : List ℕ) where
           ⊎-elim
           (λ y. inl (oriented-gate i j l (omega arith) jl y))
           (λ n. inr (oriented-above i j l (omega arith) ∙ same-plain N [] q j jl n))
-          (decide (isGated ((reachAt N j) .kind)))
+          (decide (isGated ((reachAt N j) .state)))
 
   module _ (fit : isSetting N s ≡ true) where
     order : (q : List ℕ) → isPlan N q ≡ true → before (ways t s) (ways t q) ≡ before s q
@@ -159,13 +159,13 @@ module _ (N : Network) (s : List ℕ) where
         go (yes same) = more q e later (alike-more q i f same)
         go (no n) = no-part q e f (parts q i l e later f n)
 
-    pub none-plain : (i : ℕ) → i < length t → NoneFrom N s (suc i) → isGated ((reachAt N i) .kind) ≡ false → NoneFrom N s i
+    pub none-plain : (i : ℕ) → i < length t → NoneFrom N s (suc i) → isGated ((reachAt N i) .state) ≡ false → NoneFrom N s i
     none-plain i l more n = none-from i l more (λ q e f up. omega (arith, same-plain N q s i l n))
 
-    pub none-turned : (i : ℕ) → i < length t → NoneFrom N s (suc i) → isGated ((reachAt N i) .kind) ≡ true → getD (ways t s) i 3 ≡ 1 → NoneFrom N s i
+    pub none-turned : (i : ℕ) → i < length t → NoneFrom N s (suc i) → isGated ((reachAt N i) .state) ≡ true → getD (ways t s) i 3 ≡ 1 → NoneFrom N s i
     none-turned i l more g one = none-from i l more (λ q e f up. omega (arith, plan-gate-small N q i e l g))
 
-    pub none-lost : (i : ℕ) → i < length t → NoneFrom N s (suc i) → isGated ((reachAt N i) .kind) ≡ true → stronglyConnected (basinsOf N) (arcs t (set (upTo N (ways t s) i) i 1)) ≡ false → NoneFrom N s i
+    pub none-lost : (i : ℕ) → i < length t → NoneFrom N s (suc i) → isGated ((reachAt N i) .state) ≡ true → stronglyConnected (basinsOf N) (arcs t (set (upTo N (ways t s) i) i 1)) ≡ false → NoneFrom N s i
     none-lost i l more g lost =
         none-from i l more
         (λ q e f up.
@@ -177,7 +177,7 @@ module _ (N : Network) (s : List ℕ) where
     none-stopped i l lost q e later f = clash (fits-strong N q (upTo N (ways t s) (suc i)) e (alike-fits q (suc i) l f)) lost
 
     -- The least plan that parts upwards at the last gate at which one can is the next plan.
-    pub least-next : (i : ℕ) → i < length t → NoneFrom N s (suc i) → isGated ((reachAt N i) .kind) ≡ true → getD (ways t s) i 3 ≡ 0 → (r : List ℕ) → LeastPlan N (set (upTo N (ways t s) i) i 1) r → nextPlan N s ≡ some r
+    pub least-next : (i : ℕ) → i < length t → NoneFrom N s (suc i) → isGated ((reachAt N i) .state) ≡ true → getD (ways t s) i 3 ≡ 0 → (r : List ℕ) → LeastPlan N (set (upTo N (ways t s) i) i 1) r → nextPlan N s ≡ some r
     least-next i l more g zero-at r m = next-unique N s r (m .is-plan) later earliest
       where
         room : i < length (upTo N (ways t s) i)
@@ -195,9 +195,9 @@ module _ (N : Network) (s : List ℕ) where
             (λ same. sym (oriented-below i j (omega arith) k) ∙ sym (getD-set-other (upTo N (ways t s) i) i j 1 3 (omega arith)) ∙ same)
             (m .fits j (omega arith)))
             (λ n. same-plain N s r j (omega arith) n)
-            (decide (isGated ((reachAt N j) .kind)))
+            (decide (isGated ((reachAt N j) .state)))
           where
-            setting-gate : (j : ℕ) → j < i → isGated ((reachAt N j) .kind) ≡ true → getD (ways t s) j 3 ≤ 1
+            setting-gate : (j : ℕ) → j < i → isGated ((reachAt N j) .state) ≡ true → getD (ways t s) j 3 ≤ 1
             setting-gate j k y = gate-byte N s fit j (omega arith) y
 
         later : before s r ≡ true

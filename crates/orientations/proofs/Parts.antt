@@ -59,7 +59,7 @@ module _ (N : Network) (s us : List ℕ) (is : us ≡ ways (N .reaches) s) where
   up-more i x l e = rw (sym e) (subst⁻¹ (λ (v : List ℕ). set (upTo N v i) i (getD v i 3) ≡ upTo N v (suc i)) is (oriented-more N s i l))
 
   -- a reach that is no gate: nothing changes
-  pub up-plain : (i : ℕ) → i < length (N .reaches) → isGated ((reachAt N i) .kind) ≡ false → upTo N us (suc i) ≡ upTo N us i
+  pub up-plain : (i : ℕ) → i < length (N .reaches) → isGated ((reachAt N i) .state) ≡ false → upTo N us (suc i) ≡ upTo N us i
   up-plain i l n = subst⁻¹ (λ (v : List ℕ). upTo N v (suc i) ≡ upTo N v i) is (oriented-plain N s i l n)
 
   -- whether reach i has its way yet does not matter once it is set
@@ -67,10 +67,10 @@ module _ (N : Network) (s us : List ℕ) (is : us ≡ ways (N .reaches) s) where
   up-again i x l = ap (λ (v : List ℕ). set v i x) (sym (up-more i (getD us i 3) l refl)) ∙ set-set (upTo N us i) i (getD us i 3) x
 
   -- a gate from i on is usable either way
-  pub up-free : (i : ℕ) → i < length (N .reaches) → isGated ((reachAt N i) .kind) ≡ true → getD (upTo N us i) i 3 ≡ 2
+  pub up-free : (i : ℕ) → i < length (N .reaches) → isGated ((reachAt N i) .state) ≡ true → getD (upTo N us i) i 3 ≡ 2
   up-free i l g = ap (λ (v : List ℕ). getD (upTo N v i) i 3) is ∙ oriented-gate N s i i (omega arith) (omega arith) l g
 
-  pub up-either : (i : ℕ) → i < length (N .reaches) → isGated ((reachAt N i) .kind) ≡ true → set (upTo N us i) i 2 ≡ upTo N us i
+  pub up-either : (i : ℕ) → i < length (N .reaches) → isGated ((reachAt N i) .state) ≡ true → set (upTo N us i) i 2 ≡ upTo N us i
   up-either i l g = ap (λ (x : ℕ). set (upTo N us i) i x) (sym (up-free i l g)) ∙ set-getD (upTo N us i) i 3
 
   -- with fewer gates oriented no less is reached
@@ -78,22 +78,22 @@ module _ (N : Network) (s us : List ℕ) (is : us ≡ ways (N .reaches) s) where
   connected-lower i j str k l = subst⁻¹ (λ (v : List ℕ). StronglyConnected N (upTo N v j)) is (looser-strong N (upTo N (ways (N .reaches) s) i) (upTo N (ways (N .reaches) s) j) at (subst (λ (v : List ℕ). StronglyConnected N (upTo N v i)) is str))
     where
       at : (m : ℕ) → m < length (N .reaches) → (getD (upTo N (ways (N .reaches) s) j) m 3 ≡ 2) ⊎ (getD (upTo N (ways (N .reaches) s) j) m 3 ≡ getD (upTo N (ways (N .reaches) s) i) m 3)
-      at m ml = go (decLt m j) (decide (isGated ((reachAt N m) .kind)))
+      at m ml = go (decLt m j) (decide (isGated ((reachAt N m) .state)))
         where
-          go : Dec (m < j) → (isGated ((reachAt N m) .kind) ≡ true) ⊎ (isGated ((reachAt N m) .kind) ≡ false) → (getD (upTo N (ways (N .reaches) s) j) m 3 ≡ 2) ⊎ (getD (upTo N (ways (N .reaches) s) j) m 3 ≡ getD (upTo N (ways (N .reaches) s) i) m 3)
+          go : Dec (m < j) → (isGated ((reachAt N m) .state) ≡ true) ⊎ (isGated ((reachAt N m) .state) ≡ false) → (getD (upTo N (ways (N .reaches) s) j) m 3 ≡ 2) ⊎ (getD (upTo N (ways (N .reaches) s) j) m 3 ≡ getD (upTo N (ways (N .reaches) s) i) m 3)
           go (yes y) d = inr (oriented-below N s j m (omega arith) y ∙ sym (oriented-below N s i m l (omega arith)))
           go (no n) (inl g) = inl (oriented-gate N s j m (omega arith) (omega arith) ml g)
           go (no n) (inr p) = inr (oriented-shaped N s j (omega arith) m ml p ∙ sym (oriented-shaped N s i l m ml p))
 
   module _ (fit : isSetting N s ≡ true) where
-    pub byte-under : (j : ℕ) → j < length (N .reaches) → isGated ((reachAt N j) .kind) ≡ true → getD us j 3 ≤ 1
+    pub byte-under : (j : ℕ) → j < length (N .reaches) → isGated ((reachAt N j) .state) ≡ true → getD us j 3 ≤ 1
     byte-under j l g = subst⁻¹ (λ (v : List ℕ). getD v j 3 ≤ 1) is (gate-byte N s fit j l g)
 
     -- one reach less, if no plan parts there
     none-step : (j : ℕ) → j < length (N .reaches) → NoPart N us j → NoneFrom N s (suc j) → NoneFrom N s j
-    none-step j l f more = ⊎-elim gated (none-plain N s fit j l more) (decide (isGated ((reachAt N j) .kind)))
+    none-step j l f more = ⊎-elim gated (none-plain N s fit j l more) (decide (isGated ((reachAt N j) .state)))
       where
-        gated : isGated ((reachAt N j) .kind) ≡ true → NoneFrom N s j
+        gated : isGated ((reachAt N j) .state) ≡ true → NoneFrom N s j
         gated g = go (ℕ-discrete (getD us j 3) 0)
           where
             go : Dec (getD us j 3 ≡ 0) → NoneFrom N s j
@@ -124,5 +124,5 @@ module _ (N : Network) (s us : List ℕ) (is : us ≡ ways (N .reaches) s) where
             }
 
     -- with the gate r turned, those after it can be decided
-    pub open-at : Accepted N → (r : ℕ) → r < length (N .reaches) → isGated ((reachAt N r) .kind) ≡ true → StronglyConnected N (set (upTo N us r) r 1) → Begun N (set (upTo N us r) r 1) (suc r)
+    pub open-at : Accepted N → (r : ℕ) → r < length (N .reaches) → isGated ((reachAt N r) .state) ≡ true → StronglyConnected N (set (upTo N us r) r 1) → Begun N (set (upTo N us r) r 1) (suc r)
     open-at ok r l g str = begun-oriented N ok (upTo N us r) r l (open-up r (omega arith) (connected-free N (upTo N us r) r 1 (up-free r l g) str)) g 1 (omega arith) str

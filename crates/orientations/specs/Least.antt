@@ -25,15 +25,15 @@ pub record LeastPlan (N : Network) (ws s : List ℕ) : Type 0 where
 
 -- The gates below i are decided.
 abbrev pub Decided : Network → List ℕ → ℕ → Type 0
-Decided N ws i = (j : ℕ) → j < i → isGated ((reachAt N j) .kind) ≡ true → getD ws j 3 ≤ 1
+Decided N ws i = (j : ℕ) → j < i → isGated ((reachAt N j) .state) ≡ true → getD ws j 3 ≤ 1
 
 -- The gates from i on are not.
 abbrev pub Open : Network → List ℕ → ℕ → Type 0
-Open N ws i = (j : ℕ) → i ≤ j → j < length (N .reaches) → isGated ((reachAt N j) .kind) ≡ true → getD ws j 3 ≡ 2
+Open N ws i = (j : ℕ) → i ≤ j → j < length (N .reaches) → isGated ((reachAt N j) .state) ≡ true → getD ws j 3 ≡ 2
 
--- The reaches that are no gates have the ways of their kinds.
+-- The reaches that are no gates have the ways of their states; a shut reach passes neither way.
 abbrev pub Shaped : List Reach → List ℕ → Type 0
-Shaped t ws = (j : ℕ) → j < length t → isGated ((getD t j noReach) .kind) ≡ false → getD ws j 3 ≡ way ((getD t j noReach) .kind) []
+Shaped t ws = (j : ℕ) → j < length t → isGated ((getD t j noReach) .state) ≡ false → getD ws j 3 ≡ way ((getD t j noReach) .state) []
 
 -- The setting q has the ways of s below i.
 abbrev pub Alike : Network → List ℕ → List ℕ → ℕ → Type 0

@@ -49,4 +49,4 @@ StronglyConnectedBelow N us to = (j : ℕ) → j < to → StronglyConnected N (u
 
 -- No plan parts from the setting upwards at reach j: it is no gate, or is turned already, or cannot be turned without loss.
 abbrev pub NoPart : Network → List ℕ → ℕ → Type 0
-NoPart N us j = isGated ((reachAt N j) .kind) ≡ true → getD us j 3 ≡ 0 → NotStronglyConnected N (set (upTo N us j) j 1)
+NoPart N us j = isGated ((reachAt N j) .state) ≡ true → getD us j 3 ≡ 0 → NotStronglyConnected N (set (upTo N us j) j 1)

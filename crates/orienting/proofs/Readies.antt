@@ -9,7 +9,7 @@ use lib.ListN.{length, getD, set}
 use lib.Seq.{set-set}
 use mathlib.Mathlib.Data.Bool.Basic.{bool-eq-false}
 use Rattle.lists.specs.Lists.{range}
-use Rattle.network.specs.Tables.{kindOf}
+use Rattle.network.specs.Tables.{stateOf}
 use Rattle.network.specs.Settings.{isGated}
 use Rattle.network.specs.Orientations.{Arc, reached}
 use Rattle.network.specs.Plans.{reachesAll}
@@ -73,7 +73,7 @@ tried-lost xs ys ws i (oriented p e q) y = clash q y
 tried-lost xs ys ws i (undecided p e q) y = (p, e)
 
 -- a reach is a gate exactly if its kind is 0
-pub kind-gate : (k : ℕ) → k ≡ 0 → isGated (kindOf k) ≡ true
+pub kind-gate : (k : ℕ) → k ≡ 0 → isGated (stateOf k) ≡ true
 kind-gate k e = rw e
 
 -- ---- all basins

@@ -6,14 +6,14 @@ use mathlib.Core.Path.{_≡_, ap, ap₂, _∙_}
 use mathlib.Core.Bool.{Bool}
 use mathlib.Core.List.{List}
 use lib.ListN.{length, getD, set}
-use Rattle.network.specs.Tables.{kindOf, tableOf}
+use Rattle.network.specs.Tables.{stateOf, tableOf}
 use Rattle.network.specs.Settings.{isGated}
 use Rattle.network.specs.Orientations.{arcs, reached}
 use Rattle.network.specs.Bridges.{reachAt}
 use Rattle.half_edges.specs.Ends.{arcsOf}
 use Rattle.half_edges.proofs.Laws.{arcs-ends}
 use Rattle.tables.specs.Rows.{netOf}
-use Rattle.tables.proofs.Laws.{row-length, row-kind, row-a, row-b, row-ends-a, row-ends-b}
+use Rattle.tables.proofs.Laws.{row-length, row-state, row-a, row-b, row-ends-a, row-ends-b}
 use Rattle.orienting.specs.Tries.{leftOut, ledRound}
 
 module _ (n : ℕ) (ks xs ys : List ℕ) (ea : length xs ≡ length ks) (eb : length ys ≡ length ks) where
@@ -30,5 +30,5 @@ module _ (n : ℕ) (ks xs ys : List ℕ) (ea : length xs ≡ length ks) (eb : le
   pub row-led-turned : (ws : List ℕ) (i : ℕ) → i < length ks → reached (arcs (tableOf ks xs ys) (set ws i 3)) ((reachAt (netOf n ks xs ys) i) .a) ((reachAt (netOf n ks xs ys) i) .b) ≡ ledRound (leftOut xs ys ws i) xs ys i 1
   row-led-turned ws i l = rw (row-arcs (set ws i 3), row-a ks xs ys ea eb i l, row-b ks xs ys ea eb i l)
 
-  pub row-gated : (i : ℕ) (b : Bool) → i < length ks → isGated (kindOf (getD ks i 0)) ≡ b → isGated ((reachAt (netOf n ks xs ys) i) .kind) ≡ b
-  row-gated i b l e = ap isGated (row-kind ks xs ys ea eb i l) ∙ e
+  pub row-gated : (i : ℕ) (b : Bool) → i < length ks → isGated (stateOf (getD ks i 0)) ≡ b → isGated ((reachAt (netOf n ks xs ys) i) .state) ≡ b
+  row-gated i b l e = ap isGated (row-state ks xs ys ea eb i l) ∙ e

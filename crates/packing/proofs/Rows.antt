@@ -17,16 +17,16 @@ use Rattle.lists.proofs.Lists.{map-more}
 use Rattle.lists.proofs.Ranges.{length-range, map-range-suc, put-suc}
 use Rattle.network.specs.declared.Reach.{Reach}
 use Rattle.lists.specs.Lists.{range}
-use Rattle.network.specs.Tables.{kindOf, tableOf}
+use Rattle.network.specs.Tables.{stateOf, tableOf}
 use Rattle.tables.proofs.Laws.{table-of-rows}
 use Rattle.packing.specs.declared.Packed.{Packed}
-use Rattle.packing.specs.Rows.{maxRows, front, heldOf, rowOf, reachKindNumber, packedOf, zeros, emptyOf, numbersOf, putAt, packedReach, storedOf, into, unpackedInto}
+use Rattle.packing.specs.Rows.{maxRows, front, heldOf, rowOf, reachStateNumber, packedOf, zeros, emptyOf, numbersOf, putAt, packedReach, storedOf, into, unpackedInto}
 use Rattle.network.specs.Bridges.{noReach}
 
 abbrev pub filled : List Reach → ℕ → Packed
 filled t i = record {
   n = heldOf (length t);
-  kinds = rowOf reachKindNumber (take i t);
+  kinds = rowOf reachStateNumber (take i t);
   a = rowOf (λ r. r .a) (take i t);
   b = rowOf (λ r. r .b) (take i t);
 }
@@ -36,7 +36,7 @@ unfolding rowOf zeros
 row-none f = refl
 
 pub filled-none : (t : List Reach) → filled t 0 ≡ emptyOf (heldOf (length t))
-filled-none t = rw (row-none reachKindNumber, row-none (λ r. r .a), row-none (λ r. r .b))
+filled-none t = rw (row-none reachStateNumber, row-none (λ r. r .a), row-none (λ r. r .b))
 
 -- One more reach goes into a row.
 row-put : (f : Reach → ℕ) (t : List Reach) (i : ℕ) → i < length t → i < maxRows
@@ -49,7 +49,7 @@ row-put f t i h l =
     rw (e, e′, d) (map-more f t i (maxRows - suc i) noReach 0 h)
 
 pub filled-more : (t : List Reach) (i : ℕ) → i < length t → i < maxRows → putAt (filled t i) i (numbersOf (getD t i noReach)) ≡ filled t (suc i)
-filled-more t i h l = rw (row-put reachKindNumber t i h l, row-put (λ r. r .a) t i h l, row-put (λ r. r .b) t i h l)
+filled-more t i h l = rw (row-put reachStateNumber t i h l, row-put (λ r. r .a) t i h l, row-put (λ r. r .b) t i h l)
 
 -- What the rows hold is the front of the table.
 front-length : (t : List Reach) → length (front t) ≡ heldOf (length t)
@@ -69,7 +69,7 @@ row-front f t = take-at (map f t) _ (length t) (length-map t f)
 
 pub unpacked : (t : List Reach) → tableOf (take (length (front t)) (packedOf t .kinds)) (take (length (front t)) (packedOf t .a)) (take (length (front t)) (packedOf t .b)) ≡ front t
 unfolding packedOf
-unpacked t = rw (row-front reachKindNumber (front t), row-front (λ r. r .a) (front t), row-front (λ r. r .b) (front t)) (table-of-rows (front t))
+unpacked t = rw (row-front reachStateNumber (front t), row-front (λ r. r .a) (front t), row-front (λ r. r .b) (front t)) (table-of-rows (front t))
 
 pub packed-count : (t : List Reach) → packedOf t .n ≡ length (front t)
 unfolding packedOf
@@ -97,13 +97,13 @@ into-all p t = refl
 
 -- The records that rows leave in a table are the table of the rows.
 reaches-of : (ks xs ys : List ℕ) (n : ℕ) → n ≤ length ks → n ≤ length xs → n ≤ length ys
-    → map (λ i. record { kind = kindOf (getD ks i 0); a = getD xs i 0; b = getD ys i 0 }) (range 0 n) ≡ tableOf (take n ks) (take n xs) (take n ys)
+    → map (λ i. record { state = stateOf (getD ks i 0); a = getD xs i 0; b = getD ys i 0 }) (range 0 n) ≡ tableOf (take n ks) (take n xs) (take n ys)
 reaches-of ks xs ys zero hk hx hy = refl
 reaches-of [] xs ys (suc n) hk hx hy = absurd (not-suc-le-zero hk)
 reaches-of (k ∷ ks) [] ys (suc n) hk hx hy = absurd (not-suc-le-zero hx)
 reaches-of (k ∷ ks) (x ∷ xs) [] (suc n) hk hx hy = absurd (not-suc-le-zero hy)
 reaches-of (k ∷ ks) (x ∷ xs) (y ∷ ys) (suc n) hk hx hy =
-    ap (λ rs. record { kind = kindOf k; a = x; b = y } ∷ rs)
+    ap (λ rs. record { state = stateOf k; a = x; b = y } ∷ rs)
     (map-range-suc _ 0 n ∙ reaches-of ks xs ys n (le-of-suc-le-suc hk) (le-of-suc-le-suc hx) (le-of-suc-le-suc hy))
 
 pub unpacked-into : (p : Packed) (t : List Reach) → p .n ≤ length t → p .n ≤ maxRows → p .n ≤ length (p .kinds) → p .n ≤ length (p .a) → p .n ≤ length (p .b)

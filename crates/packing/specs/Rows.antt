@@ -8,7 +8,7 @@ use lib.Dec.{leb}
 use Rattle.network.specs.declared.Reach.{Reach}
 use Rattle.lists.specs.Lists.{range}
 use Rattle.network.specs.Networks.{maxReaches}
-use Rattle.network.specs.Tables.{kindOf, kindNumber}
+use Rattle.network.specs.Tables.{stateOf, stateNumber}
 use Rattle.packing.specs.declared.Packed.{Packed}
 use Rattle.packing.specs.declared.Numbers.{Numbers}
 
@@ -24,14 +24,14 @@ heldOf n = min n maxRows
 unfoldable pub rowOf : (Reach → ℕ) → List Reach → List ℕ
 rowOf f t = map f t ++ replicate (maxRows - length t) 0
 
-abbrev pub reachKindNumber : Reach → ℕ
-reachKindNumber r = kindNumber (r .kind)
+abbrev pub reachStateNumber : Reach → ℕ
+reachStateNumber r = stateNumber (r .state)
 
 -- The three rows of reaches, beside their number.
 abbrev pub rowsOf : List Reach → Packed
 rowsOf t = record {
   n = length t;
-  kinds = rowOf reachKindNumber t;
+  kinds = rowOf reachStateNumber t;
   a = rowOf (λ r. r .a) t;
   b = rowOf (λ r. r .b) t;
 }
@@ -52,7 +52,7 @@ emptyOf n = record { n = n; kinds = zeros; a = zeros; b = zeros }
 
 -- What stands of a reach in the three rows.
 abbrev pub numbersOf : Reach → Numbers
-numbersOf r = record { kind = reachKindNumber r; a = r .a; b = r .b }
+numbersOf r = record { kind = reachStateNumber r; a = r .a; b = r .b }
 
 abbrev pub putAt : Packed → ℕ → Numbers → Packed
 putAt p i x = record {
@@ -64,7 +64,7 @@ putAt p i x = record {
 
 -- The other way: the reach that stands in rows at i, and how many of n reaches go into a table of a length, those in the rows or none.
 abbrev pub packedReach : Packed → ℕ → Reach
-packedReach p i = record { kind = kindOf (getD (p .kinds) i 0); a = getD (p .a) i 0; b = getD (p .b) i 0 }
+packedReach p i = record { state = stateOf (getD (p .kinds) i 0); a = getD (p .a) i 0; b = getD (p .b) i 0 }
 
 abbrev pub storedOf : ℕ → ℕ → ℕ
 storedOf n room = cond (leb n room) (heldOf n) 0

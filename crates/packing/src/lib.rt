@@ -4,8 +4,9 @@
 use network::Kind;
 use network::MAX_REACHES;
 use network::Reach;
+use network::State;
 ghost use mathlib.Core.Path.{_≡_};
-ghost use Rattle.network.specs.Tables.{kindOf, kindNumber};
+ghost use Rattle.network.specs.Tables.{stateOf, stateNumber};
 ghost use Rattle.packing.specs.Rows.{heldOf, emptyOf, numbersOf, packedOf, storedOf, unpackedInto};
 
 // How many reaches the rows have room for: one more than a network may have, so that rows show that a table is over-full.
@@ -19,14 +20,21 @@ pub struct Packed {
     pub b: [u16; MAX_ROWS],
 }
 
-// The number of a kind in a row.
-fn number(k: Kind) -> u8
-    ensures { λ r. ⌜ r ≡ kindNumber k ⌝ }
+// The number of a state in a row.
+fn number(s: State) -> u8
+    ensures { λ r. ⌜ r ≡ stateNumber s ⌝ }
 {
-    match k {
-        Kind::Gated => 0,
-        Kind::Flap => 1,
-        Kind::TwoWay => 2,
+    match s {
+        State::InService(k) => match k {
+            Kind::Gated => 0,
+            Kind::Flap => 1,
+            Kind::TwoWay => 2,
+        },
+        State::Shut(k) => match k {
+            Kind::Gated => 3,
+            Kind::Flap => 4,
+            Kind::TwoWay => 5,
+        },
     }
 }
 
@@ -60,9 +68,9 @@ struct Numbers {
 fn numbers_of(r: Reach) -> Numbers
     ensures { λ x. ⌜ x ≡ numbersOf r ⌝ }
 {
-    let k = r.kind;
+    let s = r.state;
     Numbers {
-        kind: number(k),
+        kind: number(s),
         a: r.a,
         b: r.b,
     }
@@ -85,25 +93,34 @@ pub fn pack(t: &[Reach]) -> Packed
     p
 }
 
-// The kind that a number of a row stands for.
-fn kind_of(k: u8) -> Kind
-    ensures { λ r. ⌜ r ≡ kindOf k ⌝ }
+// The state that a number of a row stands for.
+fn state_of(k: u8) -> State
+    ensures { λ r. ⌜ r ≡ stateOf k ⌝ }
 {
     if k == 0 {
-        Kind::Gated
-    } else if k == 1 {
-        Kind::Flap
-    } else {
-        Kind::TwoWay
+        return State::InService(Kind::Gated);
     }
+    if k == 1 {
+        return State::InService(Kind::Flap);
+    }
+    if k == 2 {
+        return State::InService(Kind::TwoWay);
+    }
+    if k == 3 {
+        return State::Shut(Kind::Gated);
+    }
+    if k == 4 {
+        return State::Shut(Kind::Flap);
+    }
+    State::Shut(Kind::TwoWay)
 }
 
 // A record put together.
 fn reach_of(kind: u8, a: u16, b: u16) -> Reach
-    ensures { λ r. ⌜ r ≡ record { kind = kindOf kind; a = a; b = b } ⌝ }
+    ensures { λ r. ⌜ r ≡ record { state = stateOf kind; a = a; b = b } ⌝ }
 {
-    let k = kind_of(kind);
-    Reach { kind: k, a, b }
+    let s = state_of(kind);
+    Reach { state: s, a, b }
 }
 
 // How many of n reaches go into a table with this room: those that the rows hold, or none where there is no room for n.

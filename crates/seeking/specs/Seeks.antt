@@ -39,7 +39,7 @@ pub record Partable (n : ℕ) (ks xs ys us ws : List ℕ) (to : ℕ) : Type 0 wh
 -- One step: the last gate r below `to` at which a plan can part from us upwards is turned and the gates after it decided; or r is the number of
 -- reaches, and none can.
 pub data StepTaken (N : Network) (us : List ℕ) (to : ℕ) : List ℕ → ℕ → Type 0 where
-  stepped-at : {ws : List ℕ} {r : ℕ} → r < to → isGated ((reachAt N r) .kind) ≡ true → getD us r 3 ≡ 0 → ((j : ℕ) → r < j → j < to → NoPart N us j)
+  stepped-at : {ws : List ℕ} {r : ℕ} → r < to → isGated ((reachAt N r) .state) ≡ true → getD us r 3 ≡ 0 → ((j : ℕ) → r < j → j < to → NoPart N us j)
       → Completed N (set (upTo N us r) r 1) ws → StepTaken N us to ws r
   no-step : {ws : List ℕ} {r : ℕ} → r ≡ length (N .reaches) → ((j : ℕ) → j < to → NoPart N us j) → StepTaken N us to ws r
 

@@ -10,7 +10,7 @@ use lib.ListN.{length, getD, take, drop-of-length-le}
 use lib.Seq.{drop-cons}
 use Rattle.network.proofs.Networks.{not-gated}
 use Rattle.lists.proofs.Lists.{length-cond, length-cond-le}
-use Rattle.network.specs.Tables.{kindOf, tableOf}
+use Rattle.network.specs.Tables.{stateOf, tableOf}
 use Rattle.network.specs.Settings.{isGated, gatesFrom}
 use Rattle.tables.specs.Rows.{gatesIn}
 use Rattle.sheet_format.specs.Rows.{gatesRow, due, NextGate}
@@ -20,15 +20,15 @@ pub gates-row : (i : ℕ) (ks xs ys : List ℕ) → gatesRow i (take (length (ta
 gates-row i [] xs ys = refl
 gates-row i (k ∷ ks) [] ys = refl
 gates-row i (k ∷ ks) (x ∷ xs) [] = refl
-gates-row i (k ∷ ks) (x ∷ xs) (y ∷ ys) = ap (λ l. cond (isGated (kindOf k)) (i ∷ l) l) (gates-row (suc i) ks xs ys)
+gates-row i (k ∷ ks) (x ∷ xs) (y ∷ ys) = ap (λ l. cond (isGated (stateOf k)) (i ∷ l) l) (gates-row (suc i) ks xs ys)
 
 pub gates-few : (i : ℕ) (ks : List ℕ) → length (gatesRow i ks) ≤ length ks
 gates-few i [] = omega arith
-gates-few i (k ∷ ks) = length-cond-le (isGated (kindOf k)) i (gatesRow (suc i) ks) (length ks) (gates-few (suc i) ks)
+gates-few i (k ∷ ks) = length-cond-le (isGated (stateOf k)) i (gatesRow (suc i) ks) (length ks) (gates-few (suc i) ks)
 
 pub count-row : (i : ℕ) (ks : List ℕ) → length (gatesRow i ks) ≡ gatesIn ks
 count-row i [] = refl
-count-row i (k ∷ ks) = length-cond (isGated (kindOf k)) i (gatesRow (suc i) ks) (count-row (suc i) ks)
+count-row i (k ∷ ks) = length-cond (isGated (stateOf k)) i (gatesRow (suc i) ks) (count-row (suc i) ks)
 
 -- from reach i on: reach i first, if it is gated
 due-gate : (ks : List ℕ) (i : ℕ) → i < length ks → getD ks i 0 ≡ 0 → due ks i ≡ i ∷ due ks (suc i)

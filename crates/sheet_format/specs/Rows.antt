@@ -7,14 +7,14 @@ use mathlib.Core.List.{List, [], _∷_}
 use lib.ListN.{length, take, drop}
 use Rattle.network.specs.declared.Reach.{Reach}
 use Rattle.network.specs.Networks.{maxReaches}
-use Rattle.network.specs.Tables.{kindOf}
+use Rattle.network.specs.Tables.{stateOf}
 use Rattle.network.specs.Settings.{isGated, gatesFrom}
 use Rattle.sheet_format.specs.Sheets.{planSheet}
 
 -- The numbers of the gated reaches, the first reach with number i: `gatesFrom` by the kinds alone.
 abbrev pub gatesRow : ℕ → List ℕ → List ℕ
 gatesRow i [] = []
-gatesRow i (k ∷ ks) = cond (isGated (kindOf k)) (i ∷ gatesRow (suc i) ks) (gatesRow (suc i) ks)
+gatesRow i (k ∷ ks) = cond (isGated (stateOf k)) (i ∷ gatesRow (suc i) ks) (gatesRow (suc i) ks)
 
 -- Those of them from reach i on.
 abbrev pub due : List ℕ → ℕ → List ℕ

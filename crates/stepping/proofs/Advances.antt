@@ -9,7 +9,7 @@ use mathlib.Core.List.{List}
 use lib.ListN.{length, getD, set}
 use lib.Seq.{getD-set-other}
 use Rattle.network.specs.Networks.{Network}
-use Rattle.network.specs.Tables.{kindOf}
+use Rattle.network.specs.Tables.{stateOf}
 use Rattle.network.specs.Settings.{isGated, isSetting}
 use Rattle.network.specs.Orientations.{ways}
 use Rattle.network.specs.Plans.{isPlan}
@@ -19,7 +19,7 @@ use Rattle.lists.proofs.Bools.{decide}
 use Rattle.network.proofs.Order.{setting-length, plan-setting}
 use Rattle.tables.specs.Rows.{netOf, gatesIn, waysRow, bytesRow}
 use Rattle.tables.specs.Bytes.{bytesOf}
-use Rattle.tables.proofs.Laws.{row-length, row-bytes, row-ways, row-gates, row-kind}
+use Rattle.tables.proofs.Laws.{row-length, row-bytes, row-ways, row-gates, row-state}
 use Rattle.orientations.specs.Least.{Fits}
 use Rattle.orientations.specs.Partials.{upTo}
 use Rattle.orientations.proofs.Least.{same-plain, has-decided, fits-at}
@@ -47,7 +47,7 @@ module _ (n : ℕ) (ks xs ys : List ℕ) (v : Level n ks xs ys) where
   way-at h j = ap (λ (ws : List ℕ). getD ws j 3) (row-ways ks xs ys (v .ends-a) (v .ends-b) h)
 
   -- a setting that fits the ways of s before the gate r, and r turned, parts from s there
-  module _ (s q : List ℕ) (r : ℕ) (fit : isSetting N s ≡ true) (fit′ : isSetting N q ≡ true) (l : r < length (N .reaches)) (g : isGated ((reachAt N r) .kind) ≡ true) (z : getD (ways (N .reaches) s) r 3 ≡ 0)
+  module _ (s q : List ℕ) (r : ℕ) (fit : isSetting N s ≡ true) (fit′ : isSetting N q ≡ true) (l : r < length (N .reaches)) (g : isGated ((reachAt N r) .state) ≡ true) (z : getD (ways (N .reaches) s) r 3 ≡ 0)
       (f : Fits N q (set (upTo N (ways (N .reaches) s) r) r 1)) where
     abbrev held : List ℕ
     held = upTo N (ways (N .reaches) s) r
@@ -60,7 +60,7 @@ module _ (n : ℕ) (ks xs ys : List ℕ) (v : Level n ks xs ys) where
         ⊎-elim
         (λ y. has-decided N q (set held r 1) j (omega arith) (subst⁻¹ (λ (x : ℕ). x ≤ 1) (before-r j k) (gate-byte N s fit j (omega arith) y)) f ∙ before-r j k)
         (λ y. same-plain N q s j (omega arith) y)
-        (decide (isGated ((reachAt N j) .kind)))
+        (decide (isGated ((reachAt N j) .state)))
 
     turns : getD (ways (N .reaches) q) r 3 ≡ 1
     turns = fits-at N q held r 1 (omega (arith, oriented-length N s r (omega arith))) l (omega arith) f
@@ -68,8 +68,8 @@ module _ (n : ℕ) (ks xs ys : List ℕ) (v : Level n ks xs ys) where
     in-row : r < length ks
     in-row = omega (arith, many)
 
-    gated : isGated (kindOf (getD ks r 0)) ≡ true
-    gated = ap isGated (sym (row-kind ks xs ys (v .ends-a) (v .ends-b) r in-row)) ∙ g
+    gated : isGated (stateOf (getD ks r 0)) ≡ true
+    gated = ap isGated (sym (row-state ks xs ys (v .ends-a) (v .ends-b) r in-row)) ∙ g
 
     gates-are : (h : List ℕ) → isSetting N h ≡ true → length h ≡ gatesIn ks
     gates-are h e = setting-length N h e ∙ row-gates ks xs ys (v .ends-a) (v .ends-b) 0
@@ -85,7 +85,7 @@ module _ (n : ℕ) (ks xs ys : List ℕ) (v : Level n ks xs ys) where
         }
 
   -- so it is with the next plan
-  parted : {s us ws : List ℕ} {r : ℕ} → AtPlan n ks xs ys s us → r < length (N .reaches) → isGated ((reachAt N r) .kind) ≡ true → getD us r 3 ≡ 0 → Completed N (set (upTo N us r) r 1) ws → PartsAt ks s (bytesRow ks ws) r
+  parted : {s us ws : List ℕ} {r : ℕ} → AtPlan n ks xs ys s us → r < length (N .reaches) → isGated ((reachAt N r) .state) ≡ true → getD us r 3 ≡ 0 → Completed N (set (upTo N us r) r 1) ws → PartsAt ks s (bytesRow ks ws) r
   parted {s} {us} {ws} {r} p l g z c =
       let is : us ≡ ways (N .reaches) s = p .oriented ∙ sym (row-ways ks xs ys (v .ends-a) (v .ends-b) s) in
       let fits : Fits N (bytesRow ks ws) (set (upTo N (ways (N .reaches) s) r) r 1) =

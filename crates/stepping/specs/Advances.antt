@@ -7,7 +7,7 @@ use mathlib.Core.List.{List}
 use Rattle.network.specs.declared.Refusal.the-variants.{LastPlan}
 use lib.ListN.{length, getD, take}
 use Rattle.network.specs.Networks.{Network}
-use Rattle.network.specs.Tables.{kindOf}
+use Rattle.network.specs.Tables.{stateOf}
 use Rattle.network.specs.Settings.{isGated}
 use Rattle.network.specs.Plans.{isPlan}
 use Rattle.network.specs.Replies.{plan, refused, nextAnswer}
@@ -21,7 +21,7 @@ gatesBefore ks r = gatesIn (take r ks)
 -- The setting q parts from s at the gate r, upwards: the bytes of the gates before it are the same, and it is turned where s has it as drawn.
 pub record PartsAt (ks s q : List ℕ) (r : ℕ) : Type 0 where
   pub below : r < length ks
-  pub gate : isGated (kindOf (getD ks r 0)) ≡ true
+  pub gate : isGated (stateOf (getD ks r 0)) ≡ true
   pub same : take (gatesBefore ks r) q ≡ take (gatesBefore ks r) s
   pub drawn : getD s (gatesBefore ks r) 2 ≡ 0
   pub turned : getD q (gatesBefore ks r) 2 ≡ 1

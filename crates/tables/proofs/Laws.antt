@@ -9,20 +9,21 @@ use native.Mathlib.Omega.{arith}
 use lib.ListN.{length, getD, take, replicate}
 use lib.Dec.{leb, eqb}
 use Rattle.lists.proofs.Lists.{length-cond}
-use Rattle.network.specs.declared.Kind.{Kind}
 use Rattle.network.specs.declared.Kind.the-variants.{Gated, Flap, TwoWay}
+use Rattle.network.specs.declared.State.{State}
+use Rattle.network.specs.declared.State.the-variants.{InService, Shut}
 use Rattle.network.specs.declared.Reach.{Reach}
 use Rattle.lists.specs.Lists.{every}
-use Rattle.network.specs.Tables.{kindOf, kindNumber, tableOf}
+use Rattle.network.specs.Tables.{stateOf, stateNumber, tableOf}
 use Rattle.network.specs.Settings.{isGated, gatesFrom, isSetting}
 use Rattle.network.specs.Orientations.{way, after, ways}
 use Rattle.network.specs.Bridges.{noReach}
 use Rattle.tables.specs.Rows.{netOf, gatesIn, waysRow, bytesRow}
 use Rattle.tables.specs.Bytes.{bytesOf}
 
--- the reach with a kind's number and two ends
+-- the reach with a state's number and two ends
 abbrev pub reachOf : ℕ → ℕ → ℕ → Reach
-reachOf k x y = record { kind = kindOf k; a = x; b = y }
+reachOf k x y = record { state = stateOf k; a = x; b = y }
 
 -- ---- rows of any lengths
 
@@ -51,7 +52,7 @@ take-table (suc m) (k ∷ ks) (x ∷ xs) (y ∷ ys) l = ap (λ t. reachOf k x y 
 pub table-take : (ks xs ys : List ℕ) → let m = shortest ks xs ys in tableOf (take m ks) (take m xs) (take m ys) ≡ tableOf ks xs ys
 table-take ks xs ys = take-table (shortest ks xs ys) ks xs ys (omega (arith, table-short ks xs ys))
 
--- each reach has its kind and its ends from the rows
+-- each reach has its state and its ends from the rows
 pub table-at : (i : ℕ) (ks xs ys : List ℕ) → i < length (tableOf ks xs ys) → getD (tableOf ks xs ys) i noReach ≡ reachOf (getD ks i 0) (getD xs i 0) (getD ys i 0)
 table-at i [] xs ys l = absurd (not-suc-le-zero l)
 table-at i (k ∷ ks) [] ys l = absurd (not-suc-le-zero l)
@@ -78,22 +79,22 @@ module _ (ks xs ys : List ℕ) (e : length xs ≡ length ks) (f : length ys ≡ 
   -- what the kinds alone decide
   pub row-ways : (h : List ℕ) → ways (tableOf ks xs ys) h ≡ waysRow ks h
   row-ways =
-      rows (λ ks xs ys. (h : List ℕ) → ways (tableOf ks xs ys) h ≡ waysRow ks h) (λ h. refl) (λ k x y ks xs ys r h. ap (λ ws. way (kindOf k) h ∷ ws) (r (after (kindOf k) h))) ks xs ys e f
+      rows (λ ks xs ys. (h : List ℕ) → ways (tableOf ks xs ys) h ≡ waysRow ks h) (λ h. refl) (λ k x y ks xs ys r h. ap (λ ws. way (stateOf k) h ∷ ws) (r (after (stateOf k) h))) ks xs ys e f
 
   pub row-bytes : (ws : List ℕ) → bytesOf (tableOf ks xs ys) ws ≡ bytesRow ks ws
   row-bytes =
-      rows (λ ks xs ys. (ws : List ℕ) → bytesOf (tableOf ks xs ys) ws ≡ bytesRow ks ws) (λ ws. refl) (λ k x y ks xs ys r ws. elim ws [ [] ↦ refl | w ∷ vs ↦ ap (λ l. cond (isGated (kindOf k)) (w ∷ l) l) (r vs) ]) ks xs ys e f
+      rows (λ ks xs ys. (ws : List ℕ) → bytesOf (tableOf ks xs ys) ws ≡ bytesRow ks ws) (λ ws. refl) (λ k x y ks xs ys r ws. elim ws [ [] ↦ refl | w ∷ vs ↦ ap (λ l. cond (isGated (stateOf k)) (w ∷ l) l) (r vs) ]) ks xs ys e f
 
   pub row-gates : (o : ℕ) → length (gatesFrom o (tableOf ks xs ys)) ≡ gatesIn ks
   row-gates =
-      rows (λ ks xs ys. (o : ℕ) → length (gatesFrom o (tableOf ks xs ys)) ≡ gatesIn ks) (λ o. refl) (λ k x y ks xs ys r o. length-cond (isGated (kindOf k)) o (gatesFrom (suc o) (tableOf ks xs ys)) (r (suc o))) ks xs ys e f
+      rows (λ ks xs ys. (o : ℕ) → length (gatesFrom o (tableOf ks xs ys)) ≡ gatesIn ks) (λ o. refl) (λ k x y ks xs ys r o. length-cond (isGated (stateOf k)) o (gatesFrom (suc o) (tableOf ks xs ys)) (r (suc o))) ks xs ys e f
 
   -- its members
   row-reach : (i : ℕ) → i < length ks → getD (tableOf ks xs ys) i noReach ≡ reachOf (getD ks i 0) (getD xs i 0) (getD ys i 0)
   row-reach i l = table-at i ks xs ys (omega (arith, row-length))
 
-  pub row-kind : (i : ℕ) → i < length ks → (getD (tableOf ks xs ys) i noReach) .kind ≡ kindOf (getD ks i 0)
-  row-kind i l = ap (λ r. r .kind) (row-reach i l)
+  pub row-state : (i : ℕ) → i < length ks → (getD (tableOf ks xs ys) i noReach) .state ≡ stateOf (getD ks i 0)
+  row-state i l = ap (λ r. r .state) (row-reach i l)
 
   pub row-a : (i : ℕ) → i < length ks → (getD (tableOf ks xs ys) i noReach) .a ≡ getD xs i 0
   row-a i l = ap (λ r. r .a) (row-reach i l)
@@ -114,24 +115,28 @@ module _ (ks xs ys : List ℕ) (e : length xs ≡ length ks) (f : length ys ≡ 
 
 -- ---- a table's ways
 
-after-unoriented : (d : Kind) (t : List Reach) → ((g : ℕ) → ways t (replicate g 2) ≡ ways t []) → (g : ℕ)
+after-unoriented : (d : State) (t : List Reach) → ((g : ℕ) → ways t (replicate g 2) ≡ ways t []) → (g : ℕ)
     → way d (replicate g 2) ∷ ways t (after d (replicate g 2)) ≡ way d [] ∷ ways t (after d [])
-after-unoriented Gated t rest zero = refl
-after-unoriented Gated t rest (suc g) = ap (λ ws. 2 ∷ ws) (rest g)
-after-unoriented Flap t rest g = ap (λ ws. 0 ∷ ws) (rest g)
-after-unoriented TwoWay t rest g = ap (λ ws. 2 ∷ ws) (rest g)
+after-unoriented (InService Gated) t rest zero = refl
+after-unoriented (InService Gated) t rest (suc g) = ap (λ ws. 2 ∷ ws) (rest g)
+after-unoriented (InService Flap) t rest g = ap (λ ws. 0 ∷ ws) (rest g)
+after-unoriented (InService TwoWay) t rest g = ap (λ ws. 2 ∷ ws) (rest g)
+after-unoriented (Shut d) t rest g = ap (λ ws. 3 ∷ ws) (rest g)
 
 -- gates that are all hung either way are as gates without a byte
 pub ways-unoriented : (t : List Reach) (g : ℕ) → ways t (replicate g 2) ≡ ways t []
 ways-unoriented [] g = refl
-ways-unoriented (r ∷ t) g = after-unoriented (r .kind) t (ways-unoriented t) g
+ways-unoriented (r ∷ t) g = after-unoriented (r .state) t (ways-unoriented t) g
 
 -- ---- the table of a table's own numbers
-kind-of-number : (k : Kind) → kindOf (kindNumber k) ≡ k
-kind-of-number Gated = refl
-kind-of-number Flap = refl
-kind-of-number TwoWay = refl
+state-of-number : (d : State) → stateOf (stateNumber d) ≡ d
+state-of-number (InService Gated) = refl
+state-of-number (InService Flap) = refl
+state-of-number (InService TwoWay) = refl
+state-of-number (Shut Gated) = refl
+state-of-number (Shut Flap) = refl
+state-of-number (Shut TwoWay) = refl
 
-pub table-of-rows : (t : List Reach) → tableOf (map (λ r. kindNumber (r .kind)) t) (map (λ r. r .a) t) (map (λ r. r .b) t) ≡ t
+pub table-of-rows : (t : List Reach) → tableOf (map (λ r. stateNumber (r .state)) t) (map (λ r. r .a) t) (map (λ r. r .b) t) ≡ t
 table-of-rows [] = refl
-table-of-rows (r ∷ t) = rw (kind-of-number (r .kind)) (ap (λ l. r ∷ l) (table-of-rows t))
+table-of-rows (r ∷ t) = rw (state-of-number (r .state)) (ap (λ l. r ∷ l) (table-of-rows t))

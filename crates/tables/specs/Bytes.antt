@@ -10,4 +10,4 @@ use Rattle.network.specs.declared.Reach.{Reach}
 abbrev pub bytesOf : List Reach → List ℕ → List ℕ
 bytesOf [] ws = []
 bytesOf (r ∷ t) [] = []
-bytesOf (r ∷ t) (w ∷ ws) = cond (isGated (r .kind)) (w ∷ bytesOf t ws) (bytesOf t ws)
+bytesOf (r ∷ t) (w ∷ ws) = cond (isGated (r .state)) (w ∷ bytesOf t ws) (bytesOf t ws)

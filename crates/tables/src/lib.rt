@@ -1,4 +1,4 @@
-// The reach table as rows of numbers: kinds (0 gated, 1 flap, any other number two-way), ends A and ends B.
+// The reach table as rows of numbers: kinds (0 gated, 1 flap, 2 two-way; 3, 4, 5 the same shut for works, and any other number shut too), ends A and ends B.
 // What a table gets as an answer, which way each of its reaches passes under a setting, and the setting that its ways make.
 // The functions with a `requires` are for the crates above, which have checked it.
 use network::MAX_BASINS;
@@ -11,18 +11,22 @@ ghost use Prim.Native.Nat.{_≤_, min};
 ghost use lib.ListN.{length, drop};
 ghost use lib.Dec.{leb, eqb};
 ghost use Rattle.lists.specs.Lists.{every};
-ghost use Rattle.network.specs.Tables.{kindOf, tableOf};
+ghost use Rattle.network.specs.Tables.{stateOf, tableOf};
 ghost use Rattle.network.specs.Orientations.{way};
 ghost use Rattle.tables.specs.Rows.{netOf, gatesIn, gatesHeld, waysRow, bytesRow};
 ghost use Rattle.tables.specs.Answers.{TableChecked, StrayEnd};
 
-// The kinds that have a number of their own.
+// The kinds of reaches in service. Every greater number is a shut reach.
 const GATED: u8 = 0;
 
 const FLAP: u8 = 1;
 
-// The way of a reach that passes both ways.
+const TWO_WAY: u8 = 2;
+
+// The ways of a reach that passes both ways, and of one that passes neither.
 const EITHER: u8 = 2;
+
+const NEITHER: u8 = 3;
 
 // What a table gets: it is accepted, or refused by number only.
 pub enum TableAnswer {
@@ -114,14 +118,16 @@ pub fn fits(kinds: &[u8], setting: &[u8]) -> bool
     setting.len() == count_gates(kinds) && bits(setting)
 }
 
-// The way of a reach of the kind, if the gates from it on are hung as the bytes from k on say. A gate without a byte passes both ways.
+// The way of a reach of the kind, if the gates from it on are hung as the bytes from k on say. A gate without a byte passes both ways, a shut reach neither.
 fn way_of(kind: u8, setting: &[u8], k: usize) -> u8
-    ensures { λ r. ⌜ r ≡ way (kindOf kind) (drop k (now (setting .entry))) ⌝ }
+    ensures { λ r. ⌜ r ≡ way (stateOf kind) (drop k (now (setting .entry))) ⌝ }
 {
     if kind == GATED && k < setting.len() {
         setting[k]
     } else if kind == FLAP {
         0
+    } else if kind > TWO_WAY {
+        NEITHER
     } else {
         EITHER
     }

@@ -1,4 +1,4 @@
--- `packing::numbers_of` meets its contract: the number is the kind's, by what `number` ensures.
+-- `packing::numbers_of` meets its contract: the number is the state's, by what `number` ensures.
 -- Assumes nothing.
 use borrow.Author.Needs.{needs}
 use Rattle.packing.proofs.numbers_of.Statement.{statement}

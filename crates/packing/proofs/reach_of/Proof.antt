@@ -1,14 +1,14 @@
--- `packing::reach_of` meets its contract: the kind is that of the number, by what `kind_of` ensures.
+-- `packing::reach_of` meets its contract: the state is that of the number, by what `state_of` ensures.
 -- Assumes nothing.
 use borrow.Author.Needs.{needs}
 use Rattle.packing.proofs.reach_of.Statement.{statement}
 use Rattle.packing.proofs.reach_of.Tie as tie
 
-kind-of-requires : tie.Need-kind-of-requires
-kind-of-requires c κs = search needs
+state-of-requires : tie.Need-state-of-requires
+state-of-requires c κs = search needs
 
 returns : tie.Need-returns
-returns c = rw (c .kind-of .ensures)
+returns c = rw (c .state-of .ensures)
 
 pub reach-of-spec : {M : Type 1} → statement M
-reach-of-spec = tie.close (tie.spec kind-of-requires returns)
+reach-of-spec = tie.close (tie.spec state-of-requires returns)
