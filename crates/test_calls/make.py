@@ -1,7 +1,7 @@
 #!/usr/bin/env python3
 """Writes the case file `stdin` and the expected output `stdout` of the program test_calls, into the folder that this file stands in.
 
-What is expected is worked out here from document 01 alone. Small networks are planned by trying every setting and every division of the basins;
+What is expected is worked out here from document 01, and item 1 of document 02, alone. Small networks are planned by trying every setting and every division of the basins;
 larger ones by the theorem, gate by gate. Where both can be had they are compared. The pseudo-random sequence is fixed: the files never change
 by themselves.
 """
@@ -12,17 +12,19 @@ from functools import lru_cache
 from itertools import product
 
 OLD, OLD_WORD = 170, 43690          # what every byte and every two-byte entry of a lent buffer holds before a call
-GATED, FLAP, TWO_WAY = 0, 1, 2      # kinds in a row of a table; every greater number is two-way too
+GATED, FLAP, TWO_WAY = 0, 1, 2      # kinds in a row of a table
+SHUT = 3                            # what a kind has more while its reach is shut for works; every number over 5 is shut two-way too
 
 
 # ---- networks
 
 class Network:
-    """An accepted network: basins and reaches (kind, a, b)."""
+    """An accepted network: basins, and by their numbers the reaches in service (kind, a, b), whose plans and findings are those of the network."""
 
     def __init__(self, basins, reaches, try_all=True):
-        self.basins, self.reaches, self.all = basins, reaches, 2 ** basins - 1
-        self.gates = [i for i, r in enumerate(reaches) if r[0] == GATED]
+        self.basins, self.all = basins, 2 ** basins - 1
+        self.reaches = {i: r for i, r in enumerate(reaches) if r[0] < SHUT}
+        self.gates = [i for i, r in self.reaches.items() if r[0] == GATED]
         self.small = len(self.gates) <= 12 and basins <= 7
         self.kept = {}
         self.finding = self.find()
@@ -34,7 +36,7 @@ class Network:
     def arcs(self, setting):
         """The arcs, with gates as hung; a gate past the setting's end passes either way."""
         out, g = [], 0
-        for kind, a, b in self.reaches:
+        for kind, a, b in self.reaches.values():
             if kind == GATED:
                 way, g = (setting[g] if g < len(setting) else 2), g + 1
                 if way != 1:
@@ -85,14 +87,14 @@ class Network:
     def lone_by_divisions(self):
         found = {}
         for side in range(2, 2 ** self.basins, 2):          # the sides without basin 0
-            crossing = [i for i, (k, a, b) in enumerate(self.reaches) if (side >> a & 1) != (side >> b & 1)]
+            crossing = [i for i, (k, a, b) in self.reaches.items() if (side >> a & 1) != (side >> b & 1)]
             if len(crossing) == 1 and self.reaches[crossing[0]][0] == GATED:
                 found[crossing[0]] = side
         return min(found.items()) if found else None
 
     def lone_by_removal(self):
         for i in self.gates:
-            rest = [(a, b) for j, (k, a, b) in enumerate(self.reaches) if j != i]
+            rest = [(a, b) for j, (k, a, b) in self.reaches.items() if j != i]
             seen = self.reached(rest + [(b, a) for a, b in rest], 0)
             if seen != self.all:
                 return i, self.all - seen
@@ -199,21 +201,28 @@ def read_network(file):
         kind = file[at]
         if kind == 9:
             return 6 if at + 1 < len(file) else (basins, tuple(reaches))
-        if kind not in (2, 3, 4):
+        if kind not in (2, 3, 4, 5):
             return 5
-        if len(file) < at + 5:
+        size = 6 if kind == 5 else 5
+        if len(file) < at + size:
             return 4
+        if kind == 5 and file[at + 5] not in (2, 3, 4):
+            return 5
         if len(reaches) == 1024:
             return 2
         a, b = word(file, at + 1), word(file, at + 3)
         if a >= basins or b >= basins:
             return 3
-        reaches.append((kind - 2, a, b))
-        at += 5
+        reaches.append((SHUT + file[at + 5] - 2 if kind == 5 else kind - 2, a, b))
+        at += size
+
+
+def reach_record(kind, a, b):
+    return [2 + kind] + two(a) + two(b) if kind < SHUT else [5] + two(a) + two(b) + [2 + min(kind - SHUT, TWO_WAY)]
 
 
 def network_file(basins, reaches):
-    return [1] + two(basins) + [x for k, a, b in reaches for x in [2 + min(k, 2)] + two(a) + two(b)] + [9]
+    return [1] + two(basins) + [x for reach in reaches for x in reach_record(*reach)] + [9]
 
 
 def read_sheet(basins, reaches, sheet, p):
@@ -482,6 +491,7 @@ class Group:
         name = name or call
         if not self.cases:
             name = '== %s\n%s' % (self.title, name)
+        assert len(c) <= 6200           # the program keeps no more
         count = 1
         for _, values, _ in vary:
             count *= values
@@ -569,6 +579,12 @@ class Sequence:
 
 
 G, F, T = GATED, FLAP, TWO_WAY
+SG, SF, ST = SHUT + G, SHUT + F, SHUT + T
+
+
+def letters(reaches):
+    """The reaches in document 01's letters, small ones for those that are shut."""
+    return ' '.join('%s%d-%d' % ('GFTgft'[min(k, ST)], a, b) for k, a, b in reaches) or 'no reach'
 
 
 def settings(g):
@@ -616,17 +632,35 @@ whole('case 11: F 0-1, G 1-2', 3, [(F, 0, 1), (G, 1, 2)])
 whole('case 13: four basins, all six pairs gated', 4, [(G, a, b) for a in range(4) for b in range(a + 1, 4)])
 
 
+# ---- the same with reaches shut for works (document 02, item 1)
+
+whole('case 1 with shut loops of every kind, and of numbers 6 and 255', 1, [(k, 0, 0) for k in (SG, SF, ST, 6, 255)])
+whole('case 2 with its gate shut', 2, [(SG, 0, 1)])
+whole('case 3 with its first gate shut', 2, [(SG, 0, 1), (G, 0, 1)])
+whole('case 3 with a shut reach of every kind between', 2, [(G, 0, 1), (SG, 1, 0), (SF, 0, 1), (ST, 0, 1), (G, 0, 1)])
+for k in (ST, 6, 127, 128, 254, 255):
+    whole('case 4 with its reach shut, by number %d' % k, 2, [(k, 0, 1)])
+whole('case 5 with a shut flap back', 2, [(F, 0, 1), (SF, 1, 0)])
+whole('case 7 with reach 1 shut', 3, [(G, 0, 1), (SG, 1, 2), (G, 2, 0)])
+whole('case 8 with its flap shut', 2, [(SF, 1, 0), (G, 0, 1)])
+whole('case 9 with its gate shut', 1, [(SG, 0, 0)])
+whole('case 10 with a shut two-way reach beside its gate', 3, [(ST, 0, 1), (G, 0, 1), (T, 1, 2)])
+whole('case 11 with a shut two-way reach back', 3, [(F, 0, 1), (ST, 2, 0), (G, 1, 2)])
+whole('case 13 with its third gate shut', 4, [(SG if (a, b) == (0, 3) else G, a, b) for a in range(4) for b in range(a + 1, 4)])
+
+
 # ---- case 12: the limits
 
 EDGES = [('basins high', 2, 0), ('basins', 2, 0), ('k', 2, 0)]      # 0, 1, 256 and 257 basins; 1,024 and 1,025 reaches
 
-for title, kind in (('flaps', F), ('two-way reaches', T)):
+for title, kind in (('flaps', F), ('two-way reaches', T), ('shut gates', SG)):
     gr = group('case 12: %s round a ring of 256 basins' % title, ring(256, 1026, kind))
     for call in ('table', 'check', 'first', 'next', 'make', 'step', 'write reply', 'write sheet'):
         gr.case(call, 0, p=4, k=1024, vary=EDGES)
     gr.case('read sheet', 0, [16, 0, 0, 9], p=0, k=1024, vary=EDGES)
-    gr.case('write network', 0, p=5124, k=1024, vary=EDGES)
-    gr.case('write network', 256, p=5123, k=1024, vary=[('p', 3, 3)])
+    length = len(network_file(256, gr.reaches[:1024]))
+    gr.case('write network', 0, p=length, k=1024, vary=EDGES)
+    gr.case('write network', 256, p=length - 1, k=1024, vary=[('p', 3, length % 256 - 1)])
     gr.case('first', 256, k=256)
 
 gr = group('case 12: gates round a ring of 256 basins, four times', ring(256, 1026, G))
@@ -645,23 +679,24 @@ gr.case('walker', 256, zeros[:1024], p=1024, k=1024, limit=2)
 gr.case('table', 256, k=1025, x=1024, y=1026)
 gr.case('table', 256, k=1026, x=1026, y=1025)
 
-for odd, title in (((G, 256, 0), 'G 256-0'), ((G, 0, 255), 'G 0-255'), ((F, 0, 255), 'F 0-255'), ((T, 0, 255), 'T 0-255')):
-    gr = group('gates round a ring of 255 basins, and reach 700 is ' + title, ring(255, 1025, G, (700, odd)))
+for odd in ((G, 256, 0), (G, 0, 255), (F, 0, 255), (T, 0, 255), (SF, 0, 255), (SG, 190, 191)):
+    gr = group('gates round a ring of 255 basins, and reach 700 is ' + letters([odd]), ring(255, 1025, G, (700, odd)))
     gr.case('table', 0, k=1024, vary=EDGES)
     gr.case('first', 256, p=1024, k=1024)
     gr.case('write reply', 0, p=3076, k=1024, vary=EDGES)
     gr.case('write reply', 256, p=3072, k=1024, vary=[('p', 5, 0)])
     gr.case('write reply', 256, k=1024, vary=[('p', 6, 32)])
-    gr.case('write network', 256, p=5124, k=1024)
+    gr.case('write reply', 255, p=3076, k=1024)
+    gr.case('write network', 256, p=5125, k=1024)
 
-for x, y in ((3, 3), (3, 4), (4, 3), (4, 4), (65535, 0)):
-    gr = group('case 12: flaps round a ring of four basins, and F %d-%d' % (x, y), [(F, 0, 1), (F, 1, 2), (F, 2, 3), (F, 3, 0), (F, x, y)])
+for odd in [(kind, a, b) for kind in (F, ST) for a, b in ((3, 3), (3, 4), (4, 3), (4, 4), (65535, 0))]:
+    gr = group('case 12: flaps round a ring of four basins, and ' + letters([odd]), ring(4, 4, F) + [odd])
     for call in ('table', 'check', 'first', 'next', 'make', 'step', 'write network', 'write sheet', 'write reply'):
         gr.case(call, 4, p=30)
     gr.case('read sheet', 4, [16, 0, 0, 9], p=0)
 
-for place, odd, title in ((245, (G, 245, 246), 'G 245-246'), (9, (F, 10, 9), 'F 10-9'), (0, (F, 0, 1), 'F 0-1')):
-    gr = group('256 basins in a line of two-way reaches, and reach %d is %s' % (place, title), ring(256, 255, T, (place, odd)))
+for place, odd in ((245, (G, 245, 246)), (9, (F, 10, 9)), (0, (F, 0, 1)), (100, (ST, 100, 101))):
+    gr = group('256 basins in a line of two-way reaches, and reach %d is %s' % (place, letters([odd])), ring(256, 255, T, (place, odd)))
     gr.case('first', 256, p=1)
     gr.case('next', 256, [0] * gates_of(gr.reaches), p=1, m=34)
     gr.case('write reply', 256, p=36)
@@ -670,39 +705,43 @@ for place, odd, title in ((245, (G, 245, 246), 'G 245-246'), (9, (F, 10, 9), 'F 
 # ---- case 14: a 16 by 16 grid, row by row the reaches to the right, then those down
 
 grid = [r for row in range(0, 256, 16) for r in [(G, v, v + 1) for v in range(row, row + 15)] + [(G, v, v + 16) for v in range(row, row + 16) if row < 240]]
-gr = group('case 14: a 16 by 16 grid', grid)
-gr.case('walk', 256, p=480, limit=10)
-gr.case('walker', 256, [0] * 480, p=480, limit=10)
-gr.case('check', 256, network(256, gr.reaches).next_plan(), vary=[(479, 2, 0)])
-gr.case('write reply', 256, p=1444)
+for title, reaches in (('', grid), (' with reach 100 shut', grid[:100] + [(SG,) + grid[100][1:]] + grid[101:])):
+    g = gates_of(reaches)
+    gr = group('case 14: a 16 by 16 grid' + title, reaches)
+    gr.case('walk', 256, p=g, limit=10)
+    gr.case('walker', 256, [0] * g, p=g, limit=10)
+    gr.case('check', 256, network(256, gr.reaches).next_plan(), vary=[(g - 1, 2, 0)])
+    gr.case('write reply', 256, p=4 + 3 * g)
 
 
 # ---- refusals and their order: the table, the setting, the buffers, then what the network gets
 
-TABLES = [('three basins, with plans', [(G, 0, 1), (F, 0, 1), (7, 1, 2), (G, 1, 2), (G, 2, 0)]),
-          ('a stray end A', [(G, 300, 1), (F, 0, 1), (255, 1, 2), (G, 1, 2), (G, 2, 0)]),
-          ('a stray end B', [(G, 0, 1), (F, 0, 1), (3, 1, 2), (G, 1, 2), (G, 2, 65535)]),
-          ('three basins, a lone reach', [(G, 0, 1), (F, 0, 1), (F, 1, 0), (G, 1, 2), (G, 0, 1)]),
-          ('three basins, shut in', [(G, 0, 1), (F, 1, 2), (F, 1, 2), (G, 1, 0), (G, 0, 1)])]
+TABLES = [('three basins, with plans', [(G, 0, 1), (F, 0, 1), (T, 1, 2), (SG, 1, 2), (G, 1, 2), (G, 2, 0)]),
+          ('a stray end A', [(G, 300, 1), (F, 0, 1), (T, 1, 2), (255, 1, 2), (G, 1, 2), (G, 2, 0)]),
+          ('a stray end B', [(G, 0, 1), (F, 0, 1), (T, 1, 2), (SF, 1, 2), (G, 1, 2), (G, 2, 65535)]),
+          ('a stray end A, shut', [(G, 0, 1), (F, 0, 1), (T, 1, 2), (SG, 300, 2), (G, 1, 2), (G, 2, 0)]),
+          ('a stray end B, shut', [(G, 0, 1), (255, 0, 65535), (T, 1, 2), (F, 1, 2), (G, 1, 2), (G, 2, 0)]),
+          ('three basins, a lone reach', [(G, 0, 1), (F, 0, 1), (F, 1, 0), (7, 1, 2), (G, 1, 2), (G, 0, 1)]),
+          ('three basins, shut in', [(G, 0, 1), (F, 1, 2), (SF, 2, 0), (F, 1, 2), (G, 1, 0), (G, 0, 1)])]
 
 for title, reaches in TABLES:
     gr = group('order: ' + title, reaches + [(G, 0, 9), (G, 9, 0)])
-    at_five = dict(k=5, x=5, y=5)
+    at_six = dict(k=6, x=6, y=6)
     table, setting, rooms = [('basins high', 2, 0), ('basins', 5, 0)], [('n', 3, 2), (2, 3, 0)], [('p', 3, 2), ('m', 3, 31)]
-    gr.case('table', 3, vary=table, **at_five)
-    gr.case('check', 3, [0, 0, 0, 0], vary=table + setting, **at_five)
-    gr.case('first', 3, vary=table + rooms, **at_five)
-    gr.case('next', 3, [0, 0, 0, 0], vary=table + setting + rooms, **at_five)
-    gr.case('next', 3, [1, 1, 0, 0], vary=[('basins', 3, 2)] + setting + rooms, **at_five)
-    gr.case('make', 3, [0, 1, 0, 0], p=5, vary=table + setting, **at_five)
-    gr.case('step', 3, [0, 0, 0, 0], n=4, vary=table + [(2, 3, 0), (3, 3, 0)] + rooms, **at_five)
-    gr.case('step', 3, [1, 1, 0, 0], n=3, vary=[('basins', 3, 2), (2, 3, 0)] + rooms, **at_five)
-    gr.case('write network', 3, vary=table + [('p', 3, 28)], **at_five)
-    gr.case('write reply', 3, vary=table + [('p', 27, 12)], **at_five)
-    gr.case('write sheet', 3, [0, 0, 0, 0], vary=table + setting + [('p', 3, 12)], **at_five)
+    gr.case('table', 3, vary=table, **at_six)
+    gr.case('check', 3, [0, 0, 0, 0], vary=table + setting, **at_six)
+    gr.case('first', 3, vary=table + rooms, **at_six)
+    gr.case('next', 3, [0, 0, 0, 0], vary=table + setting + rooms, **at_six)
+    gr.case('next', 3, [1, 1, 0, 0], vary=[('basins', 3, 2)] + setting + rooms, **at_six)
+    gr.case('make', 3, [0, 1, 0, 0], p=5, vary=table + setting, **at_six)
+    gr.case('step', 3, [0, 0, 0, 0], n=4, vary=table + [(2, 3, 0), (3, 3, 0)] + rooms, **at_six)
+    gr.case('step', 3, [1, 1, 0, 0], n=3, vary=[('basins', 3, 2), (2, 3, 0)] + rooms, **at_six)
+    gr.case('write network', 3, vary=table + [('p', 3, len(network_file(3, reaches)) - 1)], **at_six)
+    gr.case('write reply', 3, vary=table + [('p', 27, 12)], **at_six)
+    gr.case('write sheet', 3, [0, 0, 0, 0], vary=table + setting + [('p', 3, 12)], **at_six)
     sheet = plan_sheet(reaches, [0, 0, 0])
-    gr.case('read sheet', 3, sheet + [0], vary=table + [('n', 4, 11), (9, 4, 16), ('p', 3, 2)], **at_five)
-    lengths = [('k', 4, 4), ('x', 4, 4), ('y', 4, 4)]
+    gr.case('read sheet', 3, sheet + [0], vary=table + [('n', 4, 11), (9, 4, 16), ('p', 3, 2)], **at_six)
+    lengths = [('k', 4, 5), ('x', 4, 5), ('y', 4, 5)]
     gr.case('table', 3, vary=lengths)
     gr.case('first', 3, p=8, vary=lengths)
     gr.case('write network', 3, p=40, vary=lengths)
@@ -713,21 +752,21 @@ for title, reaches in TABLES:
 # ---- small networks of a fixed sequence, all different
 
 NUMBERS = Sequence(20261116)
-DRAWN = set()
+DRAWN = {}
 
 
 def are_new(networks):
-    """Whether these networks differ from each other and from all that were drawn, in more than the number of a two-way reach; they are drawn from now on."""
-    drawn = {(basins, tuple((min(k, T), a, b) for k, a, b in reaches)) for basins, reaches in networks}
-    if len(drawn) < len(networks) or drawn & DRAWN:
+    """Whether these networks differ from each other and from all that were drawn, in more than the number of a shut two-way reach; they are drawn from now on."""
+    drawn = {(basins, tuple((min(k, ST), a, b) for k, a, b in reaches)): reaches for basins, reaches in networks}
+    if len(drawn) < len(networks) or drawn.keys() & DRAWN.keys():
         return False
     DRAWN.update(drawn)
     return True
 
 
 def draw_reaches(basins, gates, size):
-    """Reaches of which so many are gated, the others flaps and two-way reaches of any number; places, kinds and ends by lot."""
-    kinds = [G] * gates + [(F, F, T, 3 + NUMBERS.below(253))[NUMBERS.below(4)] for _ in range(size - gates)]
+    """Reaches of which so many are gated, the others flaps, two-way reaches and shut ones of any number; places, kinds and ends by lot."""
+    kinds = [G] * gates + [(F, F, T, T, SHUT + NUMBERS.below(3), SHUT + NUMBERS.below(253))[NUMBERS.below(6)] for _ in range(size - gates)]
     for i in reversed(range(size)):
         j = NUMBERS.below(i + 1)
         kinds[i], kinds[j] = kinds[j], kinds[i]
@@ -761,7 +800,7 @@ def some_settings(g):
 for basins, g in product(range(1, 7), range(11)):
     numbers = outcomes(basins, g)
     reaches = draw_network(basins, g, numbers[(basins + g) % len(numbers)])
-    gr = group('%d basins, %s' % (basins, ' '.join('%s%d-%d' % ('GFT'[min(k, 2)], a, b) for k, a, b in reaches) or 'no reach'), reaches)
+    gr = group('%d basins, %s' % (basins, letters(reaches)), reaches)
     zeros = [0] * g
     gr.case('first', basins, p=g)
     gr.case('check', basins, zeros, vary=settings(g))
@@ -788,81 +827,112 @@ for f, (basins, g) in enumerate(product(range(2, 7), range(11))):
     gr.case('step', basins, setting, p=g, vary=vary[-3:], mode=QUIET)
     gr.case('write reply', basins, p=40, mode=QUIET)
 
-# many more, 189 from each ten reaches: the first three of all kinds, and cut at four to ten; the sums of all their plans
+# many more, 168 from each ten reaches: the first two of all kinds, the first also shut of each, the second shut of number 255, and cut at four to ten;
+# the sums of all their plans
 
 def draw_base(basins):
     """Ten reaches from which only new networks are so made."""
     while True:
-        base = draw_reaches(basins, 0, 3) + draw_reaches(basins, NUMBERS.below(8), 7)
-        varied = [tuple((k, a, b) for k, (_, a, b) in zip(kinds, base)) + base[3:] for kinds in product((G, F, T), repeat=3)]
+        base = draw_reaches(basins, 0, 2) + draw_reaches(basins, NUMBERS.below(9), 8)
+        varied = [tuple((k, a, b) for k, (_, a, b) in zip(kinds, base)) + base[2:] for kinds in product(range(6), (255, G, F, T))]
         if are_new([(basins, reaches[:cut]) for reaches in varied for cut in range(4, 11)]):
             return base
 
 
-gr = group('tables of ten reaches, the first three of all kinds, cut at four to ten reaches', [])
+gr = group('tables of ten reaches, the first two of all kinds and shut, cut at four to ten reaches', [])
 for basins in range(2, 7):
-    for _ in range(22):
-        gr.case('walk', basins, table_bytes(draw_base(basins)), p=10, k=0, x=10, y=10, limit=1100, vary=[('k', 7, 4), (2, 3, 0), (3, 3, 0), (4, 3, 0)],
+    for _ in range(25):
+        gr.case('walk', basins, table_bytes(draw_base(basins)), p=10, k=0, x=10, y=10, limit=1100, vary=[('k', 7, 4), (2, 6, 0), (3, 4, 255)],
                 mode=QUIET, listed=True, name='%d basins' % basins)
 
 
-# all are different, and each shape came often
+# all are different, and each shape and each state came often
+
+def served(reaches):
+    """The reaches in service alone."""
+    return tuple(r for r in reaches if r[0] < SHUT)
+
+
+def put_back(reaches):
+    """The same with no reach shut."""
+    return tuple((k % SHUT if k <= ST else T, a, b) for k, a, b in reaches)
+
 
 def traits(basins, reaches):
-    joins = [frozenset((a, b)) for _, a, b in reaches if a != b]
-    return ['%d basins' % basins, '%d gates' % gates_of(reaches), 'reply %d' % outcome(basins, reaches)] + ['first %d' % k for k, _, _ in reaches[:1]] + \
-        ['loops' if len(joins) < len(reaches) else 'no loops', 'parallel' if len(set(joins)) < len(joins) else 'not parallel']
+    joins = [frozenset((a, b)) for _, a, b in served(reaches) if a != b]
+    reply = outcome(basins, reaches)
+    return ['%d basins' % basins, '%d gates' % gates_of(reaches), 'reply %d' % reply] + ['first %d' % k for k, _, _ in reaches[:1]] + \
+        ['loops' if len(joins) < len(served(reaches)) else 'no loops', 'parallel' if len(set(joins)) < len(joins) else 'not parallel'] + \
+        ['some %d' % k for k in {min(k, 6) for k, _, _ in reaches}] + ['%d shut' % min(len(reaches) - len(served(reaches)), 3)] + \
+        ['%d by shutting' % reply] * (outcome(basins, put_back(reaches)) != reply)
 
 
 def often(least, *names):
     return all(CAME[name] >= least for name in names)
 
 
-CAME = Counter(name for drawn in DRAWN for name in traits(*drawn))
-assert len(DRAWN) == 66 + 20 * 55 + 189 * 110
+CAME = Counter(name for (basins, _), reaches in DRAWN.items() for name in traits(basins, reaches))
+assert len(DRAWN) == 66 + 20 * 55 + 168 * 125
 assert often(100, *('%d gates' % g for g in range(11))) and often(4000, *('%d basins' % n for n in range(2, 7))) and often(11, '1 basins')
-assert often(3000, 'reply 0', 'reply 9', 'reply 10', 'loops', 'no loops', 'parallel', 'not parallel') and often(7000, 'first 0', 'first 1', 'first 2')
+assert often(3000, 'reply 0', 'reply 9', 'reply 10', 'loops', 'no loops', 'parallel', 'not parallel', *('first %d' % k for k in range(6)))
+assert often(5000, *('some %d' % k for k in range(7))) and often(3000, *('%d shut' % n for n in range(4))) and often(1000, '9 by shutting', '10 by shutting')
 
 
 # ---- all networks of a few reaches: their plans in order
 
-def networks(basins, size, mode):
+def networks(basins, size, kinds, mode):
     ends = 2 + size
-    vary = [v for i in range(size) for v in ((2 + i, 3, 0), (ends + 4 * i, basins, 0), (ends + 2 + 4 * i, basins, 0))]
+    vary = [v for i in range(size) for v in ((2 + i, kinds, 0), (ends + 4 * i, basins, 0), (ends + 2 + 4 * i, basins, 0))]
     gr.case('walk', basins, table_bytes([(G, 0, 0)] * size), p=size, k=size, x=size, y=size, limit=1100, vary=vary, mode=mode, listed=True,
-            name='%d basins, %d reaches' % (basins, size))
+            name='%d basins, %d reaches of kinds below %d' % (basins, size, kinds))
 
 
 gr = group('all networks of a few reaches', [])
-for basins, size, mode in ((2, 1, BRIEF), (2, 2, BRIEF), (3, 1, BRIEF), (3, 2, BRIEF), (2, 3, QUIET), (3, 3, QUIET)):
-    networks(basins, size, mode)
+for basins, size, kinds, mode in ((2, 1, 6, BRIEF), (2, 2, 6, BRIEF), (3, 1, 6, BRIEF), (3, 2, 6, BRIEF), (2, 3, 6, QUIET), (3, 3, 3, QUIET)):
+    networks(basins, size, kinds, mode)
 
 
 # ---- network files
 
 SMALL = network_file(3, [(G, 0, 1), (F, 1, 2), (T, 2, 0)])
+FLAP_SHUT = network_file(3, [(G, 0, 1), (SF, 1, 2), (T, 2, 0)])
+ALL_SHUT = network_file(3, [(SG, 0, 1), (SF, 1, 2), (ST, 2, 0)])
 ROWS = dict(k=15, x=15, y=15)
-gr = group('network files: three basins, a reach of each kind', [])
-gr.case('read network', 0, SMALL, k=3, x=4, y=5)
-gr.case('read network', 0, SMALL, vary=[('n', 20, 0)], **ROWS)
-gr.case('read network', 0, SMALL, vary=[('k', 5, 0), ('x', 5, 0), ('y', 5, 0)])
-gr.case('read network', 0, SMALL + [0], vary=[(19, 256, 0)], **ROWS)
-for place in range(len(SMALL)):
-    gr.case('read network', 0, SMALL + [0], vary=[('n', 21, 0), (place, 256, 0)], name='read network, each value at %d' % place, **ROWS)
-    gr.case('read network', 0, SMALL, vary=[('k', 2, 2), ('x', 2, 2), ('y', 2, 2), (place, 256, 0)], name='rows too short, each value at %d' % place,
+gr = group('network files: three basins, three reaches, some of them shut', [])
+for small in (SMALL, FLAP_SHUT, ALL_SHUT):
+    gr.case('read network', 0, small, k=3, x=4, y=5)
+    gr.case('read network', 0, small, vary=[('n', len(small) + 1, 0)], **ROWS)
+    gr.case('read network', 0, small, vary=[('k', 5, 0), ('x', 5, 0), ('y', 5, 0)])
+    gr.case('read network', 0, small + [0], vary=[(len(small), 256, 0)], **ROWS)
+    gr.case('list', 0, small, p=40, vary=[('n', len(small) + 1, 0)])
+    gr.case('list', 0, small, p=40, vary=[(1, 3, 1), (3, 5, 1), (len(small) - 1, 2, 8)])
+assert FLAP_SHUT[8] == 5 and FLAP_SHUT[13] == 3
+gr.case('read network', 0, FLAP_SHUT, vary=[('n', 6, 9), (8, 4, 2), (9, 5, 0), (11, 5, 0), (13, 8, 0)], name='read network, kinds, ends, and kinds to go back to', **ROWS)
+gr.case('read network', 0, FLAP_SHUT, vary=[(9, 2, 2), (12, 2, 0), (13, 256, 0)], name='read network, each kind to go back to', **ROWS)
+gr.case('list', 0, FLAP_SHUT, p=40, vary=[(9, 2, 2), (13, 6, 0)])
+for place in range(len(FLAP_SHUT)):
+    gr.case('read network', 0, FLAP_SHUT + [0], vary=[('n', 22, 0), (place, 256, 0)], name='read network, each value at %d' % place, **ROWS)
+    gr.case('read network', 0, FLAP_SHUT, vary=[('k', 2, 2), ('x', 2, 2), ('y', 2, 2), (place, 256, 0)], name='rows too short, each value at %d' % place,
             k=15, x=15, y=15)
 gr.case('read network', 0, [1, 0, 0, 9], vary=[(2, 256, 0), (1, 256, 0)], name='read network, each basin count', **ROWS)
 gr.case('read network', 0, [1, 4, 0, 2, 0, 0, 3, 0, 9], vary=[(5, 256, 0), (4, 256, 0)], name='read network, each end A', **ROWS)
-gr.case('read network', 0, [1, 4, 0, 3, 3, 0, 0, 0, 9], vary=[(7, 256, 0), (6, 256, 0)], name='read network, each end B', **ROWS)
-gr.case('list', 0, SMALL, p=40, vary=[('n', 20, 0)])
-gr.case('list', 0, SMALL, p=40, vary=[(1, 3, 1), (3, 4, 1), (18, 2, 8)])
+gr.case('read network', 0, [1, 4, 0, 5, 3, 0, 0, 0, 3, 9], vary=[(7, 256, 0), (6, 256, 0)], name='read network, each end B of a shut reach', **ROWS)
 for p in (0, 1, 5, 6, 7):
     gr.case('list', 0, network_file(2, [(G, 0, 1), (G, 0, 1)]), p=p)
 
-many = [(i % 3, i % 4, i // 4 % 4) for i in range(1024)]
-file = network_file(4, many)[:-1] + [2, 3, 0, 0, 0, 9]
-gr = group('network files: 1,024 reaches, then each kind byte', [])
-gr.case('read network', 0, file, n=5123, k=1024, x=1024, y=1024, vary=[('k high', 2, 3), (5124, 2, 3), ('n', 7, 3), (5123, 256, 0)])
+MOST = dict(k=1024, x=1024, y=1024)
+many = [(i % 6, i % 4, i // 4 % 4) for i in range(1024)]
+file = network_file(4, many)[:-1] + [5, 3, 0, 0, 0, 2, 9]
+after = len(file) - 7
+gr = group('network files: 1,024 reaches, of which 511 are shut, then one more', [])
+gr.case('read network', 0, file, n=after, vary=[('k high', 2, 3), (after + 1, 2, 3), ('n', 8, after % 256), (after, 256, 0)], name='each kind', **MOST)
+gr.case('read network', 0, file, n=after, vary=[(after + 1, 2, 3), ('n', 2, after % 256 + 5), (after + 5, 256, 0)], name='each kind to go back to', **MOST)
+
+longest = network_file(4, [(SHUT + k % 3, a, b) for k, a, b in many])
+assert len(longest) == 6148
+gr = group('network files: 1,024 shut reaches', [])
+gr.case('read network', 0, longest + [9], n=6147, vary=[('n', 3, 3), ('k high', 2, 3)], **MOST)
+gr.case('list', 0, longest + [9], n=6147, p=20, vary=[('n', 3, 3)])
 
 
 # ---- listings
@@ -887,6 +957,8 @@ assert len(network(7, tuple(thousand)).plans) == 1000 and len(network(6, tuple(o
 gr = group('listings', [])
 listed('512 plans', 1, [(G, 0, 0)] * 9 + [(T, 0, 0)])
 listed('1,000 plans', 7, thousand)
+listed('1,000 plans, and every reach again, shut', 7, [(k, a, b) for k, a, b in thousand for k in (SHUT + k, k)])
+listed('1,024 reaches in one basin, all but one shut', 1, [(SHUT + i % 3, 0, 0) for i in range(1023)] + [(G, 0, 0)])
 listed('1,001 plans', 6, one_more)
 listed('1,024 plans', 1, [(G, 0, 0)] * 10)
 listed('a 16 by 16 grid', 256, grid)
@@ -908,7 +980,7 @@ assert Out.listed >= {'end\n', 'more\n'} | {'refused %d\n' % number for number i
 reaches = TABLES[0][1]
 sheet = plan_sheet(reaches, [0, 0, 0])
 kinds = [(3, 2, 17), (6, 2, 17), (9, 2, 17)]
-gr = group('sheets: three basins, G 0-1, F 0-1, T 1-2, G 1-2, G 2-0', reaches)
+gr = group('sheets: three basins, ' + letters(reaches), reaches)
 gr.case('read sheet', 3, sheet, p=3)
 gr.case('read sheet', 3, sheet, p=3, vary=kinds)
 gr.case('read sheet', 3, sheet + [0], p=3, vary=[('n', 15, 0)] + kinds)
@@ -937,7 +1009,7 @@ def main():
         tables += g.table
     cases = [x for g, place in zip(GROUPS, places) for x in g.bytes(place)]
     file = bytes(two(sum(len(g.cases) for g in GROUPS)) + two((4 + len(tables)) // 2) + tables + cases)
-    assert len(file) <= 260000          # the program reads no more
+    assert len(file) <= 280000          # the program reads no more
     with open(os.path.join(here, 'stdin'), 'wb') as f:
         f.write(file)
     with open(os.path.join(here, 'stdout'), 'w') as f:

@@ -2,11 +2,12 @@
 -- Assumes nothing.
 use Prim.Native.Nat.{ℕ, zero, suc, _+_, _≤_, _<_}
 use native.Mathlib.Omega.{arith}
-use mathlib.Core.Path.{_≡_, refl}
+use mathlib.Core.Path.{_≡_, refl, ap, _∙_}
 use mathlib.Core.Bool.{true}
 use mathlib.Core.List.{List, [], _∷_, _++_}
 use mathlib.Core.Option.{none, some}
-use lib.ListN.{length, getD, take, drop}
+use lib.ListN.{length, getD, take, drop, length-drop}
+use lib.Seq.{drop-drop}
 use lib.Pow.{areBytes}
 use lib.Dec.{ltb, leb}
 use borrow.Author.Tests.{ne-eqb, ltb-true, leb-true, lt-ltb}
@@ -51,13 +52,19 @@ pub bytes-make : (f : List ℕ) → ((i : ℕ) → getD f i 0 < 256) → areByte
 bytes-make [] h = refl
 bytes-make (x ∷ f) h = and-intro (lt-ltb x 256 (h 0)) (bytes-make f (λ i. h (suc i)))
 
+-- two bytes are those of the value that they are read as
+pub two-again : (f : List ℕ) → areBytes f ≡ true → 2 ≤ length f → f ≡ twoBytes (wordOf (take 2 f)) ++ drop 2 f
+two-again [] b l = absurd (omega arith)
+two-again (x ∷ []) b l = absurd (omega arith)
+two-again (x ∷ y ∷ f) b l =
+    let p : x < 256 = byte-at (x ∷ y ∷ f) 0 b (omega arith) in
+    cc (low-byte x y p, high-byte x y p)
+
 -- three bytes are the kind and the value that they are read as
 pub three-again :
     (k : ℕ) (f rest : List ℕ) → areBytes f ≡ true → 3 ≤ length f → f ≡ k ∷ drop 1 f → drop 3 f ≡ rest
     → f ≡ k ∷ (twoBytes (wordOf (take 2 (drop 1 f))) ++ rest)
-three-again k [] rest b l s e = absurd (omega arith)
-three-again k (x ∷ []) rest b l s e = absurd (omega arith)
-three-again k (x ∷ x1 ∷ []) rest b l s e = absurd (omega arith)
-three-again k (x ∷ x1 ∷ x2 ∷ f) rest b l s e =
-    let p : x1 < 256 = byte-at (x ∷ x1 ∷ x2 ∷ f) 1 b (omega arith) in
-    cc (low-byte x1 x2 p, high-byte x1 x2 p)
+three-again k f rest b l s e =
+    s
+    ∙ ap (λ g. k ∷ g)
+    (two-again (drop 1 f) (bytes-drop 1 f b) (omega (arith, length-drop 1 f)) ∙ ap (λ g. twoBytes (wordOf (take 2 (drop 1 f))) ++ g) (drop-drop 2 1 f ∙ e))

@@ -1,56 +1,68 @@
--- The kinds that may come in a network file, and their bodies.
+-- The kinds that may come in a network file, their bodies, and the inner kinds of shut reaches.
 -- Assumes nothing.
-use Prim.Native.Nat.{ℕ, zero, suc, _≤_}
+use Prim.Native.Nat.{ℕ, zero, suc, _-_, _≤_}
 use native.Mathlib.Omega.{arith}
-use mathlib.Core.Path.{_≡_, refl}
-use mathlib.Core.Bool.{true, or-false}
+use mathlib.Core.Path.{_≡_, refl, subst⁻¹}
+use mathlib.Core.Bool.{true, false, or-false, false≢true}
+use mathlib.Core.List.{List, [], _∷_}
 use mathlib.Core.Option.{some}
-use mathlib.Core.Logic.{_⊎_, inl, inr, ⊎-elim}
+use mathlib.Core.Logic.{⊎-elim}
 use lib.Dec.{eqb}
 use borrow.Author.Tests.{eqb-true}
+use mathlib.Mathlib.Data.Bool.Basic.{bool-eq-false}
 use Rattle.lists.specs.Lists.{elem}
 use Rattle.lists.proofs.Bools.{or-cases}
 use Rattle.file_records.specs.Records.{bodyOf}
-use Rattle.netfile_format.specs.Files.{reachKind, recordKind, headDue, reachDue}
+use Rattle.netfile_format.specs.Files.{reachKind, reachKinds, recordKind, headDue, reachDue}
+use Rattle.netfile_format.specs.Answers.{recordLength}
 
--- the kinds of a reach
-abbrev pub Reaching : ℕ → Type 0
-Reaching k = (2 ≤ k) × (k ≤ 4)
+-- what holds of each number of a list holds of every number in it
+abbrev Each : (ℕ → Type 0) → List ℕ → Type 0
+Each P [] = Unit {0}
+Each P (x ∷ xs) = P x × Each P xs
 
--- what holds of each of them
-of-reach : (P : ℕ → Type 0) → P 2 → P 3 → P 4 → (k : ℕ) → Reaching k → P k
-of-reach P p q r zero h = absurd (omega arith)
-of-reach P p q r (suc zero) h = absurd (omega arith)
-of-reach P p q r (suc (suc zero)) h = p
-of-reach P p q r (suc (suc (suc zero))) h = q
-of-reach P p q r (suc (suc (suc (suc zero)))) h = r
-of-reach P p q r (suc (suc (suc (suc (suc k))))) h = absurd (omega arith)
+of-elem : (P : ℕ → Type 0) (xs : List ℕ) → Each P xs → (k : ℕ) → elem k xs ≡ true → P k
+of-elem P [] h k e = absurd (false≢true e)
+of-elem P (x ∷ xs) h k e = ⊎-elim (λ q. subst⁻¹ P (eqb-true k x q) (h .0)) (λ q. of-elem P xs (h .1) k q) (or-cases (eqb k x) _ e)
 
--- what may come after the head is a reach or the end
-comes-inside : (k : ℕ) → elem k reachDue ≡ true → Reaching k ⊎ (k ≡ 9)
-comes-inside k h =
-    ⊎-elim (λ e. let q = eqb-true k 2 e in inl (omega arith)) (λ h2.
-    ⊎-elim (λ e. let q = eqb-true k 3 e in inl (omega arith)) (λ h3.
-    ⊎-elim (λ e. let q = eqb-true k 4 e in inl (omega arith)) (λ h4. inr (eqb-true k 9 (rw or-false at h4)))
-    (or-cases (eqb k 4) _ h3))
-    (or-cases (eqb k 3) _ h2))
-    (or-cases (eqb k 2) _ h)
+-- what may come after the head and is not the end is a reach
+pub record Reaching (k : ℕ) : Type 0 where
+  pub comes : elem k reachDue ≡ true
+  pub no-end : k ≡ 9 → ⊥
 
-pub reaching : (k : ℕ) → (k ≡ 9 → ⊥) → elem k reachDue ≡ true → Reaching k
-reaching k q h = ⊎-elim (λ r. r) (λ e. absurd (q e)) (comes-inside k h)
+-- what holds of the kinds of a reach, in service and shut
+pub of-reach : (P : ℕ → Type 0) → P 2 → P 3 → P 4 → P 5 → (k : ℕ) → Reaching k → P k
+of-reach P p q r s k h = of-elem (λ k. (k ≡ 9 → ⊥) → P k) reachDue (λ _. p, (λ _. q, (λ _. r, (λ _. s, (λ n. absurd (n refl), tt))))) k (h .comes) (h .no-end)
 
 -- where the head is due only it may come
 pub comes-first : (k : ℕ) → elem k headDue ≡ true → k ≡ 1
 comes-first k h = eqb-true k 1 (rw or-false at h)
 
-pub body-reach : (k : ℕ) → Reaching k → bodyOf k ≡ some 4
+pub body-reach : (k : ℕ) → Reaching k → bodyOf k ≡ some (recordLength k - 1)
 unfolding bodyOf
-body-reach = of-reach (λ k. bodyOf k ≡ some 4) refl refl refl
+body-reach = of-reach (λ k. bodyOf k ≡ some (recordLength k - 1)) refl refl refl refl
 
 pub body-head : bodyOf 1 ≡ some 2
 unfolding bodyOf
 body-head = refl
 
+-- ---- the kinds of reaches in service, which are the inner kinds of shut ones
+
 -- the kind byte of the kind that a kind byte means
-pub kind-byte : (k : ℕ) → Reaching k → reachKind (recordKind k) ≡ k
-kind-byte = of-reach (λ k. reachKind (recordKind k) ≡ k) refl refl refl
+pub kind-byte : (k : ℕ) → elem k reachKinds ≡ true → reachKind (recordKind k) ≡ k
+kind-byte = of-elem (λ k. reachKind (recordKind k) ≡ k) reachKinds (refl, (refl, (refl, tt)))
+
+pub kind-known : (k : ℕ) → 2 ≤ k → k ≤ 4 → elem k reachKinds ≡ true
+kind-known zero p q = absurd (omega arith)
+kind-known (suc zero) p q = absurd (omega arith)
+kind-known (suc (suc zero)) p q = refl
+kind-known (suc (suc (suc zero))) p q = refl
+kind-known (suc (suc (suc (suc zero)))) p q = refl
+kind-known (suc (suc (suc (suc (suc k))))) p q = absurd (omega arith)
+
+pub kind-unknown : (k : ℕ) → (2 ≤ k → k ≤ 4 → ⊥) → elem k reachKinds ≡ false
+kind-unknown k n =
+    bool-eq-false {b = elem k reachKinds}
+    (λ e.
+    let within = of-elem (λ k. (2 ≤ k) × (k ≤ 4)) reachKinds ((omega arith, omega arith), ((omega arith, omega arith), ((omega arith, omega arith), tt))) k e in
+    n (within .0) (within .1))

@@ -3,12 +3,12 @@
 use Prim.Native.Nat.{ℕ, suc, _+_, _-_, _≤_, _<_}
 use native.Mathlib.Omega.{arith}
 use mathlib.Core.Path.{_≡_, refl, sym, ap, _∙_}
-use mathlib.Core.Bool.{true, false}
+use mathlib.Core.Bool.{Bool, true, false}
 use mathlib.Core.List.{List, [], _∷_}
 use lib.ListN.{length, drop, length-drop, drop-of-length-le}
 use lib.Seq.{drop-drop}
 use Rattle.network.specs.declared.Refusal.{Refusal}
-use Rattle.network.specs.declared.Refusal.the-variants.{TooManyReaches, EndOutOfRange, TrailingBytes}
+use Rattle.network.specs.declared.Refusal.the-variants.{TooManyReaches, EndOutOfRange, UnknownKind, TrailingBytes}
 use Rattle.network.specs.declared.Reach.{Reach}
 use Rattle.network.specs.Networks.{maxReaches}
 use Rattle.network.proofs.Networks.{endsBelow}
@@ -17,8 +17,8 @@ use Rattle.file_records.specs.declared.Taken.the-variants.{Broken, Whole}
 use Rattle.netfile_format.specs.declared.ReadAnswer.{ReadAnswer}
 use Rattle.netfile_format.specs.declared.ReadAnswer.the-variants.{Refused, Read}
 use Rattle.file_records.specs.Records.{takeRecord, takenAnswer}
-use Rattle.netfile_format.specs.Files.{reachDue, Reading, refused, read, atEnd, withReach, readReaches}
-use Rattle.netfile_format.specs.Answers.{readAnswer}
+use Rattle.netfile_format.specs.Files.{reachDue, Reading, refused, read, atEnd, goodInner, withReach, readReaches}
+use Rattle.netfile_format.specs.Answers.{readAnswer, recordLength}
 use Rattle.netfile_format.proofs.Steps.{reachFrom, step-broken, step-end, reach-at}
 
 -- a whole record of kind k stands at a position
@@ -82,34 +82,42 @@ module _ {n : ℕ} {file : List ℕ} {at i : ℕ} (s : FileScanned n file at i) 
     scan-end q l =
         ap (Read n) (omega arith) ∙ decides (read (record { basins = n; reaches = [] })) (ends q ∙ rw (drop-of-length-le file l))
 
-    pub scan-full : (k ≡ 9 → ⊥) → i ≡ maxReaches → Refused TooManyReaches ≡ readAnswer (readReaches n maxReaches (drop 3 file))
-    scan-full q h =
-        let none : maxReaches - i ≡ 0 = omega arith in
-        decides (refused TooManyReaches) (rw none (reach-at n file at k e q .full))
+    -- the inner kind, which only a shut reach has
+    abbrev inner : Bool
+    inner = goodInner k (drop (at + 1) file)
 
-    module _ (q : k ≡ 9 → ⊥) (h : i ≡ maxReaches → ⊥) where
-      more : maxReaches - i ≡ suc (maxReaches - (i + 1))
-      more = let few = s .few in omega arith
+    pub scan-unknown : (k ≡ 9 → ⊥) → inner ≡ false → Refused UnknownKind ≡ readAnswer (readReaches n maxReaches (drop 3 file))
+    scan-unknown q g = decides (refused UnknownKind) (reach-at n file at k e q .unknown (maxReaches - i) g)
 
-      abbrev passed : Reach
-      passed = reachFrom k (drop (at + 1) file) (drop (at + 3) file)
+    module _ (q : k ≡ 9 → ⊥) (g : inner ≡ true) where
+      pub scan-full : i ≡ maxReaches → Refused TooManyReaches ≡ readAnswer (readReaches n maxReaches (drop 3 file))
+      scan-full h =
+          let none : maxReaches - i ≡ 0 = omega arith in
+          decides (refused TooManyReaches) (rw none (reach-at n file at k e q .full g))
 
-      pub scan-stray : (passed .a < n → passed .b < n → ⊥) → Refused EndOutOfRange ≡ readAnswer (readReaches n maxReaches (drop 3 file))
-      scan-stray o =
-          decides (refused EndOutOfRange)
-          (rw more (reach-at n file at k e q .next (maxReaches - (i + 1)) ∙ rw (one-bad n passed o)))
+      module _ (h : i ≡ maxReaches → ⊥) where
+        more : maxReaches - i ≡ suc (maxReaches - (i + 1))
+        more = let few = s .few in omega arith
 
-      goes-on :
-          passed .a < n → passed .b < n
-          → readReaches n (maxReaches - i) (drop at file) ≡ withReach passed (readReaches n (maxReaches - (i + 1)) (drop (at + 5) file))
-      goes-on la lb = rw more (reach-at n file at k e q .next (maxReaches - (i + 1)) ∙ rw (one-good n passed la lb))
+        abbrev passed : Reach
+        passed = reachFrom k (drop (at + 1) file) (drop (at + 3) file)
 
-      pub scan-next : passed .a < n → passed .b < n → FileScanned n file (at + 5) (i + 1)
-      scan-next la lb =
-          record {
-            below = reach-at n file at k e q .fits;
-            few = let few = s .few in omega arith;
-            reading =
-                sym (decides (withReach passed (readReaches n (maxReaches - (i + 1)) (drop (at + 5) file))) (goes-on la lb))
-                ∙ counted-one i passed (readReaches n (maxReaches - (i + 1)) (drop (at + 5) file));
-          }
+        pub scan-stray : (passed .a < n → passed .b < n → ⊥) → Refused EndOutOfRange ≡ readAnswer (readReaches n maxReaches (drop 3 file))
+        scan-stray o =
+            decides (refused EndOutOfRange)
+            (rw more (reach-at n file at k e q .next (maxReaches - (i + 1)) g ∙ rw (one-bad n passed o)))
+
+        goes-on :
+            passed .a < n → passed .b < n
+            → readReaches n (maxReaches - i) (drop at file) ≡ withReach passed (readReaches n (maxReaches - (i + 1)) (drop (at + recordLength k) file))
+        goes-on la lb = rw more (reach-at n file at k e q .next (maxReaches - (i + 1)) g ∙ rw (one-good n passed la lb))
+
+        pub scan-next : passed .a < n → passed .b < n → FileScanned n file (at + recordLength k) (i + 1)
+        scan-next la lb =
+            record {
+              below = reach-at n file at k e q .fits;
+              few = let few = s .few in omega arith;
+              reading =
+                  sym (decides (withReach passed (readReaches n (maxReaches - (i + 1)) (drop (at + recordLength k) file))) (goes-on la lb))
+                  ∙ counted-one i passed (readReaches n (maxReaches - (i + 1)) (drop (at + recordLength k) file));
+            }

@@ -1,25 +1,26 @@
 -- One record after the head: what it does to the reading of a file.
 -- Assumes nothing.
-use Prim.Native.Nat.{ℕ, zero, suc, _+_, _≤_}
+use Prim.Native.Nat.{ℕ, zero, suc, _+_, _-_, _≤_}
 use native.Mathlib.Omega.{arith}
 use mathlib.Core.Path.{_≡_, refl, sym, ap, _∙_}
-use mathlib.Core.Bool.{cond}
+use mathlib.Core.Bool.{true, false, cond}
 use mathlib.Core.List.{List, [], _∷_}
-use lib.ListN.{length, take, drop, length-drop}
-use lib.Seq.{take-take, drop-drop}
+use lib.ListN.{length, getD, take, drop, length-drop}
+use lib.Seq.{take-nil, take-take, drop-drop, getD-take}
 use borrow.Author.Tests.{ne-eqb}
 use Rattle.network.specs.declared.Reach.{Reach}
 use Rattle.network.specs.declared.Refusal.{Refusal}
-use Rattle.network.specs.declared.Refusal.the-variants.{BasinCount, TooManyReaches, EndOutOfRange}
+use Rattle.network.specs.declared.Refusal.the-variants.{BasinCount, TooManyReaches, EndOutOfRange, UnknownKind}
 use Rattle.network.specs.Networks.{maxBasins, maxReaches}
 use Rattle.lists.specs.Words.{wordOf}
 use Rattle.network.proofs.Networks.{endsBelow}
 use Rattle.tables.proofs.Faults.{count-good, count-bad}
 use Rattle.file_records.specs.declared.Taken.the-variants.{Broken, Whole}
 use Rattle.file_records.specs.Records.{bodyOf, broken, whole, takeRecord, takenAnswer}
-use Rattle.netfile_format.specs.Files.{headDue, reachDue, recordKind, recordReach, refused, atEnd, withReach, readReaches, readBasins, readFile}
+use Rattle.netfile_format.specs.Files.{headDue, reachDue, recordState, goodInner, recordReach, refused, atEnd, withReach, readReaches, readBasins, readFile}
+use Rattle.netfile_format.specs.Answers.{recordLength, reachAtFront}
 use Rattle.file_records.proofs.Taking.{broken-is, Stands, stands, same-size}
-use Rattle.netfile_format.proofs.Marking.{reaching, comes-first, body-reach, body-head}
+use Rattle.netfile_format.proofs.Marking.{Reaching, of-reach, comes-first, body-reach, body-head}
 use Rattle.file_records.proofs.Records.{body-end}
 
 module _ (n : ℕ) (left : ℕ) (f : List ℕ) where
@@ -51,69 +52,115 @@ module _ (n : ℕ) (left : ℕ) (f : List ℕ) where
       go zero = rw is
       go (suc left) = rw is
 
--- the reach whose kind byte is k, its ends at the front of the bytes x and y
+-- the reach whose kind byte is k, its ends at the front of the bytes x and y; a shut one has its inner kind behind its ends
 abbrev pub reachFrom : ℕ → List ℕ → List ℕ → Reach
-reachFrom k x y = record { kind = recordKind k; a = wordOf (take 2 x); b = wordOf (take 2 y) }
+reachFrom k x y = record { state = recordState k x; a = wordOf (take 2 x); b = wordOf (take 2 y) }
 
-after-two : (f : List ℕ) → drop 2 (take 4 f) ≡ take 2 (drop 2 f)
-after-two [] = refl
-after-two (x ∷ []) = refl
-after-two (x ∷ y ∷ f) = refl
+pub front-ends : (f : List ℕ) → reachAtFront f ≡ reachFrom (getD f 0 0) (drop 1 f) (drop 3 f)
+front-ends f = rw (drop-drop 2 1 f)
 
--- the reach of a body of four bytes
-pub reach-in : (k : ℕ) (f : List ℕ) → recordReach k (take 4 (drop 1 f)) ≡ reachFrom k (drop 1 f) (drop 3 f)
-reach-in k f = rw (take-take 2 4 (drop 1 f) (omega arith), after-two (drop 1 f), drop-drop 2 1 f)
+-- ---- a body is the front of what stands behind its kind byte
+
+after-two : (n : ℕ) (f : List ℕ) → drop 2 (take (suc (suc n)) f) ≡ take n (drop 2 f)
+after-two n [] = sym (take-nil n)
+after-two n (x ∷ []) = sym (take-nil n)
+after-two n (x ∷ y ∷ f) = refl
+
+-- it has both ends
+ends-in :
+    (k n : ℕ) (f : List ℕ) → 2 ≤ n → recordState k (take (suc (suc n)) (drop 1 f)) ≡ recordState k (drop 1 f)
+    → recordReach k (take (suc (suc n)) (drop 1 f)) ≡ reachFrom k (drop 1 f) (drop 3 f)
+ends-in k n f l e = rw (e, take-take 2 (suc (suc n)) (drop 1 f) (omega arith), after-two n (drop 1 f), take-take 2 n (drop 2 (drop 1 f)) l, drop-drop 2 1 f)
+
+-- what is read of it by its kind
+record BodyIn (f : List ℕ) (k : ℕ) : Type 0 where
+  pub reach : recordReach k (take (recordLength k - 1) (drop 1 f)) ≡ reachFrom k (drop 1 f) (drop 3 f)
+  pub inner : goodInner k (take (recordLength k - 1) (drop 1 f)) ≡ goodInner k (drop 1 f)
+  pub size : suc (recordLength k - 1) ≡ recordLength k
+  pub ends : 5 ≤ recordLength k
+
+body-in : (f : List ℕ) (k : ℕ) → Reaching k → BodyIn f k
+body-in f =
+    of-reach (BodyIn f)
+    (record { reach = ends-in 2 2 f (omega arith) refl; inner = refl; size = refl; ends = omega arith })
+    (record { reach = ends-in 3 2 f (omega arith) refl; inner = refl; size = refl; ends = omega arith })
+    (record { reach = ends-in 4 2 f (omega arith) refl; inner = refl; size = refl; ends = omega arith })
+    (record {
+      reach = ends-in 5 3 f (omega arith) (rw (getD-take 5 (drop 1 f) 4 0 (omega arith)));
+      inner = rw (getD-take 5 (drop 1 f) 4 0 (omega arith));
+      size = refl;
+      ends = omega arith;
+    })
 
 -- a reach stands at the front: it fits, and how the reading goes on
 pub record ReachStep (n : ℕ) (f : List ℕ) (k : ℕ) : Type 0 where
-  pub fits : 5 ≤ length f
-  pub full : readReaches n 0 f ≡ refused TooManyReaches
+  pub fits : recordLength k ≤ length f
+  pub ends-fit : 5 ≤ recordLength k
+  pub unknown : (left : ℕ) → goodInner k (drop 1 f) ≡ false → readReaches n left f ≡ refused UnknownKind
+  pub full : goodInner k (drop 1 f) ≡ true → readReaches n 0 f ≡ refused TooManyReaches
   pub next :
-      (left : ℕ)
+      (left : ℕ) → goodInner k (drop 1 f) ≡ true
       → let r = reachFrom k (drop 1 f) (drop 3 f) in
-      readReaches n (suc left) f ≡ cond (endsBelow n r) (withReach r (readReaches n left (drop 5 f))) (refused EndOutOfRange)
-
-pub reach-step :
-    (n : ℕ) (f : List ℕ) (k : ℕ) → 5 ≤ length f → takeRecord reachDue f ≡ whole k (take 4 (drop 1 f)) (drop 4 (drop 1 f)) → (k ≡ 9 → ⊥)
-    → ReachStep n f k
-unfolding readReaches
-reach-step n f k l t q =
-    record {
-      fits = l;
-      full = rw (t, ne-eqb k 9 q);
-      next =
-          λ left.
-          rw (t, ne-eqb k 9 q, drop-drop 4 1 f)
-          (ap (λ r. cond (endsBelow n r) (withReach r (readReaches n left (drop 5 f))) (refused EndOutOfRange)) (reach-in k f));
-    }
+      readReaches n (suc left) f ≡ cond (endsBelow n r) (withReach r (readReaches n left (drop (recordLength k) f))) (refused EndOutOfRange)
 
 pub reach-front : (n : ℕ) (f : List ℕ) (k : ℕ) → takenAnswer (takeRecord reachDue f) ≡ Whole k → (k ≡ 9 → ⊥) → ReachStep n f k
-reach-front n f k e q = reach-step n f k (omega (arith, s .long, four)) (rw four at (s .taken)) q
+unfolding readReaches
+reach-front n f k e q =
+    record {
+      fits = omega (arith, s .long, size, b .size);
+      ends-fit = b .ends;
+      unknown = unknown;
+      full = λ g. rw (t, ne-eqb k 9 q, b .inner, g);
+      next =
+          λ left g.
+          rw (t, ne-eqb k 9 q, b .inner, g, drop-drop (recordLength k - 1) 1 f, after)
+          (ap (λ r. cond (endsBelow n r) (withReach r (readReaches n left (drop (recordLength k) f))) (refused EndOutOfRange)) (b .reach));
+    }
   where
     s : Stands reachDue f k
     s = stands reachDue f k e
 
-    four : s .size ≡ 4
-    four = same-size (s .sized) (body-reach k (reaching k q (s .comes)))
+    reaches : Reaching k
+    reaches = record { comes = s .comes; no-end = q }
+
+    b : BodyIn f k
+    b = body-in f k reaches
+
+    size : s .size ≡ recordLength k - 1
+    size = same-size (s .sized) (body-reach k reaches)
+
+    t : takeRecord reachDue f ≡ whole k (take (recordLength k - 1) (drop 1 f)) (drop (recordLength k - 1) (drop 1 f))
+    t = rw size at (s .taken)
+
+    after : 1 + (recordLength k - 1) ≡ recordLength k
+    after = omega (arith, b .size)
+
+    unknown : (left : ℕ) → goodInner k (drop 1 f) ≡ false → readReaches n left f ≡ refused UnknownKind
+    unknown zero g = rw (t, ne-eqb k 9 q, b .inner, g)
+    unknown (suc left) g = rw (t, ne-eqb k 9 q, b .inner, g)
 
 -- the same at a position of a file
 pub record ReachAt (n : ℕ) (file : List ℕ) (at k : ℕ) : Type 0 where
-  pub fits : at + 5 ≤ length file
-  pub full : readReaches n 0 (drop at file) ≡ refused TooManyReaches
+  pub fits : at + recordLength k ≤ length file
+  pub ends-fit : 5 ≤ recordLength k
+  pub unknown : (left : ℕ) → goodInner k (drop (at + 1) file) ≡ false → readReaches n left (drop at file) ≡ refused UnknownKind
+  pub full : goodInner k (drop (at + 1) file) ≡ true → readReaches n 0 (drop at file) ≡ refused TooManyReaches
   pub next :
-      (left : ℕ)
+      (left : ℕ) → goodInner k (drop (at + 1) file) ≡ true
       → let r = reachFrom k (drop (at + 1) file) (drop (at + 3) file) in
       readReaches n (suc left) (drop at file)
-      ≡ cond (endsBelow n r) (withReach r (readReaches n left (drop (at + 5) file))) (refused EndOutOfRange)
+      ≡ cond (endsBelow n r) (withReach r (readReaches n left (drop (at + recordLength k) file))) (refused EndOutOfRange)
 
 pub reach-at :
     (n : ℕ) (file : List ℕ) (at k : ℕ) → takenAnswer (takeRecord reachDue (drop at file)) ≡ Whole k → (k ≡ 9 → ⊥)
     → ReachAt n file at k
 reach-at n file at k e q =
     record {
-      fits = omega (arith, simp length-drop at (r .fits));
-      full = r .full;
-      next = λ left. simp drop-drop at (r .next left);
+      fits = omega (arith, simp length-drop at (r .fits), r .ends-fit);
+      ends-fit = r .ends-fit;
+      unknown = λ left g. r .unknown left (simp drop-drop g);
+      full = λ g. r .full (simp drop-drop g);
+      next = λ left g. simp drop-drop at (r .next left (simp drop-drop g));
     }
   where
     r : ReachStep n (drop at file) k

@@ -1,23 +1,23 @@
 -- What the calls answer, and what they leave in the rows and buffers that they are lent.
 -- Assumes nothing.
-use Prim.Native.Nat.{ℕ, zero, suc, _+_, _*_, _≤_, min}
+use Prim.Native.Nat.{ℕ, zero, suc, _+_, _≤_, min}
 use mathlib.Core.Path.{_≡_}
 use mathlib.Core.Bool.{cond}
 use mathlib.Core.List.{List, [], _∷_, _++_, map}
 use mathlib.Core.Option.{Option}
-use lib.ListN.{length, getD, take, drop}
-use lib.Dec.{leb}
+use lib.ListN.{length, getD, drop}
+use lib.Dec.{leb, eqb}
 use Rattle.network.specs.declared.Reach.{Reach}
 use Rattle.network.specs.declared.Refusal.{Refusal}
 use Rattle.network.specs.declared.Refusal.the-variants.{ShortBuffer}
 use Rattle.network.specs.Networks.{Network, tableFault}
-use Rattle.network.specs.Tables.{kindNumber}
+use Rattle.network.specs.Tables.{stateNumber}
 use Rattle.network.specs.Replies.{refusalNumber, firstOf}
 use Rattle.netfile_format.specs.declared.ReadAnswer.{ReadAnswer}
 use Rattle.netfile_format.specs.declared.ReadAnswer.the-variants.{Refused, Read}
 use Rattle.file_records.specs.declared.WriteAnswer.{WriteAnswer}
 use Rattle.file_records.specs.Puts.{Wrote, roomFor}
-use Rattle.netfile_format.specs.Files.{recordReach, Reading, refused, read, readFile, fileOf}
+use Rattle.netfile_format.specs.Files.{shutKind, recordReach, Reading, refused, read, readFile, fileOf}
 
 -- The reader's answer: the refusal, or "the counts it read".
 abbrev pub readAnswer : Reading → ReadAnswer
@@ -49,7 +49,7 @@ reachesRead (read N) = N .reaches
 
 -- What writing a table leaves in the three rows: its numbers in the first entries; "all beyond is untouched".
 pub record RowsFilled (t : List Reach) (kinds a b kinds′ a′ b′ : List ℕ) : Type 0 where
-  pub kind-row : kinds′ ≡ map (λ r. kindNumber (r .kind)) t ++ drop (length t) kinds
+  pub kind-row : kinds′ ≡ map (λ r. stateNumber (r .state)) t ++ drop (length t) kinds
   pub a-row : a′ ≡ map (λ r. r .a) t ++ drop (length t) a
   pub b-row : b′ ≡ map (λ r. r .b) t ++ drop (length t) b
 
@@ -69,17 +69,26 @@ pub record ReadTable (file : List ℕ) (t : List Reach) (r : ReadAnswer) (t′ :
   pub number : readNumber r ≡ readingNumber (withRoom (length t) (readFile file))
   pub table : t′ ≡ leftIn (withRoom (length t) (readFile file)) t
 
+-- The length of a reach's record, by its kind byte.
+abbrev pub recordLength : ℕ → ℕ
+recordLength k = cond (eqb k shutKind) 6 5
+
 -- The reach of the record at the front of the bytes f, and those of the first n records.
 abbrev pub reachAtFront : List ℕ → Reach
-reachAtFront f = recordReach (getD f 0 0) (take 4 (drop 1 f))
+reachAtFront f = recordReach (getD f 0 0) (drop 1 f)
 
 abbrev pub reachesAt : ℕ → List ℕ → List Reach
 reachesAt zero f = []
-reachesAt (suc n) f = reachAtFront f ∷ reachesAt n (drop 5 f)
+reachesAt (suc n) f = reachAtFront f ∷ reachesAt n (drop (recordLength (getD f 0 0)) f)
+
+-- The length of the first n records.
+abbrev pub spanOf : ℕ → List ℕ → ℕ
+spanOf zero f = 0
+spanOf (suc n) f = recordLength (getD f 0 0) + spanOf n (drop (recordLength (getD f 0 0)) f)
 
 -- What the second pass asks: n records after the head, and room for them.
 pub record Fills (file : List ℕ) (n : ℕ) (kinds a b : List ℕ) : Type 0 where
-  pub records : 3 + 5 * n ≤ length file
+  pub records : 3 + spanOf n (drop 3 file) ≤ length file
   pub kind-room : n ≤ length kinds
   pub a-room : n ≤ length a
   pub b-room : n ≤ length b

@@ -12,10 +12,13 @@ pub const FLAP: u8 = 3;
 
 pub const TWO_WAY: u8 = 4;
 
+// A shut reach; the last byte of its body is the kind that it goes back to.
+pub const SHUT: u8 = 5;
+
 // The kinds that may come where the head is due, and after it.
 pub const HEAD_DUE: [u8; 1] = [HEAD];
 
-pub const REACH_DUE: [u8; 4] = [GATED, FLAP, TWO_WAY, END];
+pub const REACH_DUE: [u8; 5] = [GATED, FLAP, TWO_WAY, SHUT, END];
 
 // What a reader answers: a refusal, or the counts read.
 pub enum ReadAnswer {

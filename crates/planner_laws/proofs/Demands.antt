@@ -12,13 +12,13 @@ use Rattle.network.specs.declared.Refusal.{Refusal}
 use Rattle.network.specs.Networks.{Network, tableFault, Accepted}
 use Rattle.network.specs.Settings.{gateCount, isSetting, settingFault}
 use Rattle.network.specs.Marks.{markBytes}
-use Rattle.network.specs.Replies.{Outcome, plan, shutIn, lone, refused, shutInFinding, loneFinding, chosen, answer, nextAnswer, unless, roomFault, nextReply, planAfter}
-use Rattle.network.specs.Plans.{nextPlan}
+use Rattle.network.specs.Replies.{Outcome, plan, shutIn, lone, refused, shutInFinding, loneFinding, chosen, answer, firstAnswer, nextAnswer, unless, roomFault, firstReply, nextReply, planAfter}
+use Rattle.network.specs.Plans.{isPlan, firstPlan, nextPlan}
 use Rattle.network.proofs.Marks.{length-marks}
-use Rattle.network.proofs.Order.{setting-length, plan-setting, next-is-plan, next-is-later, next-is-earliest}
+use Rattle.network.proofs.Order.{setting-length, plan-setting, first-is-plan, next-is-plan, next-is-later, next-is-earliest}
 use Rattle.network.proofs.Replies.{Trichotomy, plans, no-way, one-bridge, trichotomy, unless-plan, next-given, last-plan, given-if-later, demand-3}
 use Rattle.replies.specs.declared.Answer.{Answer}
-use Rattle.replies.specs.Answers.{Replied, NextCall}
+use Rattle.replies.specs.Answers.{Replied, FirstCall, NextCall}
 use Rattle.walker.specs.declared.Stepped.{Stepped}
 use Rattle.walker.specs.Walkers.{settingIn, stepReply, Stepping}
 use Rattle.walker.proofs.Steps.{step-setting, step-rest}
@@ -47,19 +47,27 @@ read-back N (lone i m c) {marksBuffer} {plan′} {marks′} (sized-lone e) w =
     ∙ ap (λ (l : List ℕ). lone i l c) (take-at m (drop (length m) marksBuffer) markBytes e)
 read-back N (refused x) {plan′} {marks′} sized-refused w = ap (λ (y : Answer). readReply N y plan′ marks′) (w .reply)
 
--- what next replies has these lengths
-next-sized : (N : Network) → Accepted N → (s : List ℕ) → Sized N (nextAnswer N s)
-unfolding nextAnswer shutInFinding loneFinding
-next-sized N ok s = go (trichotomy N ok)
+-- what first and next reply has these lengths
+answer-sized : (N : Network) → Accepted N → (o : Option (List ℕ)) → ((p : List ℕ) → o ≡ some p → isPlan N p ≡ true) → Sized N (answer N o)
+unfolding shutInFinding loneFinding
+answer-sized N ok o h = go (trichotomy N ok)
   where
-    pick : (o : Option (List ℕ)) → nextPlan N s ≡ o → Sized N (chosen o)
+    pick : (x : Option (List ℕ)) → o ≡ x → Sized N (chosen x)
     pick none e = sized-refused
-    pick (some p) e = sized-plan (setting-length N p (plan-setting N p (next-is-plan N s e)))
+    pick (some p) e = sized-plan (setting-length N p (plan-setting N p (h p e)))
 
-    go : Trichotomy N → Sized N (answer N (nextPlan N s))
-    go (plans q e f) = subst⁻¹ (Sized N) (f (nextPlan N s)) (pick (nextPlan N s) refl)
-    go (no-way n k f) = subst⁻¹ (Sized N) (f (nextPlan N s)) (sized-shut (length-marks _))
-    go (one-bridge i e y k f) = subst⁻¹ (Sized N) (f (nextPlan N s)) (sized-lone (length-marks _))
+    go : Trichotomy N → Sized N (answer N o)
+    go (plans q e f) = subst⁻¹ (Sized N) (f o) (pick o refl)
+    go (no-way n k f) = subst⁻¹ (Sized N) (f o) (sized-shut (length-marks _))
+    go (one-bridge i e y k f) = subst⁻¹ (Sized N) (f o) (sized-lone (length-marks _))
+
+first-sized : (N : Network) → Accepted N → Sized N (firstAnswer N)
+unfolding firstAnswer
+first-sized N ok = answer-sized N ok (firstPlan N) (λ p e. first-is-plan N e)
+
+next-sized : (N : Network) → Accepted N → (s : List ℕ) → Sized N (nextAnswer N s)
+unfolding nextAnswer
+next-sized N ok s = answer-sized N ok (nextPlan N s) (λ p e. next-is-plan N s e)
 
 unless-sized : (N : Network) (f : Option Refusal) {o : Outcome} → (f ≡ none → Sized N o) → Sized N (unless f o)
 unless-sized N none h = h refl
@@ -69,6 +77,15 @@ reply-sized : (N : Network) (s : List ℕ) (planLength marksLength : ℕ) → Si
 unfolding nextReply
 reply-sized N s planLength marksLength =
     unless-sized N (tableFault N) (λ ok. unless-sized N (settingFault N s) (λ fits. unless-sized N (roomFault N planLength marksLength) (λ room. next-sized N ok s)))
+
+first-reply-sized : (N : Network) (planLength marksLength : ℕ) → Sized N (firstReply N planLength marksLength)
+unfolding firstReply
+first-reply-sized N planLength marksLength = unless-sized N (tableFault N) (λ ok. unless-sized N (roomFault N planLength marksLength) (λ room. first-sized N ok))
+
+-- what a caller of first reads is the reply of the definition, whatever the input
+pub first-read :
+    (N : Network) {planBuffer marksBuffer plan′ marks′ : List ℕ} {r : Answer} → FirstCall N planBuffer marksBuffer r plan′ marks′ → readReply N r plan′ marks′ ≡ firstReply N (length planBuffer) (length marksBuffer)
+first-read N {planBuffer} {marksBuffer} = read-back N (firstReply N (length planBuffer) (length marksBuffer)) (first-reply-sized N (length planBuffer) (length marksBuffer))
 
 module _ (N : Network) (s : List ℕ) {planBuffer marksBuffer : List ℕ} where
   -- what a caller of next reads is the reply of the definition, whatever the input
