@@ -4,12 +4,15 @@ use Prim.Native.Nat.{ℕ}
 use mathlib.Core.List.{List, [], _∷_, _++_}
 use lib.ListN.{replicate}
 
--- a record of a gated reach, a flap and a two-way reach between basins below 256
+-- a record of a gated reach, a flap and a shut reach with its inner kind, between basins below 256
 abbrev pub gated : ℕ → ℕ → List ℕ
 gated a b = 2 ∷ a ∷ 0 ∷ b ∷ 0 ∷ []
 
 abbrev pub flap : ℕ → ℕ → List ℕ
 flap a b = 3 ∷ a ∷ 0 ∷ b ∷ 0 ∷ []
+
+abbrev pub shut : ℕ → ℕ → ℕ → List ℕ
+shut k a b = 5 ∷ a ∷ 0 ∷ b ∷ 0 ∷ k ∷ []
 
 -- a file of so many basins
 abbrev pub fileWith : ℕ → List ℕ → List ℕ
@@ -39,6 +42,9 @@ examples =
     ∷ ([], refusedWith (52 ∷ [])) ∷ (fileWith 0 [], refusedWith (49 ∷ [])) ∷ (fileWith 2 (gated 0 2), refusedWith (51 ∷ [])) ∷ (fileWith 1 (9 ∷ []), refusedWith (54 ∷ []))
     -- case 6, shut in, and case 2, a lone reach: `refused 9` and `refused 10`
     ∷ (fileWith 2 [], refusedWith (57 ∷ [])) ∷ (fileWith 2 (gated 0 1), refusedWith (49 ∷ 48 ∷ []))
+    -- case 3 with a third gate that is shut: `01`, `10`, `end`; with one of its two shut: `refused 10`; a wrong inner kind: `refused 5`
+    ∷ (fileWith 2 (gated 0 1 ++ (shut 2 0 1 ++ gated 0 1)), 48 ∷ 49 ∷ 10 ∷ 49 ∷ 48 ∷ 10 ∷ ending)
+    ∷ (fileWith 2 (shut 2 0 1 ++ gated 0 1), refusedWith (49 ∷ 48 ∷ [])) ∷ (fileWith 2 (shut 5 0 1 ++ gated 0 1), refusedWith (53 ∷ []))
     -- more than 8,000 bytes, of which the first four are a file: `refused 6`
     ∷ (fileWith 1 [] ++ replicate 7997 0, refusedWith (54 ∷ []))
     ∷ []

@@ -25,7 +25,7 @@ use Rattle.lists.proofs.Searches.{every-at, every-make, some-make, some-has, fi
 use Rattle.lists.proofs.Ranges.{range-has, range-in}
 use Rattle.network.proofs.Walks.{walk-inside}
 use Rattle.network.proofs.Cuts.{strong-walks, one-crossing}
-use Rattle.network.proofs.Ways.{passingAt, arcs-in, gate-small, gated-served, ShutOut, shut-out, arc-served}
+use Rattle.network.proofs.Ways.{passingAt, arcs-in, gate-small, gated-in-service, ShutOut, shut-out, arc-in-service}
 use Rattle.network.proofs.Networks.{accepted, basin-in, lowest-in, reach-alike, arc-alike}
 
 -- ---- sides
@@ -201,7 +201,7 @@ cut-parts N i S l cut ws out small e =
     elim (ℕ-discrete (src .reach) i) [
       | yes same ↦ inl (one .2 (arc c d) (subst (λ (j : ℕ). List·Memᴰ (arc c d) (passingAt (N .reaches) j (getD ws j 3))) same (src .passes)))
       | no other ↦ inr (reach-alike (λ b. elem b S) (getD ws (src .reach) 3) _ _ c d
-        (uncrossed-ends (λ b. elem b S) (reachAt N (src .reach)) (f .others (src .reach) (src .below) other) (arc-served (N .reaches) ws out (src .reach) (src .below) (arc c d) (src .passes))) (src .passes))
+          (uncrossed-ends (λ b. elem b S) (reachAt N (src .reach)) (f .others (src .reach) (src .below) other) (arc-in-service (N .reaches) ws out (src .reach) (src .below) (arc c d) (src .passes))) (src .passes))
     ])
     (str (u .0) (v .0) (u .1) (v .1)) (str (v .0) (u .0) (v .1) (u .1)) in
     clash (sym alike ∙ u .2) (not-true (elem (v .0) S) (v .2))

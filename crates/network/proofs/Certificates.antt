@@ -140,7 +140,7 @@ shut-in-shown N ok n =
 pub record BridgeShown (N : Network) (i : ℕ) (m : List ℕ) (c : ℕ) : Type 0 where
   pub below : i < length (N .reaches)
   pub gated : isGated ((reachAt N i) .state) ≡ true
-  -- it crosses the marked side, and no other reach does
+  -- it crosses the marked side, and no other reach in service does
   pub crossing : Alone N (marked m) i
   -- the side is without basin 0
   pub without-0 : marked m 0 ≡ false

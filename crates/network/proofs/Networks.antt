@@ -14,7 +14,7 @@ use mathlib.Mathlib.Data.Bool.Basic.{and-elim-left, and-elim-right}
 use Rattle.lists.proofs.Lists.{length-cond-le}
 use Rattle.lists.proofs.Searches.{every-getD}
 use Rattle.network.specs.declared.Kind.the-variants.{TwoWay}
-use Rattle.network.specs.declared.State.the-variants.{InService, Shut}
+use Rattle.network.specs.declared.State.the-variants.{Shut}
 use Rattle.network.specs.declared.Reach.{Reach}
 use Rattle.network.specs.declared.Refusal.{Refusal}
 use Rattle.network.specs.declared.Refusal.the-variants.{BasinCount, TooManyReaches, EndOutOfRange}
@@ -24,7 +24,7 @@ use Rattle.network.specs.Settings.{isGated, gatesFrom, gateCount}
 use Rattle.network.specs.Orientations.{arc, passing, arcs}
 use Rattle.network.specs.Bridges.{noReach, reachAt}
 use Rattle.lists.proofs.Ranges.{range-has, range-in, range-head}
-use Rattle.network.proofs.Ways.{arcs-in, ShutOut, arc-served}
+use Rattle.network.proofs.Ways.{arcs-in, ShutOut, arc-in-service}
 use Rattle.network.proofs.Walks.{arc-from, arc-to}
 
 -- an end is below the basin count
@@ -144,4 +144,4 @@ arcs-in-basins N ok ws =
 pub arc-alike : (f : ℕ → Bool) (t : List Reach) (ws : List ℕ) → ShutOut t ws → ((i : ℕ) → i < length t → inService ((getD t i noReach) .state) ≡ true → f ((getD t i noReach) .a) ≡ f ((getD t i noReach) .b)) → (c d : ℕ) → List·Memᴰ (arc c d) (arcs t ws) → f c ≡ f d
 arc-alike f t ws out same c d m =
     let s = arcs-in t ws (arc c d) m in
-    reach-alike f (getD ws (s .reach) 3) _ _ c d (same (s .reach) (s .below) (arc-served t ws out (s .reach) (s .below) (arc c d) (s .passes))) (s .passes)
+    reach-alike f (getD ws (s .reach) 3) _ _ c d (same (s .reach) (s .below) (arc-in-service t ws out (s .reach) (s .below) (arc c d) (s .passes))) (s .passes)

@@ -23,12 +23,12 @@ use Rattle.network.specs.Orientations.{Arc, way, after, ways, passing, a
 use Rattle.network.specs.Plans.{stronglyConnected, stronglyConnectedUnder, isPlan, passable, firstPlan, nextPlan}
 use Rattle.network.specs.Bridges.{sides, isCut, crossesBy, noReach, reachAt, crossesAlone, isBridge, lowestBridge}
 use Rattle.network.specs.Replies.{Outcome, shutInBasin, shutInSide, bridgeSide, shutInFinding, loneFinding, chosen, orLone, answer, firstAnswer, nextAnswer, unless, roomFault, firstReply, nextReply}
-use Rattle.network.specs.Services.{shutState, serviceState, shutReach, backReach, shutAt, backAt, served, servedNet, servedNumber, renumbered}
+use Rattle.network.specs.Services.{shutState, serviceState, shutReach, backReach, shutAt, backAt, serviceReaches, serviceNet, serviceNumber, renumbered}
 use Rattle.lists.proofs.Bools.{decide, clash, same-test}
 use Rattle.lists.proofs.Lists.{length-cond}
 use Rattle.lists.proofs.Searches.{every-make, every-at, find-is, find-same, find-first, find-lowest, keep-in, length-keep, KeptFrom, kept-at, kept-below, kept-rises, kept-from}
 use Rattle.lists.proofs.Ranges.{range-in}
-use Rattle.network.proofs.Ways.{plain-here, plain-after, shut-way, shut-plain, gated-served}
+use Rattle.network.proofs.Ways.{plain-here, plain-after, shut-way, shut-plain, gated-in-service}
 use Rattle.network.proofs.Networks.{endsBelow, tests-passed}
 use Rattle.network.proofs.Bridges.{uncrossed, Alone, alone-facts, alone-test, bridge-below, bridge-gated}
 use Rattle.network.proofs.Replies.{lowest-is-bridge, no-lowest}
@@ -48,61 +48,61 @@ back-at-again N i l e = rw (getD-set-same (N .reaches) i (shutReach (reachAt N i
 -- ---- gates, arcs and plans
 
 -- a shut reach is no gate
-gates-served : (o o′ : ℕ) (t : List Reach) → length (gatesFrom o (served t)) ≡ length (gatesFrom o′ t)
-gates-served o o′ [] = refl
-gates-served o o′ (r ∷ t) =
+gates-service : (o o′ : ℕ) (t : List Reach) → length (gatesFrom o (serviceReaches t)) ≡ length (gatesFrom o′ t)
+gates-service o o′ [] = refl
+gates-service o o′ (r ∷ t) =
     ⊎-elim
-    (λ e. rw e (length-cond (isGated (r .state)) o _ (gates-served (suc o) (suc o′) t) ∙ sym (length-cond (isGated (r .state)) o′ (gatesFrom (suc o′) t) refl)))
-    (λ e. rw (shut-plain (r .state) e, e) (gates-served o (suc o′) t))
+    (λ e. rw e (length-cond (isGated (r .state)) o _ (gates-service (suc o) (suc o′) t) ∙ sym (length-cond (isGated (r .state)) o′ (gatesFrom (suc o′) t) refl)))
+    (λ e. rw (shut-plain (r .state) e, e) (gates-service o (suc o′) t))
     (decide (inService (r .state)))
 
 -- a shut reach passes nothing, and takes no byte
-arcs-served : (t : List Reach) (h : List ℕ) → arcs (served t) (ways (served t) h) ≡ arcs t (ways t h)
-arcs-served [] h = refl
-arcs-served (r ∷ t) h =
+arcs-service : (t : List Reach) (h : List ℕ) → arcs (serviceReaches t) (ways (serviceReaches t) h) ≡ arcs t (ways t h)
+arcs-service [] h = refl
+arcs-service (r ∷ t) h =
     ⊎-elim
-    (λ e. rw e (ap (λ (A : List Arc). passing (way (r .state) h) (r .a) (r .b) ++ A) (arcs-served t (after (r .state) h))))
-    (λ e. let plain = shut-plain (r .state) e in rw (e, plain-here (r .state) h plain, shut-way (r .state) e, plain-after (r .state) h plain) (arcs-served t h))
+    (λ e. rw e (ap (λ (A : List Arc). passing (way (r .state) h) (r .a) (r .b) ++ A) (arcs-service t (after (r .state) h))))
+    (λ e. let plain = shut-plain (r .state) e in rw (e, plain-here (r .state) h plain, shut-way (r .state) e, plain-after (r .state) h plain) (arcs-service t h))
     (decide (inService (r .state)))
 
 module _ (N : Network) where
-  pub served-gates : gateCount (servedNet N) ≡ gateCount N
-  served-gates = gates-served 0 0 (N .reaches)
+  pub service-gates : gateCount (serviceNet N) ≡ gateCount N
+  service-gates = gates-service 0 0 (N .reaches)
 
-  pub served-setting : (s : List ℕ) → isSetting (servedNet N) s ≡ isSetting N s
+  pub service-setting : (s : List ℕ) → isSetting (serviceNet N) s ≡ isSetting N s
   unfolding isSetting
-  served-setting s = rw served-gates
+  service-setting s = rw service-gates
 
-  served-room : (planLength marksLength : ℕ) → roomFault (servedNet N) planLength marksLength ≡ roomFault N planLength marksLength
+  service-room : (planLength marksLength : ℕ) → roomFault (serviceNet N) planLength marksLength ≡ roomFault N planLength marksLength
   unfolding roomFault
-  served-room planLength marksLength = rw served-gates
+  service-room planLength marksLength = rw service-gates
 
-  pub served-arcs : (h : List ℕ) → arcsUnder (servedNet N) h ≡ arcsUnder N h
-  served-arcs h = arcs-served (N .reaches) h
+  pub service-arcs : (h : List ℕ) → arcsUnder (serviceNet N) h ≡ arcsUnder N h
+  service-arcs h = arcs-service (N .reaches) h
 
   -- the same with every gate usable either way
-  served-unoriented : arcsUnder (servedNet N) (unoriented (servedNet N)) ≡ arcsUnder N (unoriented N)
-  served-unoriented = ap (λ (g : ℕ). arcsUnder (servedNet N) (replicate g 2)) served-gates ∙ served-arcs (unoriented N)
+  service-unoriented : arcsUnder (serviceNet N) (unoriented (serviceNet N)) ≡ arcsUnder N (unoriented N)
+  service-unoriented = ap (λ (g : ℕ). arcsUnder (serviceNet N) (replicate g 2)) service-gates ∙ service-arcs (unoriented N)
 
-  pub served-plan : (s : List ℕ) → isPlan (servedNet N) s ≡ isPlan N s
+  pub service-plan : (s : List ℕ) → isPlan (serviceNet N) s ≡ isPlan N s
   unfolding isPlan stronglyConnectedUnder
-  served-plan s = rw (served-setting s, served-arcs s)
+  service-plan s = rw (service-setting s, service-arcs s)
 
-  pub served-passable : passable (servedNet N) ≡ passable N
+  pub service-passable : passable (serviceNet N) ≡ passable N
   unfolding passable stronglyConnectedUnder
-  served-passable = ap (stronglyConnected (basinsOf N)) served-unoriented
+  service-passable = ap (stronglyConnected (basinsOf N)) service-unoriented
 
-  pub served-first : firstPlan (servedNet N) ≡ firstPlan N
+  pub service-first : firstPlan (serviceNet N) ≡ firstPlan N
   unfolding firstPlan
-  served-first = rw served-gates (find-same (isPlan (servedNet N)) (isPlan N) (settings (gateCount N)) (λ s m. served-plan s))
+  service-first = rw service-gates (find-same (isPlan (serviceNet N)) (isPlan N) (settings (gateCount N)) (λ s m. service-plan s))
 
-  pub served-next : (s : List ℕ) → nextPlan (servedNet N) s ≡ nextPlan N s
+  pub service-next : (s : List ℕ) → nextPlan (serviceNet N) s ≡ nextPlan N s
   unfolding nextPlan
-  served-next s = rw served-gates (find-same (λ p. before s p && isPlan (servedNet N) p) (λ p. before s p && isPlan N p) (settings (gateCount N)) (λ p m. rw (served-plan p)))
+  service-next s = rw service-gates (find-same (λ p. before s p && isPlan (serviceNet N) p) (λ p. before s p && isPlan N p) (settings (gateCount N)) (λ p m. rw (service-plan p)))
 
-  pub served-shut-in : shutInFinding (servedNet N) ≡ shutInFinding N
+  pub service-shut-in : shutInFinding (serviceNet N) ≡ shutInFinding N
   unfolding shutInFinding shutInSide shutInBasin
-  served-shut-in = rw served-unoriented
+  service-shut-in = rw service-unoriented
 
 -- ---- new numbers
 
@@ -112,25 +112,25 @@ serving r = inService (r .state)
 
 module _ (N : Network) (i : ℕ) (l : i < length (N .reaches)) (serves : inService ((reachAt N i) .state) ≡ true) where
   -- the reach stands at its new number
-  pub served-number : reachAt (servedNet N) (servedNumber N i) ≡ reachAt N i
-  served-number = kept-at serving (N .reaches) i noReach l serves
+  pub service-number : reachAt (serviceNet N) (serviceNumber N i) ≡ reachAt N i
+  service-number = kept-at serving (N .reaches) i noReach l serves
 
-  number-below : servedNumber N i < length ((servedNet N) .reaches)
+  number-below : serviceNumber N i < length ((serviceNet N) .reaches)
   number-below = kept-below serving (N .reaches) i noReach l serves
 
   -- the new numbers are in the order of the old
-  number-rises : (j : ℕ) → i < j → servedNumber N i < servedNumber N j
+  number-rises : (j : ℕ) → i < j → serviceNumber N i < serviceNumber N j
   number-rises j = kept-rises serving (N .reaches) i j noReach l serves
 
-  number-order : (j : ℕ) → servedNumber N j < servedNumber N i → j < i
+  number-order : (j : ℕ) → serviceNumber N j < serviceNumber N i → j < i
   number-order j less =
       elim (decLt j i) [
         | yes lower ↦ lower
-        | no n ↦ absurd (⊎-elim (λ same. omega (arith, ap (servedNumber N) same)) (λ more. omega (arith, number-rises j more)) (eq-or-lt-of-le {n = i} {m = j} (omega arith)))
+        | no n ↦ absurd (⊎-elim (λ same. omega (arith, ap (serviceNumber N) same)) (λ more. omega (arith, number-rises j more)) (eq-or-lt-of-le {n = i} {m = j} (omega arith)))
       ]
 
 -- two reaches in service have two new numbers
-number-apart : (N : Network) (i j : ℕ) → i < length (N .reaches) → inService ((reachAt N i) .state) ≡ true → j < length (N .reaches) → inService ((reachAt N j) .state) ≡ true → i ≢ j → servedNumber N i ≢ servedNumber N j
+number-apart : (N : Network) (i j : ℕ) → i < length (N .reaches) → inService ((reachAt N i) .state) ≡ true → j < length (N .reaches) → inService ((reachAt N j) .state) ≡ true → i ≢ j → serviceNumber N i ≢ serviceNumber N j
 number-apart N i j il ei jl ej n same =
     elim (decLt i j) [
       | yes less ↦ omega (arith, number-rises N i il ei j less)
@@ -138,75 +138,75 @@ number-apart N i j il ei jl ej n same =
     ]
 
 -- every new number is that of a reach in service
-old-number : (N : Network) (k : ℕ) → k < length ((servedNet N) .reaches) → KeptFrom serving (N .reaches) noReach k
+old-number : (N : Network) (k : ℕ) → k < length ((serviceNet N) .reaches) → KeptFrom serving (N .reaches) noReach k
 old-number N k l = kept-from serving (N .reaches) noReach k l
 
 -- ---- lone reaches
 
 module _ (N : Network) (i : ℕ) (l : i < length (N .reaches)) (serves : inService ((reachAt N i) .state) ≡ true) where
   -- the only reach of all that crosses a side is the only one of those in service, and the other way round: a shut reach crosses none
-  alone-new : (S : ℕ → Bool) → Alone N S i → Alone (servedNet N) S (servedNumber N i)
-  alone-new S f = record { crossing = rw (served-number N i l serves) (f .crossing); others = others }
+  alone-new : (S : ℕ → Bool) → Alone N S i → Alone (serviceNet N) S (serviceNumber N i)
+  alone-new S f = record { crossing = rw (service-number N i l serves) (f .crossing); others = others }
     where
-      others : (k : ℕ) → k < length ((servedNet N) .reaches) → k ≢ servedNumber N i → crossesBy S (reachAt (servedNet N) k) ≡ false
+      others : (k : ℕ) → k < length ((serviceNet N) .reaches) → k ≢ serviceNumber N i → crossesBy S (reachAt (serviceNet N) k) ≡ false
       others k kl n =
           let o = old-number N k kl in
-          rw (← o .place, served-number N (o .from) (o .below) (o .passes))
-          (f .others (o .from) (o .below) (λ same. n (sym (o .place) ∙ ap (servedNumber N) same)))
+          rw (← o .place, service-number N (o .from) (o .below) (o .passes))
+          (f .others (o .from) (o .below) (λ same. n (sym (o .place) ∙ ap (serviceNumber N) same)))
 
-  alone-old : (S : ℕ → Bool) → Alone (servedNet N) S (servedNumber N i) → Alone N S i
-  alone-old S f = record { crossing = rw (← served-number N i l serves) (f .crossing); others = others }
+  alone-old : (S : ℕ → Bool) → Alone (serviceNet N) S (serviceNumber N i) → Alone N S i
+  alone-old S f = record { crossing = rw (← service-number N i l serves) (f .crossing); others = others }
     where
       others : (j : ℕ) → j < length (N .reaches) → j ≢ i → crossesBy S (reachAt N j) ≡ false
       others j jl n =
           ⊎-elim
-          (λ e. rw (← served-number N j jl e) (f .others (servedNumber N j) (number-below N j jl e) (number-apart N j i jl e l serves n)))
+          (λ e. rw (← service-number N j jl e) (f .others (serviceNumber N j) (number-below N j jl e) (number-apart N j i jl e l serves n)))
           (λ e. uncrossed S (reachAt N j) (λ y. clash y e))
           (decide (inService ((reachAt N j) .state)))
 
-  served-alone : (S : List ℕ) → crossesAlone (servedNet N) S (servedNumber N i) ≡ crossesAlone N S i
-  served-alone S =
-      same-test (crossesAlone (servedNet N) S (servedNumber N i)) (crossesAlone N S i)
-      (λ e. alone-test N S i (alone-old (λ b. elem b S) (alone-facts (servedNet N) S (servedNumber N i) (number-below N i l serves) e)))
-      (λ e. alone-test (servedNet N) S (servedNumber N i) (alone-new (λ b. elem b S) (alone-facts N S i l e)))
+  service-alone : (S : List ℕ) → crossesAlone (serviceNet N) S (serviceNumber N i) ≡ crossesAlone N S i
+  service-alone S =
+      same-test (crossesAlone (serviceNet N) S (serviceNumber N i)) (crossesAlone N S i)
+      (λ e. alone-test N S i (alone-old (λ b. elem b S) (alone-facts (serviceNet N) S (serviceNumber N i) (number-below N i l serves) e)))
+      (λ e. alone-test (serviceNet N) S (serviceNumber N i) (alone-new (λ b. elem b S) (alone-facts N S i l e)))
 
-  pub served-bridge : isBridge (servedNet N) (servedNumber N i) ≡ isBridge N i
+  pub service-bridge : isBridge (serviceNet N) (serviceNumber N i) ≡ isBridge N i
   unfolding isBridge
-  served-bridge =
+  service-bridge =
       ap₂ (λ (r : Reach) (alone : List ℕ → Bool). isGated (r .state) && some? (λ S. isCut (basinsOf N) S && alone S) (sides (basinsOf N)))
-      (served-number N i l serves) (fun-ext served-alone)
+      (service-number N i l serves) (fun-ext service-alone)
 
-  pub served-side : bridgeSide (servedNet N) (servedNumber N i) ≡ bridgeSide N i
+  pub service-side : bridgeSide (serviceNet N) (serviceNumber N i) ≡ bridgeSide N i
   unfolding bridgeSide
-  served-side =
+  service-side =
       ap (λ (alone : List ℕ → Bool). Option·getD (find (λ S. not (elem (lowestBasin N) S) && (isCut (basinsOf N) S && alone S)) (sides (basinsOf N))) [])
-      (fun-ext served-alone)
+      (fun-ext service-alone)
 
 -- a lone reach is in service
-bridge-serves : (N : Network) (i : ℕ) → isBridge N i ≡ true → inService ((reachAt N i) .state) ≡ true
-bridge-serves N i e = gated-served ((reachAt N i) .state) (bridge-gated N i e)
+bridge-in-service : (N : Network) (i : ℕ) → isBridge N i ≡ true → inService ((reachAt N i) .state) ≡ true
+bridge-in-service N i e = gated-in-service ((reachAt N i) .state) (bridge-gated N i e)
 
 -- the lowest lone reach is the same reach, at its new number
-pub served-lowest : (N : Network) → lowestBridge (servedNet N) ≡ Option·map (servedNumber N) (lowestBridge N)
+pub service-lowest : (N : Network) → lowestBridge (serviceNet N) ≡ Option·map (serviceNumber N) (lowestBridge N)
 unfolding lowestBridge
-served-lowest N = go (lowestBridge N) refl
+service-lowest N = go (lowestBridge N) refl
   where
     count : ℕ
-    count = length ((servedNet N) .reaches)
+    count = length ((serviceNet N) .reaches)
 
-    old : (k : ℕ) (o : KeptFrom serving (N .reaches) noReach k) → isBridge (servedNet N) k ≡ isBridge N (o .from)
-    old k o = rw (← o .place) (served-bridge N (o .from) (o .below) (o .passes))
+    old : (k : ℕ) (o : KeptFrom serving (N .reaches) noReach k) → isBridge (serviceNet N) k ≡ isBridge N (o .from)
+    old k o = rw (← o .place) (service-bridge N (o .from) (o .below) (o .passes))
 
-    go : (o : Option ℕ) → lowestBridge N ≡ o → lowestBridge (servedNet N) ≡ Option·map (servedNumber N) o
+    go : (o : Option ℕ) → lowestBridge N ≡ o → lowestBridge (serviceNet N) ≡ Option·map (serviceNumber N) o
     go none e =
-        find-is (isBridge (servedNet N)) (range 0 count)
+        find-is (isBridge (serviceNet N)) (range 0 count)
         (λ k m. let o = old-number N k (omega (arith, (range-in 0 count m) .1)) in old k o ∙ no-lowest N e (o .from))
     go (some i) e =
         let lone = lowest-is-bridge N e in
         let l = bridge-below N i lone in
-        let serves = bridge-serves N i lone in
+        let serves = bridge-in-service N i lone in
         let below = number-below N i l serves in
-        find-lowest (isBridge (servedNet N)) 0 count (servedNumber N i) (omega arith) (omega arith) (served-bridge N i l serves ∙ lone)
+        find-lowest (isBridge (serviceNet N)) 0 count (serviceNumber N i) (omega arith) (omega arith) (service-bridge N i l serves ∙ lone)
         (λ k z less.
         let o = old-number N k (omega arith) in
         old k o ∙ find-first (isBridge N) 0 (length (N .reaches)) e (o .from) (omega arith) (number-order N i l serves (o .from) (rw (o .place) less)))
@@ -214,14 +214,14 @@ served-lowest N = go (lowestBridge N) refl
 -- ---- replies
 
 -- not the other way round: the limit on reaches and the test of ends ask shut reaches too
-pub served-accepted : (N : Network) → Accepted N → Accepted (servedNet N)
+pub service-accepted : (N : Network) → Accepted N → Accepted (serviceNet N)
 unfolding tableFault
-served-accepted N ok =
+service-accepted N ok =
     let good = tests-passed N ok in
-    let few : goodLength (servedNet N) ≡ true =
-    le-leb (length (served (N .reaches))) maxReaches (omega (arith, leb-true (length (N .reaches)) maxReaches (good .1), length-keep serving (N .reaches))) in
-    let ends : goodEnds (servedNet N) ≡ true =
-    every-make (endsBelow (N .basins)) (served (N .reaches)) (λ r m. every-at (endsBelow (N .basins)) (good .2) ((keep-in serving (N .reaches) m) .0)) in
+    let few : goodLength (serviceNet N) ≡ true =
+    le-leb (length (serviceReaches (N .reaches))) maxReaches (omega (arith, leb-true (length (N .reaches)) maxReaches (good .1), length-keep serving (N .reaches))) in
+    let ends : goodEnds (serviceNet N) ≡ true =
+    every-make (endsBelow (N .basins)) (serviceReaches (N .reaches)) (λ r m. every-at (endsBelow (N .basins)) (good .2) ((keep-in serving (N .reaches) m) .0)) in
     rw (good .0, few, ends)
 
 -- only a lone reach is renumbered
@@ -237,26 +237,26 @@ unless-kept : (N : Network) (f : Option Refusal) (o : Outcome) → unless f (ren
 unless-kept N (some r) o = refl
 unless-kept N none o = refl
 
-served-lone : (N : Network) (i : ℕ) → isBridge N i ≡ true → loneFinding (servedNet N) (servedNumber N i) ≡ renumbered N (loneFinding N i)
+service-lone : (N : Network) (i : ℕ) → isBridge N i ≡ true → loneFinding (serviceNet N) (serviceNumber N i) ≡ renumbered N (loneFinding N i)
 unfolding loneFinding
-served-lone N i e = rw (served-side N i (bridge-below N i e) (bridge-serves N i e))
+service-lone N i e = rw (service-side N i (bridge-below N i e) (bridge-in-service N i e))
 
-pub served-answer : (N : Network) (p : Option (List ℕ)) → answer (servedNet N) p ≡ renumbered N (answer N p)
+pub service-answer : (N : Network) (p : Option (List ℕ)) → answer (serviceNet N) p ≡ renumbered N (answer N p)
 unfolding answer
-served-answer N p = rw (served-passable N, served-lowest N) (go (passable N) (lowestBridge N) refl)
+service-answer N p = rw (service-passable N, service-lowest N) (go (passable N) (lowestBridge N) refl)
   where
-    go : (b : Bool) (o : Option ℕ) → lowestBridge N ≡ o → cond b (orLone (servedNet N) (Option·map (servedNumber N) o) p) (shutInFinding (servedNet N)) ≡ renumbered N (cond b (orLone N o p) (shutInFinding N))
-    go false o e = served-shut-in N ∙ shut-in-kept N
+    go : (b : Bool) (o : Option ℕ) → lowestBridge N ≡ o → cond b (orLone (serviceNet N) (Option·map (serviceNumber N) o) p) (shutInFinding (serviceNet N)) ≡ renumbered N (cond b (orLone N o p) (shutInFinding N))
+    go false o e = service-shut-in N ∙ shut-in-kept N
     go true none e = chosen-kept N p
-    go true (some i) e = served-lone N i (lowest-is-bridge N e)
+    go true (some i) e = service-lone N i (lowest-is-bridge N e)
 
 module _ (N : Network) (ok : Accepted N) where
-  pub served-first-reply : (planLength marksLength : ℕ) → firstReply (servedNet N) planLength marksLength ≡ renumbered N (firstReply N planLength marksLength)
+  pub service-first-reply : (planLength marksLength : ℕ) → firstReply (serviceNet N) planLength marksLength ≡ renumbered N (firstReply N planLength marksLength)
   unfolding firstReply firstAnswer
-  served-first-reply planLength marksLength =
-      rw (served-accepted N ok, ok, served-room N planLength marksLength, served-first N, served-answer N) (unless-kept N (roomFault N planLength marksLength) _)
+  service-first-reply planLength marksLength =
+      rw (service-accepted N ok, ok, service-room N planLength marksLength, service-first N, service-answer N) (unless-kept N (roomFault N planLength marksLength) _)
 
-  pub served-next-reply : (s : List ℕ) (planLength marksLength : ℕ) → nextReply (servedNet N) s planLength marksLength ≡ renumbered N (nextReply N s planLength marksLength)
+  pub service-next-reply : (s : List ℕ) (planLength marksLength : ℕ) → nextReply (serviceNet N) s planLength marksLength ≡ renumbered N (nextReply N s planLength marksLength)
   unfolding nextReply nextAnswer settingFault
-  served-next-reply s planLength marksLength =
-      rw (served-accepted N ok, ok, served-setting N s, served-room N planLength marksLength, served-next N s, served-answer N, unless-kept N) (unless-kept N (settingFault N s) _)
+  service-next-reply s planLength marksLength =
+      rw (service-accepted N ok, ok, service-setting N s, service-room N planLength marksLength, service-next N s, service-answer N, unless-kept N) (unless-kept N (settingFault N s) _)

@@ -21,7 +21,7 @@ use Rattle.network.specs.Plans.{stronglyConnected, stronglyConnectedUnde
 use Rattle.network.specs.Bridges.{reachAt, isBridge}
 use Rattle.lists.proofs.Bools.{decide, clash}
 use Rattle.network.proofs.Cuts.{strong-within}
-use Rattle.network.proofs.Ways.{Gate, gate-at, length-ways, gated-served, way-small, Looser, looser-within}
+use Rattle.network.proofs.Ways.{Gate, gate-at, length-ways, gated-in-service, way-small, Looser, looser-within}
 use Rattle.lists.proofs.Searches.{every-getD, every-from}
 use Rattle.network.proofs.Bridges.{bridge-blocks}
 use Rattle.network.proofs.Steps.{orient-drawn, orient-turned, stuck-bridge}
@@ -128,7 +128,7 @@ module _ (N : Network) (ok : Accepted N) (h : List ℕ) (oriented : Hung N h) (k
   stuck : stronglyConnectedUnder N (set h k 0) ≡ false → stronglyConnectedUnder N (set h k 1) ≡ false → isBridge N (getD (gates N) k 0) ≡ true
   stuck not-drawn not-turned =
       rw numbered
-      (stuck-bridge N ok ws (g .reach) (g .below) full (gated-served ((reachAt N (g .reach)) .state) (g .gated)) (λ j jl. way-small′ j jl) both-ways
+      (stuck-bridge N ok ws (g .reach) (g .below) full (gated-in-service ((reachAt N (g .reach)) .state) (g .gated)) (λ j jl. way-small′ j jl) both-ways
       (sym (orient-drawn N ok ws (g .reach) (g .below) full both-ways) ∙ sym (oriented-as 0) ∙ not-drawn)
       (sym (orient-turned N ok ws (g .reach) (g .below) full both-ways) ∙ sym (oriented-as 1) ∙ not-turned)
       (g .gated))

@@ -234,9 +234,9 @@ pub shut-plain : (d : State) → inService d ≡ false → isGated d ≡ false
 shut-plain (InService k) e = absurd (true≢false e)
 shut-plain (Shut k) e = refl
 
-pub gated-served : (d : State) → isGated d ≡ true → inService d ≡ true
-gated-served (InService k) e = refl
-gated-served (Shut k) e = absurd (false≢true e)
+pub gated-in-service : (d : State) → isGated d ≡ true → inService d ≡ true
+gated-in-service (InService k) e = refl
+gated-in-service (Shut k) e = absurd (false≢true e)
 
 -- Item 1: "While shut it passes no water". The shut reaches of the table have way 3.
 abbrev pub ShutOut : List Reach → List ℕ → Type 0
@@ -247,8 +247,8 @@ pub shut-out : (t : List Reach) (h : List ℕ) → ShutOut t (ways t h)
 shut-out t h j l e = plain-way t h j l (shut-plain ((getD t j noReach) .state) e) ∙ shut-way ((getD t j noReach) .state) e
 
 -- an arc comes from a reach in service
-pub arc-served : (t : List Reach) (ws : List ℕ) → ShutOut t ws → (j : ℕ) → j < length t → (y : Arc) → List·Memᴰ y (passingAt t j (getD ws j 3)) → inService ((getD t j noReach) .state) ≡ true
-arc-served t ws out j l y m =
+pub arc-in-service : (t : List Reach) (ws : List ℕ) → ShutOut t ws → (j : ℕ) → j < length t → (y : Arc) → List·Memᴰ y (passingAt t j (getD ws j 3)) → inService ((getD t j noReach) .state) ≡ true
+arc-in-service t ws out j l y m =
     ⊎-elim (λ e. e) (λ n. absurd (List·Memᴰ·not-nil (subst (λ (x : ℕ). List·Memᴰ y (passingAt t j x)) (out j l n) m))) (decide (inService ((getD t j noReach) .state)))
 
 -- under a partial orientation each reach in service has a way up to 2

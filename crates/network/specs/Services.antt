@@ -37,20 +37,20 @@ abbrev pub backAt : Network → ℕ → Network
 backAt N i = net (N .basins) (set (N .reaches) i (backReach (reachAt N i)))
 
 -- The reaches in service of a table, in reach order.
-abbrev pub served : List Reach → List Reach
-served t = keep (λ r. inService (r .state)) t
+abbrev pub serviceReaches : List Reach → List Reach
+serviceReaches t = keep (λ r. inService (r .state)) t
 
 -- The network of the reaches in service: its shut reaches are dropped, and the others have new numbers.
-abbrev pub servedNet : Network → Network
-servedNet N = net (N .basins) (served (N .reaches))
+abbrev pub serviceNet : Network → Network
+serviceNet N = net (N .basins) (serviceReaches (N .reaches))
 
 -- The new number of reach i: how many reaches before it are in service.
-abbrev pub servedNumber : Network → ℕ → ℕ
-servedNumber N i = length (served (take i (N .reaches)))
+abbrev pub serviceNumber : Network → ℕ → ℕ
+serviceNumber N i = length (serviceReaches (take i (N .reaches)))
 
 -- A reply with its reach, if it has one, at its new number.
 abbrev pub renumbered : Network → Outcome → Outcome
 renumbered N (plan s) = plan s
 renumbered N (shutIn m c) = shutIn m c
-renumbered N (lone i m c) = lone (servedNumber N i) m c
+renumbered N (lone i m c) = lone (serviceNumber N i) m c
 renumbered N (refused r) = refused r

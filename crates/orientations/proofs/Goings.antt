@@ -21,7 +21,7 @@ use Rattle.network.specs.Bridges.{reachAt, crossesAlone, isBridge}
 use Rattle.network.specs.Marks.{bit}
 use Rattle.lists.proofs.Bools.{decide, clash}
 use Rattle.lists.proofs.Searches.{keep-same}
-use Rattle.network.proofs.Ways.{plain-small, gated-served, shut-plain, shut-way, ShutOut}
+use Rattle.network.proofs.Ways.{plain-small, gated-in-service, shut-plain, shut-way, ShutOut}
 use Rattle.network.proofs.Networks.{basin-below}
 use Rattle.network.proofs.Bridges.{Alone, alone-rest, alone-same, cut-of, bridge-gated, bridge-parts}
 use Rattle.network.proofs.Steps.{orient-drawn, orient-turned, stuck-alone, stuck-other, stuck-bridge}
@@ -59,7 +59,7 @@ module _ (N : Network) (ok : Accepted N) (ws : List ℕ) (i : ℕ) (below : i < 
 
   module _ (g : isGated ((reachAt N i) .state) ≡ true) where
     serves : inService ((reachAt N i) .state) ≡ true
-    serves = gated-served ((reachAt N i) .state) g
+    serves = gated-in-service ((reachAt N i) .state) g
 
     free : getD ws i 3 ≡ 2
     free = b .undecided i (omega arith) below g

@@ -6,25 +6,25 @@ use mathlib.Core.List.{List}
 use lib.ListN.{length}
 use Rattle.network.specs.Networks.{Network, Accepted}
 use Rattle.network.specs.Replies.{Outcome, firstReply, nextReply}
-use Rattle.network.specs.Services.{servedNet, renumbered}
-use Rattle.network.proofs.Services.{served-first-reply, served-next-reply}
+use Rattle.network.specs.Services.{serviceNet, renumbered}
+use Rattle.network.proofs.Services.{service-first-reply, service-next-reply}
 use Rattle.replies.specs.declared.Answer.{Answer}
 use Rattle.replies.specs.Answers.{FirstCall, NextCall}
 use Rattle.planner_laws.proofs.Demands.{first-read, next-read}
-use Rattle.service_laws.specs.Services.{Dropped, FirstOfServed, NextOfServed}
+use Rattle.service_laws.specs.Services.{Dropped, FirstInService, NextInService}
 
 -- what is read of either is the reply of a definition, and the definition has the law
 over :
-    (N M : Network) {plan₁ marks₁ plan₂ marks₂ : List ℕ} (reply : Network → ℕ → ℕ → Outcome) → (Accepted N → (p m : ℕ) → reply (servedNet N) p m ≡ renumbered N (reply N p m))
+    (N M : Network) {plan₁ marks₁ plan₂ marks₂ : List ℕ} (reply : Network → ℕ → ℕ → Outcome) → (Accepted N → (p m : ℕ) → reply (serviceNet N) p m ≡ renumbered N (reply N p m))
     → {o₁ o₂ : Outcome} → o₁ ≡ reply N (length plan₁) (length marks₁) → o₂ ≡ reply M (length plan₂) (length marks₂)
     → Dropped N M plan₁ marks₁ plan₂ marks₂ → o₂ ≡ renumbered N o₁
-over N M {plan₁} {marks₁} reply law e f d = f ∙ rw (d .served, d .plan-room, d .marks-room) (law (d .accepted) (length plan₁) (length marks₁) ∙ ap (renumbered N) (sym e))
+over N M {plan₁} {marks₁} reply law e f d = f ∙ rw (d .in-service, d .plan-room, d .marks-room) (law (d .accepted) (length plan₁) (length marks₁) ∙ ap (renumbered N) (sym e))
 
 module _ (N M : Network) {plan₁ marks₁ plan₂ marks₂ plan₁′ marks₁′ plan₂′ marks₂′ : List ℕ} {r₁ r₂ : Answer} where
-  pub first-served :
-      FirstCall N plan₁ marks₁ r₁ plan₁′ marks₁′ → FirstCall M plan₂ marks₂ r₂ plan₂′ marks₂′ → FirstOfServed N M plan₁ marks₁ plan₂ marks₂ plan₁′ marks₁′ plan₂′ marks₂′ r₁ r₂
-  first-served c d = record { first-call = c; second-call = d; same = over N M firstReply (served-first-reply N) (first-read N c) (first-read M d) }
+  pub first-in-service :
+      FirstCall N plan₁ marks₁ r₁ plan₁′ marks₁′ → FirstCall M plan₂ marks₂ r₂ plan₂′ marks₂′ → FirstInService N M plan₁ marks₁ plan₂ marks₂ plan₁′ marks₁′ plan₂′ marks₂′ r₁ r₂
+  first-in-service c d = record { first-call = c; second-call = d; same = over N M firstReply (service-first-reply N) (first-read N c) (first-read M d) }
 
-  pub next-served :
-      (s : List ℕ) → NextCall N s plan₁ marks₁ r₁ plan₁′ marks₁′ → NextCall M s plan₂ marks₂ r₂ plan₂′ marks₂′ → NextOfServed N M s plan₁ marks₁ plan₂ marks₂ plan₁′ marks₁′ plan₂′ marks₂′ r₁ r₂
-  next-served s c d = record { first-call = c; second-call = d; same = over N M (λ L. nextReply L s) (λ ok. served-next-reply N ok s) (next-read N s c) (next-read M s d) }
+  pub next-in-service :
+      (s : List ℕ) → NextCall N s plan₁ marks₁ r₁ plan₁′ marks₁′ → NextCall M s plan₂ marks₂ r₂ plan₂′ marks₂′ → NextInService N M s plan₁ marks₁ plan₂ marks₂ plan₁′ marks₁′ plan₂′ marks₂′ r₁ r₂
+  next-in-service s c d = record { first-call = c; second-call = d; same = over N M (λ L. nextReply L s) (λ ok. service-next-reply N ok s) (next-read N s c) (next-read M s d) }

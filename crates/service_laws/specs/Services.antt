@@ -5,7 +5,7 @@ use mathlib.Core.Path.{_≡_}
 use mathlib.Core.List.{List}
 use lib.ListN.{length}
 use Rattle.network.specs.Networks.{Network, Accepted}
-use Rattle.network.specs.Services.{servedNet, renumbered}
+use Rattle.network.specs.Services.{serviceNet, renumbered}
 use Rattle.replies.specs.declared.Answer.{Answer}
 use Rattle.replies.specs.Answers.{FirstCall, NextCall}
 use Rattle.planner_laws.specs.Demands.{readReply}
@@ -13,23 +13,23 @@ use Rattle.planner_laws.specs.Demands.{readReply}
 -- An accepted network N, the network M of its reaches in service, and lent buffers for M as long as those for N, whatever they hold.
 pub record Dropped (N M : Network) (plan₁ marks₁ plan₂ marks₂ : List ℕ) : Type 0 where
   pub accepted : Accepted N
-  pub served : M ≡ servedNet N
+  pub in-service : M ≡ serviceNet N
   pub plan-room : length plan₂ ≡ length plan₁
   pub marks-room : length marks₂ ≡ length marks₁
 
 -- What the caller then reads of M is what he reads of N, a lone reach at its new number.
-abbrev pub ServedOver : Network → Network → List ℕ → List ℕ → List ℕ → List ℕ → List ℕ → List ℕ → List ℕ → List ℕ → Answer → Answer → Type 0
-ServedOver N M plan₁ marks₁ plan₂ marks₂ plan₁′ marks₁′ plan₂′ marks₂′ r₁ r₂ =
+abbrev pub InServiceOver : Network → Network → List ℕ → List ℕ → List ℕ → List ℕ → List ℕ → List ℕ → List ℕ → List ℕ → Answer → Answer → Type 0
+InServiceOver N M plan₁ marks₁ plan₂ marks₂ plan₁′ marks₁′ plan₂′ marks₂′ r₁ r₂ =
     Dropped N M plan₁ marks₁ plan₂ marks₂ → readReply M r₂ plan₂′ marks₂′ ≡ renumbered N (readReply N r₁ plan₁′ marks₁′)
 
 -- What asking for the first plan of N and of M promises: of either what first promises of any input, and the law.
-pub record FirstOfServed (N M : Network) (plan₁ marks₁ plan₂ marks₂ plan₁′ marks₁′ plan₂′ marks₂′ : List ℕ) (r₁ r₂ : Answer) : Type 0 where
+pub record FirstInService (N M : Network) (plan₁ marks₁ plan₂ marks₂ plan₁′ marks₁′ plan₂′ marks₂′ : List ℕ) (r₁ r₂ : Answer) : Type 0 where
   pub first-call : FirstCall N plan₁ marks₁ r₁ plan₁′ marks₁′
   pub second-call : FirstCall M plan₂ marks₂ r₂ plan₂′ marks₂′
-  pub same : ServedOver N M plan₁ marks₁ plan₂ marks₂ plan₁′ marks₁′ plan₂′ marks₂′ r₁ r₂
+  pub same : InServiceOver N M plan₁ marks₁ plan₂ marks₂ plan₁′ marks₁′ plan₂′ marks₂′ r₁ r₂
 
 -- The same of the next plan of the setting s.
-pub record NextOfServed (N M : Network) (s plan₁ marks₁ plan₂ marks₂ plan₁′ marks₁′ plan₂′ marks₂′ : List ℕ) (r₁ r₂ : Answer) : Type 0 where
+pub record NextInService (N M : Network) (s plan₁ marks₁ plan₂ marks₂ plan₁′ marks₁′ plan₂′ marks₂′ : List ℕ) (r₁ r₂ : Answer) : Type 0 where
   pub first-call : NextCall N s plan₁ marks₁ r₁ plan₁′ marks₁′
   pub second-call : NextCall M s plan₂ marks₂ r₂ plan₂′ marks₂′
-  pub same : ServedOver N M plan₁ marks₁ plan₂ marks₂ plan₁′ marks₁′ plan₂′ marks₂′ r₁ r₂
+  pub same : InServiceOver N M plan₁ marks₁ plan₂ marks₂ plan₁′ marks₁′ plan₂′ marks₂′ r₁ r₂

@@ -3,11 +3,11 @@ use planner_laws::Both;
 use planner_rows::first_plan;
 use planner_rows::next_plan;
 ghost use Rattle.tables.specs.Rows.{netOf};
-ghost use Rattle.service_laws.specs.Services.{FirstOfServed, NextOfServed};
+ghost use Rattle.service_laws.specs.Services.{FirstInService, NextInService};
 
 // Asks for the first plan of two networks, each with lent buffers of its own: what the two calls promise, and that a network without its shut reaches gets
 // the reply of the whole one, a lone reach at its new number.
-pub fn first_of_served(
+pub fn first_in_service(
     basins: u16,
     kinds: &[u8],
     a: &[u16],
@@ -20,7 +20,7 @@ pub fn first_of_served(
     plan2: &mut [u8],
     marks2: &mut [u8],
 ) -> Both
-    ensures { λ r. ⌜ FirstOfServed (netOf basins (now (kinds .entry)) (now (a .entry)) (now (b .entry)))
+    ensures { λ r. ⌜ FirstInService (netOf basins (now (kinds .entry)) (now (a .entry)) (now (b .entry)))
         (netOf basins (now (kinds2 .entry)) (now (a2 .entry)) (now (b2 .entry)))
         (now (plan1 .entry)) (now (marks1 .entry)) (now (plan2 .entry)) (now (marks2 .entry))
         (now (plan1 .exit)) (now (marks1 .exit)) (now (plan2 .exit)) (now (marks2 .exit))
@@ -32,7 +32,7 @@ pub fn first_of_served(
 }
 
 // The same of the next plan of one setting.
-pub fn next_of_served(
+pub fn next_in_service(
     basins: u16,
     kinds: &[u8],
     a: &[u16],
@@ -46,7 +46,7 @@ pub fn next_of_served(
     plan2: &mut [u8],
     marks2: &mut [u8],
 ) -> Both
-    ensures { λ r. ⌜ NextOfServed (netOf basins (now (kinds .entry)) (now (a .entry)) (now (b .entry)))
+    ensures { λ r. ⌜ NextInService (netOf basins (now (kinds .entry)) (now (a .entry)) (now (b .entry)))
         (netOf basins (now (kinds2 .entry)) (now (a2 .entry)) (now (b2 .entry))) (now (s .entry))
         (now (plan1 .entry)) (now (marks1 .entry)) (now (plan2 .entry)) (now (marks2 .entry))
         (now (plan1 .exit)) (now (marks1 .exit)) (now (plan2 .exit)) (now (marks2 .exit))

@@ -3,11 +3,16 @@
 use Prim.Native.Nat.{ℕ}
 use mathlib.Core.List.{List, [], _∷_, _++_}
 use Rattle.network.specs.Networks.{Network, net}
+use Rattle.network.specs.Services.{shutReach}
 use Rattle.network.specs.Cases.{G, F, T, firstByte, case3}
 
 -- Case 3 with a two-way reach between its two gated ones, so that these have the numbers 0 and 2.
 abbrev pub mixed : Network
 mixed = net 2 (G 0 1 ∷ T 0 1 ∷ G 0 1 ∷ [])
+
+-- The same with a shut gate between them.
+abbrev pub shutBetween : Network
+shutBetween = net 2 (G 0 1 ∷ shutReach (G 0 1) ∷ G 0 1 ∷ [])
 
 -- A network, the bytes of a sheet, and document 01's number for reading them, 0 where they are read.
 abbrev pub sheets : List (Network × (List ℕ) × ℕ)
@@ -31,9 +36,13 @@ sheets =
     -- a record has the number among all reaches
     ∷ (mixed, 16 ∷ 2 ∷ 0 ∷ 17 ∷ 0 ∷ 0 ∷ 18 ∷ 2 ∷ 0 ∷ 9 ∷ [], 0)
     ∷ (mixed, 16 ∷ 2 ∷ 0 ∷ 17 ∷ 0 ∷ 0 ∷ 18 ∷ 1 ∷ 0 ∷ 9 ∷ [], 8)
+    -- a shut gate has no record
+    ∷ (shutBetween, 16 ∷ 2 ∷ 0 ∷ 17 ∷ 0 ∷ 0 ∷ 18 ∷ 2 ∷ 0 ∷ 9 ∷ [], 0)
+    ∷ (shutBetween, 16 ∷ 3 ∷ 0 ∷ 17 ∷ 0 ∷ 0 ∷ 17 ∷ 1 ∷ 0 ∷ 18 ∷ 2 ∷ 0 ∷ 9 ∷ [], 8)
+    ∷ (shutBetween, 16 ∷ 2 ∷ 0 ∷ 17 ∷ 0 ∷ 0 ∷ 18 ∷ 1 ∷ 0 ∷ 9 ∷ [], 8)
     ∷ []
 
--- A network and its reply's sheet: the cases 1, 2, 3, 5, 10.
+-- A network and its reply's sheet: the cases 1, 2, 3, 5, 10, and case 3 with one more gate shut and with its first gate shut.
 abbrev pub replies : List (Network × List ℕ)
 replies =
     (net 1 [], 16 ∷ 0 ∷ 0 ∷ 9 ∷ [])
@@ -41,4 +50,6 @@ replies =
     ∷ (case3, 16 ∷ 2 ∷ 0 ∷ 17 ∷ 0 ∷ 0 ∷ 18 ∷ 1 ∷ 0 ∷ 9 ∷ [])
     ∷ (net 2 (F 0 1 ∷ []), 20 ∷ (firstByte 2 ++ (9 ∷ [])))
     ∷ (net 3 (G 0 1 ∷ T 1 2 ∷ []), 21 ∷ 0 ∷ 0 ∷ (firstByte 6 ++ (9 ∷ [])))
+    ∷ (shutBetween, 16 ∷ 2 ∷ 0 ∷ 17 ∷ 0 ∷ 0 ∷ 18 ∷ 2 ∷ 0 ∷ 9 ∷ [])
+    ∷ (net 2 (shutReach (G 0 1) ∷ G 0 1 ∷ []), 21 ∷ 1 ∷ 0 ∷ (firstByte 2 ++ (9 ∷ [])))
     ∷ []

@@ -47,6 +47,7 @@ sheetRecords gs s = gateRecords gs s ++ (endKind ∷ [])
 abbrev pub planSheet : List ℕ → List ℕ → List ℕ
 planSheet gs s = (planKind ∷ twoBytes (length gs)) ++ sheetRecords gs s
 
+-- The plan sheet of a network. Document 02, item 1: a shut reach has no "record on a sheet"; it is none of the gated reaches.
 abbrev pub sheetOf : Network → List ℕ → List ℕ
 sheetOf N s = planSheet (gates N) s
 

@@ -1,10 +1,10 @@
--- `service_laws::first_of_served` meets its contract: the law follows from what the two calls promise.
+-- `service_laws::first_in_service` meets its contract: the law follows from what the two calls promise.
 -- Assumes nothing.
 use Rattle.tables.specs.Rows.{netOf}
-use Rattle.service_laws.proofs.Services.{first-served}
+use Rattle.service_laws.proofs.Services.{first-in-service}
 use borrow.Author.Needs.{needs}
-use Rattle.service_laws.proofs.first_of_served.Statement.{statement}
-use Rattle.service_laws.proofs.first_of_served.Tie as tie
+use Rattle.service_laws.proofs.first_in_service.Statement.{statement}
+use Rattle.service_laws.proofs.first_in_service.Tie as tie
 
 first-plan-requires : tie.Need-first-plan-requires
 first-plan-requires c κs = tt
@@ -27,10 +27,10 @@ same-length-4 c = search needs
 returns : tie.Need-returns
 returns c =
     let s = c .before .before .before .before .before .before .before .before .before .before .before .before .before .before .before .before .before .before .before .before .before .before .before .before .args in
-    first-served (netOf (s .basins) (s .kinds .now) (s .a .now) (s .b .now)) (netOf (s .basins) (s .kinds2 .now) (s .a2 .now) (s .b2 .now)) (c .before .before .before .before .before .before .before .before .before .before .before .first-plan .ensures) (c .before .before .before .before .first-plan2 .ensures)
+    first-in-service (netOf (s .basins) (s .kinds .now) (s .a .now) (s .b .now)) (netOf (s .basins) (s .kinds2 .now) (s .a2 .now) (s .b2 .now)) (c .before .before .before .before .before .before .before .before .before .before .before .first-plan .ensures) (c .before .before .before .before .first-plan2 .ensures)
 
-pub first-of-served-spec : {M : Type 1} → statement M
-first-of-served-spec =
+pub first-in-service-spec : {M : Type 1} → statement M
+first-in-service-spec =
     tie.close
     (tie.spec
     first-plan-requires

@@ -1,10 +1,10 @@
--- `service_laws::next_of_served` meets its contract: the law follows from what the two calls promise.
+-- `service_laws::next_in_service` meets its contract: the law follows from what the two calls promise.
 -- Assumes nothing.
 use Rattle.tables.specs.Rows.{netOf}
-use Rattle.service_laws.proofs.Services.{next-served}
+use Rattle.service_laws.proofs.Services.{next-in-service}
 use borrow.Author.Needs.{needs}
-use Rattle.service_laws.proofs.next_of_served.Statement.{statement}
-use Rattle.service_laws.proofs.next_of_served.Tie as tie
+use Rattle.service_laws.proofs.next_in_service.Statement.{statement}
+use Rattle.service_laws.proofs.next_in_service.Tie as tie
 
 next-plan-requires : tie.Need-next-plan-requires
 next-plan-requires c κs = tt
@@ -27,10 +27,10 @@ same-length-4 c = search needs
 returns : tie.Need-returns
 returns c =
     let s = c .before .before .before .before .before .before .before .before .before .before .before .before .before .before .before .before .before .before .before .before .before .before .before .before .before .args in
-    next-served (netOf (s .basins) (s .kinds .now) (s .a .now) (s .b .now)) (netOf (s .basins) (s .kinds2 .now) (s .a2 .now) (s .b2 .now)) (s .s .now) (c .before .before .before .before .before .before .before .before .before .before .before .next-plan .ensures) (c .before .before .before .before .next-plan2 .ensures)
+    next-in-service (netOf (s .basins) (s .kinds .now) (s .a .now) (s .b .now)) (netOf (s .basins) (s .kinds2 .now) (s .a2 .now) (s .b2 .now)) (s .s .now) (c .before .before .before .before .before .before .before .before .before .before .before .next-plan .ensures) (c .before .before .before .before .next-plan2 .ensures)
 
-pub next-of-served-spec : {M : Type 1} → statement M
-next-of-served-spec =
+pub next-in-service-spec : {M : Type 1} → statement M
+next-in-service-spec =
     tie.close
     (tie.spec
     next-plan-requires
