@@ -14,7 +14,7 @@ use borrow.Author.Tests.{leb-true, leb-false, le-leb, lt-leb}
 use Rattle.network.specs.declared.Reach.{Reach}
 use Rattle.network.specs.declared.Refusal.the-variants.{ShortBuffer}
 use Rattle.network.specs.Networks.{Network, maxReaches}
-use Rattle.network.specs.Tables.{kindNumber, tableOf}
+use Rattle.network.specs.Tables.{stateNumber, tableOf}
 use Rattle.network.proofs.Networks.{accepted}
 use Rattle.tables.proofs.Laws.{table-of-rows}
 use Rattle.netfile_format.specs.declared.ReadAnswer.{ReadAnswer}
@@ -76,7 +76,7 @@ module _ (file kinds a b kinds′ a′ b′ : List ℕ) (r : ReadAnswer) (room :
   left (read N) is t l =
       let w : RowsFilled (N .reaches) kinds a b kinds′ a′ b′ = subst (λ x. RowsFilled (reachesRead x) kinds a b kinds′ a′ b′) (usable ∙ is) (c .rows) in
       let h : length (N .reaches) ≤ min room maxReaches = fits-room (min room maxReaches) (readFile file) N (room-usable file bytes room ∙ is) in
-      unpacked-into (rows (length (N .reaches))) t (omega (arith, h, l)) (omega (arith, h)) (long (λ r. kindNumber (r .kind)) (N .reaches) _ zk (w .kind-row)) (long (λ r. r .a) (N .reaches) _ za (w .a-row)) (long (λ r. r .b) (N .reaches) _ zb (w .b-row))
+      unpacked-into (rows (length (N .reaches))) t (omega (arith, h, l)) (omega (arith, h)) (long (λ r. stateNumber (r .state)) (N .reaches) _ zk (w .kind-row)) (long (λ r. r .a) (N .reaches) _ za (w .a-row)) (long (λ r. r .b) (N .reaches) _ zb (w .b-row))
       ∙ ap (λ u. u ++ drop (length (N .reaches)) t) (made N w)
 
   pub packed-read : (n : ℕ) → n ≡ countOf r → ReadPacked file room (record { answer = r; rows = rows n })

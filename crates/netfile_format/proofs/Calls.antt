@@ -1,6 +1,6 @@
 -- What the reader's two passes and the writer's stores come to, case by case.
 -- Assumes nothing.
-use Prim.Native.Nat.{ℕ, _+_, _*_, _-_, _≤_, _<_}
+use Prim.Native.Nat.{ℕ, _+_, _-_, _≤_, _<_}
 use native.Mathlib.Omega.{arith}
 use mathlib.Core.Path.{_≡_, refl, sym, ap, subst, _∙_}
 use mathlib.Core.Bool.{Bool, true, false, cond, true≢false}
@@ -14,7 +14,7 @@ use Rattle.network.specs.declared.Refusal.{Refusal}
 use Rattle.network.specs.declared.Refusal.the-variants.{ShortBuffer}
 use Rattle.network.specs.declared.Reach.{Reach}
 use Rattle.network.specs.Networks.{Network, tableFault}
-use Rattle.network.specs.Tables.{kindNumber, tableOf}
+use Rattle.network.specs.Tables.{stateNumber, tableOf}
 use Rattle.tables.specs.Rows.{netOf}
 use Rattle.tables.proofs.Laws.{table-of-rows}
 use Rattle.netfile_format.specs.declared.ReadAnswer.the-variants.{Refused, Read}
@@ -22,11 +22,11 @@ use Rattle.file_records.specs.declared.WriteAnswer.the-variants.{Refused as Unw
 use lib.Pow.{areBytes}
 use Rattle.file_records.specs.Records.{twoBytes}
 use Rattle.netfile_format.specs.Files.{Reading, refused, read, readFile, reachRecords, fileOf}
-use Rattle.netfile_format.specs.Answers.{roomOf, readAnswer, withRoom, reachesRead, RowsFilled, NetworkRead, Fills, reachesAt, NetworkWritten, readNumber, readingNumber}
+use Rattle.netfile_format.specs.Answers.{roomOf, readAnswer, withRoom, reachesRead, RowsFilled, NetworkRead, reachesAt, spanOf, Fills, NetworkWritten, readNumber, readingNumber}
 use Rattle.file_records.specs.declared.WriteAnswer.{WriteAnswer}
 use Rattle.file_records.specs.Puts.{Wrote, roomFor, WroteWhole}
 use Rattle.network.specs.Replies.{firstOf}
-use Rattle.netfile_format.proofs.Files.{write-read, length-records, length-file, reaches-again}
+use Rattle.netfile_format.proofs.Files.{write-read, length-file, reaches-again, span-again}
 use Rattle.lists.proofs.Lists.{sets-after}
 use Rattle.file_records.proofs.Puts.{put-refused, put-short, put-whole}
 
@@ -77,20 +77,21 @@ module _ (file kinds a b : List ℕ) where
       written : file ≡ fileOf (C .network)
       written = write-read file (C .network) bytes (C .is) .bytes
 
+      -- what the records of a table are read as by f
+      of-table : {A : Type 0} (f : ℕ → List ℕ → A) → f m (drop 3 file) ≡ f (length (C .network .reaches)) (reachRecords (C .network .reaches) ++ (9 ∷ []))
+      of-table f = ap (λ l. f m (drop 3 l)) written ∙ ap (λ k. f k (drop 3 (fileOf (C .network)))) (sym (C .reaches))
+
       pub call-fills : Fills file m kinds a b
       call-fills =
           record {
-            records = omega (arith, ap length written, length-file (C .network), C .reaches);
+            records = omega (arith, of-table spanOf, span-again (C .network .reaches) (9 ∷ []), ap length written, length-file (C .network));
             kind-room = omega arith;
             a-room = omega arith;
             b-room = omega arith;
           }
 
       table : reachesAt m (drop 3 file) ≡ C .network .reaches
-      table =
-          ap (λ f. reachesAt m (drop 3 f)) written
-          ∙ ap (λ k. reachesAt k (drop 3 (fileOf (C .network)))) (sym (C .reaches))
-          ∙ reaches-again (C .network .reaches) (9 ∷ [])
+      table = of-table reachesAt ∙ reaches-again (C .network .reaches) (9 ∷ [])
 
       pub call-read :
           (kinds′ a′ b′ : List ℕ) → RowsFilled (reachesAt m (drop 3 file)) kinds a b kinds′ a′ b′ → NetworkRead file kinds a b (Read n m) kinds′ a′ b′
@@ -136,7 +137,7 @@ module _ (file kinds a b kinds′ a′ b′ : List ℕ) (n m : ℕ) (c : Network
   same-table : tableOf (take m kinds′) (take m a′) (take m b′) ≡ counted .network .reaches
   same-table =
       rw (
-        row-front (λ r. kindNumber (r .kind)) kinds kinds′ (rows .kind-row),
+        row-front (λ r. stateNumber (r .state)) kinds kinds′ (rows .kind-row),
         row-front (λ r. r .a) a a′ (rows .a-row),
         row-front (λ r. r .b) b b′ (rows .b-row),
       )
@@ -151,21 +152,18 @@ module _ (N : Network) (out : List ℕ) where
   pub write-refused : (r : Refusal) → tableFault N ≡ some r → NetworkWritten N out (Unwritten r) out
   write-refused r h = put-refused (fileOf N) out r (rw h)
 
-  module _ (h : tableFault N ≡ none) (m : ℕ) (e : m ≡ length (N .reaches)) where
-    size : length (fileOf N) ≡ 5 * m + 4
-    size = omega (arith, length-file N)
-
+  module _ (h : tableFault N ≡ none) (size : ℕ) (e : size ≡ length (fileOf N)) where
     -- an accepted table leaves only the room to be judged
     fits : {r : WriteAnswer} {out′ : List ℕ} → WroteWhole (fileOf N) out r out′ → NetworkWritten N out r out′
     fits {r} {out′} p = subst (λ o. Wrote (firstOf o (roomFor (fileOf N) (length out))) (fileOf N) out r out′) (sym h) p
 
-    pub write-short : length out < 5 * m + 4 → NetworkWritten N out (Unwritten ShortBuffer) out
-    write-short l = fits (put-short (fileOf N) out (omega (arith, size)))
+    pub write-short : length out < size → NetworkWritten N out (Unwritten ShortBuffer) out
+    write-short l = fits (put-short (fileOf N) out (omega arith))
 
     pub write-done :
-        (l₁ l₂ : List ℕ) → 5 * m + 4 ≤ length out → l₁ ≡ sets (set out 0 1) 1 (twoBytes (N .basins)) → l₂ ≡ sets l₁ 3 (reachRecords (N .reaches))
-        → NetworkWritten N out (Written (5 * m + 4)) (set l₂ (5 * m + 4 - 1) 9)
-    write-done l₁ l₂ l p q = fits (put-whole (fileOf N) out (5 * m + 4) (set l₂ (5 * m + 4 - 1) 9) (sym size) l whole)
+        (l₁ l₂ : List ℕ) → size ≤ length out → l₁ ≡ sets (set out 0 1) 1 (twoBytes (N .basins)) → l₂ ≡ sets l₁ 3 (reachRecords (N .reaches))
+        → NetworkWritten N out (Written size) (set l₂ (size - 1) 9)
+    write-done l₁ l₂ l p q = fits (put-whole (fileOf N) out size (set l₂ (size - 1) 9) e l whole)
       where
         front : List ℕ
         front = (1 ∷ twoBytes (N .basins)) ++ reachRecords (N .reaches)
@@ -176,8 +174,8 @@ module _ (N : Network) (out : List ℕ) where
             ∙ ap (λ l. sets l 3 (reachRecords (N .reaches))) p
             ∙ sets-after out 0 3 (1 ∷ twoBytes (N .basins)) (reachRecords (N .reaches)) (omega arith)
 
-        place : 5 * m + 4 - 1 ≡ 0 + length front
-        place = omega (arith, length-records (N .reaches))
+        place : size - 1 ≡ 0 + length front
+        place = omega (arith, length-file N)
 
-        whole : set l₂ (5 * m + 4 - 1) 9 ≡ sets out 0 (fileOf N)
-        whole = ap (λ l. set l (5 * m + 4 - 1) 9) behind-head ∙ sets-after out 0 (5 * m + 4 - 1) front (9 ∷ []) place
+        whole : set l₂ (size - 1) 9 ≡ sets out 0 (fileOf N)
+        whole = ap (λ l. set l (size - 1) 9) behind-head ∙ sets-after out 0 (size - 1) front (9 ∷ []) place

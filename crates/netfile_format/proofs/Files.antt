@@ -1,6 +1,6 @@
 -- The network file is read as it is written, and written as it is read.
 -- Assumes nothing.
-use Prim.Native.Nat.{ℕ, zero, suc, _+_, _*_, _≤_}
+use Prim.Native.Nat.{ℕ, zero, suc, _+_, _≤_}
 use native.Mathlib.Nat.{le-of-suc-le-suc}
 use native.Mathlib.Omega.{arith}
 use mathlib.Core.Path.{_≡_, refl, sym, ap, _∙_}
@@ -42,10 +42,10 @@ kind-again Gated = refl
 kind-again Flap = refl
 kind-again TwoWay = refl
 
-inner-good : (d : Kind) → elem (reachKind d) reachKinds ≡ true
-inner-good Gated = refl
-inner-good Flap = refl
-inner-good TwoWay = refl
+kind-listed : (d : Kind) → elem (reachKind d) reachKinds ≡ true
+kind-listed Gated = refl
+kind-listed Flap = refl
+kind-listed TwoWay = refl
 
 -- the bytes f start with the record of the reach r, and rest comes after it
 record Starts (r : Reach) (rest f : List ℕ) : Type 0 where
@@ -70,7 +70,7 @@ starts r rest = go (r .state) (r .a) (r .b)
     go (InService Gated) a b = record { taken = rw four; no-end = λ e. omega arith; inner = refl; reach = rw (word-bytes a, word-bytes b); size = refl; left = refl }
     go (InService Flap) a b = record { taken = rw four; no-end = λ e. omega arith; inner = refl; reach = rw (word-bytes a, word-bytes b); size = refl; left = refl }
     go (InService TwoWay) a b = record { taken = rw four; no-end = λ e. omega arith; inner = refl; reach = rw (word-bytes a, word-bytes b); size = refl; left = refl }
-    go (Shut d) a b = record { taken = rw five; no-end = λ e. omega arith; inner = inner-good d; reach = rw (word-bytes a, word-bytes b, kind-again d); size = refl; left = refl }
+    go (Shut d) a b = record { taken = rw five; no-end = λ e. omega arith; inner = kind-listed d; reach = rw (word-bytes a, word-bytes b, kind-again d); size = refl; left = refl }
 
 -- ---- what is written is read again
 

@@ -3,10 +3,12 @@
 use Prim.Native.Nat.{ℕ, suc, _+_, _-_, _≤_, _<_}
 use native.Mathlib.Omega.{arith}
 use mathlib.Core.Path.{_≡_, refl, sym, ap, _∙_}
-use mathlib.Core.Bool.{Bool, true, false}
+use mathlib.Core.Bool.{Bool, true, false, cond, not}
 use mathlib.Core.List.{List, [], _∷_}
 use lib.ListN.{length, drop, length-drop, drop-of-length-le}
 use lib.Seq.{drop-drop}
+use lib.Dec.{eqb}
+use borrow.Author.Tests.{eqb-true}
 use Rattle.network.specs.declared.Refusal.{Refusal}
 use Rattle.network.specs.declared.Refusal.the-variants.{TooManyReaches, EndOutOfRange, UnknownKind, TrailingBytes}
 use Rattle.network.specs.declared.Reach.{Reach}
@@ -86,7 +88,7 @@ module _ {n : ℕ} {file : List ℕ} {at i : ℕ} (s : FileScanned n file at i) 
     abbrev inner : Bool
     inner = goodInner k (drop (at + 1) file)
 
-    pub scan-unknown : (k ≡ 9 → ⊥) → inner ≡ false → Refused UnknownKind ≡ readAnswer (readReaches n maxReaches (drop 3 file))
+    scan-unknown : (k ≡ 9 → ⊥) → inner ≡ false → Refused UnknownKind ≡ readAnswer (readReaches n maxReaches (drop 3 file))
     scan-unknown q g = decides (refused UnknownKind) (reach-at n file at k e q .unknown (maxReaches - i) g)
 
     module _ (q : k ≡ 9 → ⊥) (g : inner ≡ true) where
@@ -112,12 +114,26 @@ module _ {n : ℕ} {file : List ℕ} {at i : ℕ} (s : FileScanned n file at i) 
             → readReaches n (maxReaches - i) (drop at file) ≡ withReach passed (readReaches n (maxReaches - (i + 1)) (drop (at + recordLength k) file))
         goes-on la lb = rw more (reach-at n file at k e q .next (maxReaches - (i + 1)) g ∙ rw (one-good n passed la lb))
 
-        pub scan-next : passed .a < n → passed .b < n → FileScanned n file (at + recordLength k) (i + 1)
-        scan-next la lb =
-            record {
+        pub scan-next : passed .a < n → passed .b < n → (m : ℕ) → m ≡ recordLength k → FileScanned n file (at + m) (i + 1)
+        scan-next la lb m is =
+            rw is
+            (record {
               below = reach-at n file at k e q .fits;
               few = let few = s .few in omega arith;
               reading =
                   sym (decides (withReach passed (readReaches n (maxReaches - (i + 1)) (drop (at + recordLength k) file))) (goes-on la lb))
                   ∙ counted-one i passed (readReaches n (maxReaches - (i + 1)) (drop (at + recordLength k) file));
-            }
+            })
+
+    -- which refusal a reach's values give first: 5 by its inner kind, then 2 by its number
+    pub scan-values :
+        (k ≡ 9 → ⊥) → {g : Bool} → g ≡ inner
+        → let answer = readAnswer (readReaches n maxReaches (drop 3 file)) in
+        answer ≡ cond (not g) (Refused UnknownKind) (cond (eqb i maxReaches) (Refused TooManyReaches) answer)
+    scan-values q {g} is = go g is (eqb i maxReaches) refl
+      where
+        go : (g : Bool) → g ≡ inner → (f : Bool) → eqb i maxReaches ≡ f
+            → readAnswer (readReaches n maxReaches (drop 3 file)) ≡ cond (not g) (Refused UnknownKind) (cond f (Refused TooManyReaches) (readAnswer (readReaches n maxReaches (drop 3 file))))
+        go false e f h = sym (scan-unknown q (sym e))
+        go true e true h = sym (scan-full q (sym e) (eqb-true i maxReaches h))
+        go true e false h = refl

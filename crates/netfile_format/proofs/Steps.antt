@@ -3,24 +3,30 @@
 use Prim.Native.Nat.{ℕ, zero, suc, _+_, _-_, _≤_}
 use native.Mathlib.Omega.{arith}
 use mathlib.Core.Path.{_≡_, refl, sym, ap, _∙_}
-use mathlib.Core.Bool.{true, false, cond}
+use mathlib.Core.Bool.{Bool, true, false, cond}
 use mathlib.Core.List.{List, [], _∷_}
 use lib.ListN.{length, getD, take, drop, length-drop}
-use lib.Seq.{take-nil, take-take, drop-drop, getD-take}
-use borrow.Author.Tests.{ne-eqb}
+use lib.Seq.{take-nil, take-take, drop-drop, getD-take, getD-drop}
+use lib.Dec.{eqb}
+use borrow.Author.Tests.{eq-eqb, ne-eqb}
+use Rattle.network.specs.declared.Kind.{Kind}
+use Rattle.network.specs.declared.Kind.the-variants.{Gated, Flap, TwoWay}
+use Rattle.network.specs.declared.State.the-variants.{InService, Shut}
 use Rattle.network.specs.declared.Reach.{Reach}
 use Rattle.network.specs.declared.Refusal.{Refusal}
 use Rattle.network.specs.declared.Refusal.the-variants.{BasinCount, TooManyReaches, EndOutOfRange, UnknownKind}
 use Rattle.network.specs.Networks.{maxBasins, maxReaches}
+use Rattle.network.specs.Tables.{stateNumber}
+use Rattle.lists.specs.Lists.{elem}
 use Rattle.lists.specs.Words.{wordOf}
 use Rattle.network.proofs.Networks.{endsBelow}
 use Rattle.tables.proofs.Faults.{count-good, count-bad}
 use Rattle.file_records.specs.declared.Taken.the-variants.{Broken, Whole}
 use Rattle.file_records.specs.Records.{bodyOf, broken, whole, takeRecord, takenAnswer}
-use Rattle.netfile_format.specs.Files.{headDue, reachDue, recordState, goodInner, recordReach, refused, atEnd, withReach, readReaches, readBasins, readFile}
+use Rattle.netfile_format.specs.Files.{reachKinds, recordKind, headDue, reachDue, innerKind, recordState, goodInner, recordReach, refused, atEnd, withReach, readReaches, readBasins, readFile}
 use Rattle.netfile_format.specs.Answers.{recordLength, reachAtFront}
 use Rattle.file_records.proofs.Taking.{broken-is, Stands, stands, same-size}
-use Rattle.netfile_format.proofs.Marking.{Reaching, of-reach, comes-first, body-reach, body-head}
+use Rattle.netfile_format.proofs.Marking.{Reaching, of-reach, comes-first, body-reach, body-head, kind-known, kind-unknown}
 use Rattle.file_records.proofs.Records.{body-end}
 
 module _ (n : ℕ) (left : ℕ) (f : List ℕ) where
@@ -59,6 +65,13 @@ reachFrom k x y = record { state = recordState k x; a = wordOf (take 2 x); b = w
 pub front-ends : (f : List ℕ) → reachAtFront f ≡ reachFrom (getD f 0 0) (drop 1 f) (drop 3 f)
 front-ends f = rw (drop-drop 2 1 f)
 
+pub record-long : (k : ℕ) → 5 ≤ recordLength k
+record-long k = go (eqb k 5)
+  where
+    go : (x : Bool) → 5 ≤ cond x 6 5
+    go true = omega arith
+    go false = omega arith
+
 -- ---- a body is the front of what stands behind its kind byte
 
 after-two : (n : ℕ) (f : List ℕ) → drop 2 (take (suc (suc n)) f) ≡ take n (drop 2 f)
@@ -77,25 +90,22 @@ record BodyIn (f : List ℕ) (k : ℕ) : Type 0 where
   pub reach : recordReach k (take (recordLength k - 1) (drop 1 f)) ≡ reachFrom k (drop 1 f) (drop 3 f)
   pub inner : goodInner k (take (recordLength k - 1) (drop 1 f)) ≡ goodInner k (drop 1 f)
   pub size : suc (recordLength k - 1) ≡ recordLength k
-  pub ends : 5 ≤ recordLength k
 
 body-in : (f : List ℕ) (k : ℕ) → Reaching k → BodyIn f k
 body-in f =
     of-reach (BodyIn f)
-    (record { reach = ends-in 2 2 f (omega arith) refl; inner = refl; size = refl; ends = omega arith })
-    (record { reach = ends-in 3 2 f (omega arith) refl; inner = refl; size = refl; ends = omega arith })
-    (record { reach = ends-in 4 2 f (omega arith) refl; inner = refl; size = refl; ends = omega arith })
+    (record { reach = ends-in 2 2 f (omega arith) refl; inner = refl; size = refl })
+    (record { reach = ends-in 3 2 f (omega arith) refl; inner = refl; size = refl })
+    (record { reach = ends-in 4 2 f (omega arith) refl; inner = refl; size = refl })
     (record {
       reach = ends-in 5 3 f (omega arith) (rw (getD-take 5 (drop 1 f) 4 0 (omega arith)));
       inner = rw (getD-take 5 (drop 1 f) 4 0 (omega arith));
       size = refl;
-      ends = omega arith;
     })
 
 -- a reach stands at the front: it fits, and how the reading goes on
 pub record ReachStep (n : ℕ) (f : List ℕ) (k : ℕ) : Type 0 where
   pub fits : recordLength k ≤ length f
-  pub ends-fit : 5 ≤ recordLength k
   pub unknown : (left : ℕ) → goodInner k (drop 1 f) ≡ false → readReaches n left f ≡ refused UnknownKind
   pub full : goodInner k (drop 1 f) ≡ true → readReaches n 0 f ≡ refused TooManyReaches
   pub next :
@@ -108,7 +118,6 @@ unfolding readReaches
 reach-front n f k e q =
     record {
       fits = omega (arith, s .long, size, b .size);
-      ends-fit = b .ends;
       unknown = unknown;
       full = λ g. rw (t, ne-eqb k 9 q, b .inner, g);
       next =
@@ -142,7 +151,6 @@ reach-front n f k e q =
 -- the same at a position of a file
 pub record ReachAt (n : ℕ) (file : List ℕ) (at k : ℕ) : Type 0 where
   pub fits : at + recordLength k ≤ length file
-  pub ends-fit : 5 ≤ recordLength k
   pub unknown : (left : ℕ) → goodInner k (drop (at + 1) file) ≡ false → readReaches n left (drop at file) ≡ refused UnknownKind
   pub full : goodInner k (drop (at + 1) file) ≡ true → readReaches n 0 (drop at file) ≡ refused TooManyReaches
   pub next :
@@ -156,8 +164,7 @@ pub reach-at :
     → ReachAt n file at k
 reach-at n file at k e q =
     record {
-      fits = omega (arith, simp length-drop at (r .fits), r .ends-fit);
-      ends-fit = r .ends-fit;
+      fits = omega (arith, simp length-drop at (r .fits), record-long k);
       unknown = λ left g. r .unknown left (simp drop-drop g);
       full = λ g. r .full (simp drop-drop g);
       next = λ left g. simp drop-drop at (r .next left (simp drop-drop g));
@@ -165,6 +172,29 @@ reach-at n file at k e q =
   where
     r : ReachStep n (drop at file) k
     r = reach-front n (drop at file) k e q
+
+-- ---- the inner kind of a shut reach, by its place j
+
+number-shut : (d : Kind) → stateNumber (InService d) + 3 ≡ stateNumber (Shut d)
+number-shut Gated = refl
+number-shut Flap = refl
+number-shut TwoWay = refl
+
+module _ (file : List ℕ) (at k j : ℕ) (e : k ≡ 5) (q : j ≡ at + 5) where
+  inner-place : innerKind (drop (at + 1) file) ≡ getD file j 0
+  inner-place = getD-drop (at + 1) file 4 0 ∙ ap (λ i. getD file i 0) (omega arith)
+
+  inner-is : goodInner k (drop (at + 1) file) ≡ elem (getD file j 0) reachKinds
+  inner-is = rw (eq-eqb k 5 e, inner-place)
+
+  pub inner-good : 2 ≤ getD file j 0 → getD file j 0 ≤ 4 → true ≡ goodInner k (drop (at + 1) file)
+  inner-good l h = sym (inner-is ∙ kind-known (getD file j 0) l h)
+
+  pub inner-bad : (2 ≤ getD file j 0 → getD file j 0 ≤ 4 → ⊥) → false ≡ goodInner k (drop (at + 1) file)
+  inner-bad n = sym (inner-is ∙ kind-unknown (getD file j 0) n)
+
+  pub state-shut : (m : ℕ) → m ≡ stateNumber (InService (recordKind (getD file j 0))) → m + 3 ≡ stateNumber (recordState k (drop (at + 1) file))
+  state-shut m h = rw (eq-eqb k 5 e, inner-place, h) (number-shut (recordKind (getD file j 0)))
 
 -- the head stands at the front: it fits, and how the reading goes on
 pub record HeadStep (f : List ℕ) : Type 0 where

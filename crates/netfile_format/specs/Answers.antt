@@ -7,10 +7,11 @@ use mathlib.Core.List.{List, [], _∷_, _++_, map}
 use mathlib.Core.Option.{Option}
 use lib.ListN.{length, getD, drop}
 use lib.Dec.{leb, eqb}
+use Rattle.network.specs.declared.State.{State}
 use Rattle.network.specs.declared.Reach.{Reach}
 use Rattle.network.specs.declared.Refusal.{Refusal}
 use Rattle.network.specs.declared.Refusal.the-variants.{ShortBuffer}
-use Rattle.network.specs.Networks.{Network, tableFault}
+use Rattle.network.specs.Networks.{Network, inService, tableFault}
 use Rattle.network.specs.Tables.{stateNumber}
 use Rattle.network.specs.Replies.{refusalNumber, firstOf}
 use Rattle.netfile_format.specs.declared.ReadAnswer.{ReadAnswer}
@@ -69,9 +70,12 @@ pub record ReadTable (file : List ℕ) (t : List Reach) (r : ReadAnswer) (t′ :
   pub number : readNumber r ≡ readingNumber (withRoom (length t) (readFile file))
   pub table : t′ ≡ leftIn (withRoom (length t) (readFile file)) t
 
--- The length of a reach's record, by its kind byte.
+-- The length of a reach's record, by its kind byte and by the reach's state: a kind byte, and a body of 4 bytes, or of 5 if it is shut.
 abbrev pub recordLength : ℕ → ℕ
 recordLength k = cond (eqb k shutKind) 6 5
+
+abbrev pub stateLength : State → ℕ
+stateLength s = cond (inService s) 5 6
 
 -- The reach of the record at the front of the bytes f, and those of the first n records.
 abbrev pub reachAtFront : List ℕ → Reach

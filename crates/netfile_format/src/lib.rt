@@ -15,6 +15,9 @@ pub const TWO_WAY: u8 = 4;
 // A shut reach; the last byte of its body is the kind that it goes back to.
 pub const SHUT: u8 = 5;
 
+// By how much the number of a shut reach's state exceeds that of its kind; the numbers below it are those of reaches in service.
+pub const SHUT_OFFSET: u8 = 3;
+
 // The kinds that may come where the head is due, and after it.
 pub const HEAD_DUE: [u8; 1] = [HEAD];
 

@@ -9,23 +9,52 @@ use netfile_format::GATED;
 use netfile_format::HEAD_DUE;
 use netfile_format::REACH_DUE;
 use netfile_format::ReadAnswer;
+use netfile_format::SHUT;
+use netfile_format::SHUT_OFFSET;
+use netfile_format::TWO_WAY;
 use network::MAX_BASINS;
 use network::MAX_REACHES;
 use network::Refusal;
 ghost use mathlib.Core.Path.{_≡_};
-ghost use Prim.Native.Nat.{_≤_};
+ghost use Prim.Native.Nat.{_+_, _≤_};
 ghost use lib.ListN.{length, drop};
 ghost use Rattle.network.specs.Networks.{maxReaches};
-ghost use Rattle.network.specs.Tables.{kindNumber};
+ghost use Rattle.network.specs.declared.State.the-variants.{InService};
+ghost use Rattle.network.specs.Tables.{stateNumber};
 ghost use Rattle.file_records.specs.Records.{takeRecord, takenAnswer};
-ghost use Rattle.netfile_format.specs.Files.{reachDue, recordKind, readReaches, readFile};
-ghost use Rattle.netfile_format.specs.Answers.{readAnswer, reachesAt, Fills, RowsFilled};
+ghost use Rattle.netfile_format.specs.Files.{reachDue, recordKind, recordState, goodInner, readReaches, readFile};
+ghost use Rattle.netfile_format.specs.Answers.{readAnswer, recordLength, reachesAt, Fills, RowsFilled};
 
 // The record at a position after the head, a reach or the end.
 fn reach_or_end(file: &[u8], at: usize) -> Taken
     ensures { λ r. ⌜ r ≡ takenAnswer (takeRecord reachDue (drop at (now (file .entry)))) ⌝ }
 {
     take_record(file, at, &REACH_DUE)
+}
+
+// The length of a reach's record.
+fn record_length(kind: u8) -> usize
+    ensures { λ r. ⌜ r ≡ recordLength kind ⌝ }
+{
+    if kind == SHUT { 6 } else { 5 }
+}
+
+// Whether a reach goes back to one of the three kinds, if it is shut.
+fn good_inner(file: &[u8], at: usize, kind: u8) -> bool
+    requires { ⌜ at + recordLength kind ≤ length (now file) ⌝ }
+    ensures { λ r. ⌜ r ≡ goodInner kind (drop (at + 1) (now (file .entry))) ⌝ }
+{
+    if kind != SHUT {
+        return true;
+    }
+    let inner = file[at + 5];
+    if inner < GATED {
+        return false;
+    }
+    if TWO_WAY < inner {
+        return false;
+    }
+    true
 }
 
 // The reaches and the end, which start after the head.
@@ -46,7 +75,12 @@ fn check_reaches(file: &[u8], basins: u16) -> ReadAnswer
             }
             return ReadAnswer::Read { basins, reaches };
         }
-        if reaches == MAX_REACHES {
+        let wrong = !good_inner(file, at, kind);
+        let full = reaches == MAX_REACHES;
+        if wrong {
+            return ReadAnswer::Refused(Refusal::UnknownKind);
+        }
+        if full {
             return ReadAnswer::Refused(Refusal::TooManyReaches);
         }
         if basins <= word_at(file, at + 1) {
@@ -55,7 +89,7 @@ fn check_reaches(file: &[u8], basins: u16) -> ReadAnswer
         if basins <= word_at(file, at + 3) {
             return ReadAnswer::Refused(Refusal::EndOutOfRange);
         }
-        at += 5;
+        at += record_length(kind);
         reaches += 1;
     }
 }
@@ -79,9 +113,10 @@ pub fn check_network(file: &[u8]) -> ReadAnswer
     }
 }
 
-// The number of a reach's kind, by its kind byte.
+// The number of a kind, by its kind byte.
 fn kind_number(kind: u8) -> u8
-    ensures { λ r. ⌜ r ≡ kindNumber (recordKind kind) ⌝ }
+    ensures { λ r. ⌜ r ≡ stateNumber (InService (recordKind kind)) ⌝ }
+    ensures { λ r. ⌜ r ≤ 2 ⌝ }
 {
     if kind == GATED {
         return 0;
@@ -90,6 +125,17 @@ fn kind_number(kind: u8) -> u8
         return 1;
     }
     2
+}
+
+// The number of a reach's state, by its kind byte, and by its inner kind if it is shut.
+fn state_number(file: &[u8], at: usize, kind: u8) -> u8
+    requires { ⌜ at + recordLength kind ≤ length (now file) ⌝ }
+    ensures { λ r. ⌜ r ≡ stateNumber (recordState kind (drop (at + 1) (now (file .entry)))) ⌝ }
+{
+    if kind == SHUT {
+        return kind_number(file[at + 5]) + SHUT_OFFSET;
+    }
+    kind_number(kind)
 }
 
 // The first n reaches of a file go to the rows.
@@ -103,10 +149,11 @@ pub fn fill(file: &[u8], n: usize, kinds: &mut [u8], a: &mut [u16], b: &mut [u16
     let mut i: usize = 0;
     let mut at: usize = 3;
     while i < n {
-        kinds[i] = kind_number(file[at]);
+        let kind = file[at];
+        kinds[i] = state_number(file, at, kind);
         a[i] = word_at(file, at + 1);
         b[i] = word_at(file, at + 3);
-        at += 5;
+        at += record_length(kind);
         i += 1;
     }
 }

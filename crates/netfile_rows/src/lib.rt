@@ -34,7 +34,7 @@ pub fn write_network(basins: u16, kinds: &[u8], a: &[u16], b: &[u16], out: &mut 
     if let TableAnswer::Refused(r) = tables::table_check(basins, kinds, a, b) {
         return WriteAnswer::Refused(r);
     }
-    let size = 5 * tables::row_count(kinds, a, b) + 4;
+    let size = netfile_writing::file_length(kinds, a, b);
     if out.len() < size {
         return WriteAnswer::Refused(Refusal::ShortBuffer);
     }

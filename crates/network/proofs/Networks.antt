@@ -82,7 +82,13 @@ state-other (suc (suc (suc zero))) l = absurd (omega arith)
 state-other (suc (suc (suc (suc zero)))) l = absurd (omega arith)
 state-other (suc (suc (suc (suc (suc k))))) l = refl
 
--- those from 3 on are shut
+-- those below 3 are in service, those from 3 on shut
+pub state-in-service : (k : ℕ) → k < 3 → inService (stateOf k) ≡ true
+state-in-service zero l = refl
+state-in-service (suc zero) l = refl
+state-in-service (suc (suc zero)) l = refl
+state-in-service (suc (suc (suc k))) l = absurd (omega arith)
+
 pub state-shut : (k : ℕ) → 3 ≤ k → inService (stateOf k) ≡ false
 state-shut zero l = absurd (omega arith)
 state-shut (suc zero) l = absurd (omega arith)

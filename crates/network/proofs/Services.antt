@@ -17,13 +17,13 @@ use Rattle.network.specs.declared.State.the-variants.{InService, Shut}
 use Rattle.network.specs.declared.Reach.{Reach}
 use Rattle.network.specs.declared.Refusal.{Refusal}
 use Rattle.lists.specs.Lists.{range, some?, find, elem}
-use Rattle.network.specs.Networks.{Network, inService, maxReaches, basinsOf, lowestBasin, goodLength, goodEnds, tableFault, Accepted}
+use Rattle.network.specs.Networks.{Network, inService, kindIn, maxReaches, basinsOf, lowestBasin, goodLength, goodEnds, tableFault, Accepted}
 use Rattle.network.specs.Settings.{isGated, gatesFrom, gateCount, isSetting, settingFault, before, settings}
 use Rattle.network.specs.Orientations.{Arc, way, after, ways, passing, arcs, arcsUnder, unoriented}
 use Rattle.network.specs.Plans.{stronglyConnected, stronglyConnectedUnder, isPlan, passable, firstPlan, nextPlan}
 use Rattle.network.specs.Bridges.{sides, isCut, crossesBy, noReach, reachAt, crossesAlone, isBridge, lowestBridge}
 use Rattle.network.specs.Replies.{Outcome, shutInBasin, shutInSide, bridgeSide, shutInFinding, loneFinding, chosen, orLone, answer, firstAnswer, nextAnswer, unless, roomFault, firstReply, nextReply}
-use Rattle.network.specs.Services.{shutState, serviceState, shutReach, backReach, shutAt, backAt, serviceReaches, serviceNet, serviceNumber, renumbered}
+use Rattle.network.specs.Services.{shutReach, backReach, shutAt, backAt, serviceReaches, serviceNet, serviceNumber, renumbered}
 use Rattle.lists.proofs.Bools.{decide, clash, same-test}
 use Rattle.lists.proofs.Lists.{length-cond}
 use Rattle.lists.proofs.Searches.{every-make, every-at, find-is, find-same, find-first, find-lowest, keep-in, length-keep, KeptFrom, kept-at, kept-below, kept-rises, kept-from}
@@ -35,7 +35,7 @@ use Rattle.network.proofs.Replies.{lowest-is-bridge, no-lowest}
 
 -- ---- a reach put back in service is the reach that it was
 
-back-state : (d : State) → inService d ≡ true → serviceState (shutState d) ≡ d
+back-state : (d : State) → inService d ≡ true → InService (kindIn d) ≡ d
 back-state (InService k) e = refl
 back-state (Shut k) e = absurd (false≢true e)
 

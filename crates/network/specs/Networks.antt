@@ -7,6 +7,7 @@ use mathlib.Core.List.{List}
 use mathlib.Core.Option.{Option, none, some}
 use lib.ListN.{length, getD}
 use lib.Dec.{leb, ltb}
+use Rattle.network.specs.declared.Kind.{Kind}
 use Rattle.network.specs.declared.State.{State}
 use Rattle.network.specs.declared.State.the-variants.{InService, Shut}
 use Rattle.network.specs.declared.Reach.{Reach}
@@ -35,6 +36,11 @@ net n t = record { basins = n; reaches = t }
 abbrev pub inService : State → Bool
 inService (InService k) = true
 inService (Shut k) = false
+
+-- The kind inside the state: while shut, "the kind .. it goes back to".
+abbrev pub kindIn : State → Kind
+kindIn (InService k) = k
+kindIn (Shut k) = k
 
 -- The basins of a network, lowest first.
 abbrev pub basinsOf : Network → List ℕ

@@ -2,32 +2,21 @@
 -- findings are those of the reaches in service."
 -- Assumes nothing.
 use Prim.Native.Nat.{ℕ}
-use mathlib.Core.Bool.{Bool}
 use mathlib.Core.List.{List}
 use lib.ListN.{length, take, set}
 use Rattle.lists.specs.Lists.{keep}
-use Rattle.network.specs.declared.State.{State}
 use Rattle.network.specs.declared.State.the-variants.{InService, Shut}
 use Rattle.network.specs.declared.Reach.{Reach}
-use Rattle.network.specs.Networks.{Network, net, inService}
+use Rattle.network.specs.Networks.{Network, net, inService, kindIn}
 use Rattle.network.specs.Bridges.{reachAt}
 use Rattle.network.specs.Replies.{Outcome, plan, shutIn, lone, refused}
 
--- A state with its kind shut, and in service: "the kind .. it goes back to".
-abbrev pub shutState : State → State
-shutState (InService k) = Shut k
-shutState (Shut k) = Shut k
-
-abbrev pub serviceState : State → State
-serviceState (InService k) = InService k
-serviceState (Shut k) = InService k
-
--- A reach shut for works, and put back in service.
+-- A reach shut for works, and put back in service: its kind stays.
 abbrev pub shutReach : Reach → Reach
-shutReach r = record { state = shutState (r .state); a = r .a; b = r .b }
+shutReach r = record { state = Shut (kindIn (r .state)); a = r .a; b = r .b }
 
 abbrev pub backReach : Reach → Reach
-backReach r = record { state = serviceState (r .state); a = r .a; b = r .b }
+backReach r = record { state = InService (kindIn (r .state)); a = r .a; b = r .b }
 
 -- The network with its reach i shut, and with it put back in service.
 abbrev pub shutAt : Network → ℕ → Network

@@ -2,9 +2,10 @@
 -- The measure is how many reaches are left. Assumes nothing.
 use Prim.Native.Nat.{_+_, _-_, _≤_, _<_}
 use native.Mathlib.Omega.{arith}
-use lib.ListN.{length}
-use borrow.Author.Needs.{needs}
-use Rattle.netfile_format.proofs.Filling.{RowsFilling, filling-none, filling-more, filling-all}
+use lib.ListN.{length, getD}
+use Rattle.netfile_format.specs.Answers.{recordLength}
+use Rattle.netfile_format.proofs.Steps.{record-long}
+use Rattle.netfile_format.proofs.Filling.{RowsFilling, filling-none, filling-fits, filling-more, filling-all}
 use Rattle.netfile_reading.proofs.fill.Statement.{statement}
 use Rattle.netfile_reading.proofs.fill.Tie as tie
 
@@ -15,8 +16,13 @@ abbrev μ-loop : tie.MeasureT-loop
 μ-loop file n kinds₀ a₀ b₀ i₀ at₀ kinds a b i at = n - i
 
 -- in a turn the record stands in the file, and there is room for its reach in the three rows
-stands : (c : tie.In-loop Inv-loop μ-loop) → c .before .loop .at + 5 ≤ length (c .before .before .before .before .before .before .args .file .now)
-stands c = omega (arith, c .before .loop .inv .place, c .before .before .before .before .before .before .pre .records)
+stands : (c : tie.In-loop Inv-loop μ-loop) → let f = c .before .before .before .before .before .before .args .file .now in c .before .loop .at + recordLength (getD f (c .before .loop .at) 0) ≤ length f
+stands c =
+    let s = c .before .before .before .before .before .before in
+    filling-fits (s .args .file .now) (s .args .n) (s .args .kinds .now) (s .args .a .now) (s .args .b .now) (s .pre) (c .before .loop .inv) (c .loop-test .taken)
+
+ends : (c : tie.In-loop Inv-loop μ-loop) → c .before .loop .at + 5 ≤ length (c .before .before .before .before .before .before .args .file .now)
+ends c = omega (arith, stands c, record-long (getD (c .before .before .before .before .before .before .args .file .now) (c .before .loop .at) 0))
 
 room :
     (c : tie.In-loop Inv-loop μ-loop)
@@ -29,23 +35,23 @@ room c =
 
 loop-holds : tie.Need-loop-holds Inv-loop μ-loop
 loop-holds c =
-    let s = c .before .before .before .before .args in
-    filling-none (s .file .now) (s .n) (s .kinds .now) (s .a .now) (s .b .now)
+    let s = c .before .before .before .before in
+    filling-none (s .args .file .now) (s .args .n) (s .args .kinds .now) (s .args .a .now) (s .args .b .now) (s .pre)
 
-shared-slice-read-kind-number : tie.Need-shared-slice-read-kind-number Inv-loop μ-loop
-shared-slice-read-kind-number c = omega (arith, stands (c .before))
+shared-slice-read-kind : tie.Need-shared-slice-read-kind Inv-loop μ-loop
+shared-slice-read-kind c = omega (arith, ends (c .before))
 
-kind-number-requires : tie.Need-kind-number-requires Inv-loop μ-loop
-kind-number-requires c κs = search needs
+state-number-requires : tie.Need-state-number-requires Inv-loop μ-loop
+state-number-requires c κs = stands (c .before)
 
 slice-write-kinds : tie.Need-slice-write-kinds Inv-loop μ-loop
 slice-write-kinds c = omega (arith, room (c .before .before))
 
 add-word-at : tie.Need-add-word-at Inv-loop μ-loop
-add-word-at c = omega (arith, stands (c .before .before))
+add-word-at c = omega (arith, ends (c .before .before))
 
 word-at-requires : tie.Need-word-at-requires Inv-loop μ-loop
-word-at-requires c κs = omega (arith, stands (c .before .before))
+word-at-requires c κs = omega (arith, ends (c .before .before))
 
 mul-a : tie.Need-mul-a Inv-loop μ-loop
 mul-a c = omega (arith, c .before .before .before .before .before .before .before .before .before .pre .a-room)
@@ -54,10 +60,10 @@ slice-write-a : tie.Need-slice-write-a Inv-loop μ-loop
 slice-write-a c = omega (arith, room (c .before .before .before))
 
 add-word-at-2 : tie.Need-add-word-at-2 Inv-loop μ-loop
-add-word-at-2 c = omega (arith, stands (c .before .before .before))
+add-word-at-2 c = omega (arith, ends (c .before .before .before))
 
 word-at-requires-2 : tie.Need-word-at-requires-2 Inv-loop μ-loop
-word-at-requires-2 c κs = omega (arith, stands (c .before .before .before))
+word-at-requires-2 c κs = omega (arith, ends (c .before .before .before))
 
 mul-b : tie.Need-mul-b Inv-loop μ-loop
 mul-b c = omega (arith, c .before .before .before .before .before .before .before .before .before .before .pre .b-room)
@@ -65,24 +71,27 @@ mul-b c = omega (arith, c .before .before .before .before .before .before .befor
 slice-write-b : tie.Need-slice-write-b Inv-loop μ-loop
 slice-write-b c = omega (arith, room (c .before .before .before .before))
 
+record-length-requires : tie.Need-record-length-requires Inv-loop μ-loop
+record-length-requires c κs = tt
+
 add-at : tie.Need-add-at Inv-loop μ-loop
-add-at c = omega (arith, stands (c .before .before .before .before))
+add-at c = omega (arith, stands (c .before .before .before .before .before), c .record-length .ensures)
 
 add-i : tie.Need-add-i Inv-loop μ-loop
-add-i c = omega arith
+add-i c = omega (arith, c .before .before .before .before .before .loop-test .taken)
 
 loop-less : tie.Need-loop-less Inv-loop μ-loop
-loop-less c = omega arith
+loop-less c = omega (arith, c .before .before .before .before .before .loop-test .taken)
 
 loop-again : tie.Need-loop-again Inv-loop μ-loop
 loop-again c =
-    let s = c .before .before .before .before .before .before .before .before .before .before in
-    let l = c .before .before .before .before .before .loop in
-    let kind = c .before .before .kind-number in
-    let x = c .before .word-at in
-    let y = c .word-at2 in
-    filling-more (s .args .file .now) (s .args .n) (s .args .kinds .now) (s .args .a .now) (s .args .b .now) (l .kinds) (l .a) (l .b) (l .i) (l .at)
-    (s .pre) (l .inv) (c .before .before .before .before .loop-test .taken) (kind .result) (x .result) (y .result) (kind .ensures) (x .ensures) (y .ensures)
+    let s = c .before .before .before .before .before .before .before .before .before .before .before in
+    let l = c .before .before .before .before .before .before .loop in
+    let kind = c .before .before .before .state-number in
+    let x = c .before .before .word-at in
+    let y = c .before .word-at2 in
+    filling-more (s .args .file .now) (s .args .n) (s .args .kinds .now) (s .args .a .now) (s .args .b .now) (s .pre) (l .inv) (c .before .before .before .before .before .loop-test .taken)
+    (kind .result) (x .result) (y .result) (c .record-length .result) (kind .ensures) (x .ensures) (y .ensures) (c .record-length .ensures)
 
 same-length : tie.Need-same-length Inv-loop μ-loop
 same-length c = c .before .loop .inv .kind-row .long
@@ -95,9 +104,8 @@ same-length-3 c = c .before .loop .inv .b-row .long
 
 returns : tie.Need-returns Inv-loop μ-loop
 returns c =
-    let s = c .before .before .before .before .before .before .args in
-    let l = c .before .loop in
-    filling-all (s .file .now) (s .n) (s .kinds .now) (s .a .now) (s .b .now) (l .kinds) (l .a) (l .b) (l .i) (l .at) (l .inv) (c .loop-test .left)
+    let s = c .before .before .before .before .before .before in
+    filling-all (s .args .file .now) (s .args .n) (s .args .kinds .now) (s .args .a .now) (s .args .b .now) (s .pre) (c .before .loop .inv) (c .loop-test .left)
 
 pub fill-spec : {M : Type 1} → statement M
 fill-spec =
@@ -106,8 +114,8 @@ fill-spec =
     Inv-loop
     μ-loop
     loop-holds
-    shared-slice-read-kind-number
-    kind-number-requires
+    shared-slice-read-kind
+    state-number-requires
     slice-write-kinds
     add-word-at
     word-at-requires
@@ -117,6 +125,7 @@ fill-spec =
     word-at-requires-2
     mul-b
     slice-write-b
+    record-length-requires
     add-at
     add-i
     loop-less
