@@ -1,4 +1,4 @@
-//! The lister of document 01 in plain Rust: the yardstick for the project's own lister, written from the paper alone.
+//! The lister of document 01, with item 1 of document 02, in plain Rust: the yardstick for the project's own lister, written from the papers alone.
 //!
 //! It reads a network file on standard input and prints the plans in order, or the refusal. Nothing here is proved.
 //! Build: `rustc -O bench/lister.rs`. It uses only the standard library.
@@ -33,6 +33,7 @@ const HEAD: u8 = 1;
 const GATED: u8 = 2;
 const FLAP: u8 = 3;
 const TWO_WAY: u8 = 4;
+const SHUT: u8 = 5;
 const END: u8 = 9;
 
 struct Reach {
@@ -43,6 +44,7 @@ struct Reach {
 
 struct Network {
     basins: usize,
+    /// Those in service: no other passes water or has a character on a line.
     reaches: Vec<Reach>,
 }
 
@@ -54,6 +56,7 @@ fn record<'a>(file: &mut &'a [u8], allowed: &[u8]) -> Result<(u8, &'a [u8]), Ref
     }
     let length = match kind {
         HEAD => 2,
+        SHUT => 5,
         END => 0,
         _ => 4,
     };
@@ -76,19 +79,26 @@ fn read_network(mut file: &[u8]) -> Result<Network, Refusal> {
         return Err(BASIN_COUNT);
     }
     let mut reaches = Vec::with_capacity(MAX_REACHES);
+    let mut count = 0;
     loop {
-        let (kind, body) = record(&mut file, &[GATED, FLAP, TWO_WAY, END])?;
+        let (kind, body) = record(&mut file, &[GATED, FLAP, TWO_WAY, SHUT, END])?;
         if kind == END {
             break;
         }
-        if reaches.len() == MAX_REACHES {
+        if kind == SHUT && ![GATED, FLAP, TWO_WAY].contains(&body[4]) {
+            return Err(UNKNOWN_MARK);
+        }
+        if count == MAX_REACHES {
             return Err(OVER_FULL);
         }
         let (a, b) = (two_bytes(body, 0), two_bytes(body, 2));
         if a >= basins || b >= basins {
             return Err(STRAY_END);
         }
-        reaches.push(Reach { kind, a, b });
+        count += 1;
+        if kind != SHUT {
+            reaches.push(Reach { kind, a, b });
+        }
     }
     if !file.is_empty() {
         return Err(OVERRUN);

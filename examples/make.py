@@ -1,5 +1,5 @@
 #!/usr/bin/env python3
-"""Writes the example networks beside this file, as network files of document 01.
+"""Writes the example networks beside this file, as network files of document 01 and item 1 of document 02.
 
     python3 examples/make.py
 
@@ -8,7 +8,7 @@ Each run writes the same bytes. examples/README.md says what each network is and
 
 import os
 
-# Name: basins, reaches. G gated, F flap, T two-way; "G 0-1" has A = 0 and B = 1.
+# Name: basins, reaches. G gated, F flap, T two-way; g, f, t the same, shut for works. "G 0-1" has A = 0 and B = 1.
 NETWORKS = {
     # The marked cases of document 01, and its case 13.
     "case-01": (1, ""),
@@ -38,6 +38,9 @@ NETWORKS = {
     # An upper and a lower pasture, each sound in itself, joined by one gated culvert, reach 5.
     "single-culvert": (7, "G 0-1, G 1-2, F 2-3, T 3-0, G 1-3, G 3-4, G 4-5, T 5-6, G 6-4, F 4-6"),
 
+    # The same with a second culvert, reach 10: a flap from the lower pasture back to the upper.
+    "second-culvert": (7, "G 0-1, G 1-2, F 2-3, T 3-0, G 1-3, G 3-4, G 4-5, T 5-6, G 6-4, F 4-6, F 4-3"),
+
     # On both edges of the lister's 1,000 plans. Parts that meet in basin 0 alone multiply: 5 * 5 * 5 * 2 * 2 * 2 plans,
     # and 7 * 11 * 13.
     "plans-1000": (10,
@@ -52,6 +55,14 @@ NETWORKS = {
 }
 
 
+# With one reach shut for works: a network above, and the reach.
+SHUT = {
+    "pasture-ditch-shut": ("pasture", 13),
+    "pasture-main-shut": ("pasture", 0),
+    "second-culvert-shut": ("second-culvert", 10),
+}
+
+
 def reaches(text):
     """The reaches written in the notation above."""
     result = []
@@ -60,6 +71,12 @@ def reaches(text):
         a, b = ends.split("-")
         result.append((kind, int(a), int(b)))
     return result
+
+
+def shut(table, i):
+    """The same reaches with number i shut for works."""
+    kind, a, b = table[i]
+    return table[:i] + [(kind.lower(), a, b)] + table[i + 1:]
 
 
 def grid(side):
@@ -95,8 +112,9 @@ def network_file(basins, table):
     """The network file: a head, the reaches, an end."""
     out = bytearray([1]) + basins.to_bytes(2, "little")
     for kind, a, b in table:
-        out.append({"G": 2, "F": 3, "T": 4}[kind])
-        out += a.to_bytes(2, "little") + b.to_bytes(2, "little")
+        number = {"G": 2, "F": 3, "T": 4}[kind.upper()]
+        ends = a.to_bytes(2, "little") + b.to_bytes(2, "little")
+        out += bytes([number]) + ends if kind.isupper() else b"\x05" + ends + bytes([number])
     out.append(9)
     return bytes(out)
 
@@ -104,6 +122,9 @@ def network_file(basins, table):
 def examples():
     """Name and file of every example."""
     result = {name: network_file(basins, reaches(text)) for name, (basins, text) in NETWORKS.items()}
+    for name, (whole, i) in SHUT.items():
+        basins, text = NETWORKS[whole]
+        result[name] = network_file(basins, shut(reaches(text), i))
     result["grid-16"] = network_file(*grid(16))
     result["limits"] = network_file(*limits())
     return result

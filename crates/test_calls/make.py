@@ -1,9 +1,9 @@
 #!/usr/bin/env python3
 """Writes the case file `stdin` and the expected output `stdout` of the program test_calls, into the folder that this file stands in.
 
-What is expected is worked out here from document 01, and item 1 of document 02, alone. Small networks are planned by trying every setting and every division of the basins;
-larger ones by the theorem, gate by gate. Where both can be had they are compared. The pseudo-random sequence is fixed: the files never change
-by themselves.
+What is expected is worked out here from document 01 and item 1 of document 02 alone. Small networks are planned by trying every setting and every
+division of the basins; larger ones by the theorem, gate by gate. Where both can be had they are compared. The pseudo-random sequence is fixed: the
+files never change by themselves.
 """
 import os
 from bisect import bisect
@@ -13,13 +13,13 @@ from itertools import product
 
 OLD, OLD_WORD = 170, 43690          # what every byte and every two-byte entry of a lent buffer holds before a call
 GATED, FLAP, TWO_WAY = 0, 1, 2      # kinds in a row of a table
-SHUT = 3                            # what a kind has more while its reach is shut for works; every number over 5 is shut two-way too
+SHUT = 3                            # is added to the kind of a reach that is shut for works; every number over 5 is shut two-way too
 
 
 # ---- networks
 
 class Network:
-    """An accepted network: basins, and by their numbers the reaches in service (kind, a, b), whose plans and findings are those of the network."""
+    """An accepted network: basins, and by number the reaches (kind, a, b) in service. Its plans and findings are those of these."""
 
     def __init__(self, basins, reaches, try_all=True):
         self.basins, self.all = basins, 2 ** basins - 1
@@ -448,7 +448,7 @@ def play(o, c, table):
 def table_bytes(reaches):
     """The number of reaches, a kind for each, then both ends of each."""
     out = two(len(reaches)) + [k for k, _, _ in reaches] + [x for _, a, b in reaches for x in two(a) + two(b)]
-    return out + [0] * (len(out) % 2)
+    return out + [0] * (-len(out) % 4)
 
 
 @lru_cache(maxsize=None)
@@ -473,7 +473,7 @@ class Group:
 
     def hold(self, file):
         """Puts a file where the kinds of the table would stand."""
-        self.table, self.total = two(len(file)) + file + [0] * (len(file) % 2), 0
+        self.table, self.total = two(len(file)) + file + [0] * (-(2 + len(file)) % 4), 0
 
     def table_of(self, c):
         """The table on which a case is played, from its bytes."""
@@ -507,7 +507,7 @@ class Group:
         self.expected.append(name + ':' + o.end())
 
     def bytes(self, place):
-        """The cases, where the table stands at this place, in steps of two bytes."""
+        """The cases, where the table stands at this place, in steps of four bytes."""
         out = []
         for head, c, listed in self.cases:
             out += head + c[:17] + two(0 if listed else place) + c[19:]
@@ -515,14 +515,14 @@ class Group:
 
 
 class Family(Group):
-    """The same cases on each of twenty tables. The tables of all families stand before all others, in lines of eight places: the first eight families in
-    the first twenty lines, and so on. So the high byte of a table's place is its line."""
+    """The same cases on each of twenty tables. The tables of all families stand before all others, in lines of sixteen places: the first sixteen
+    families in the first twenty lines, and so on. So the high byte of a table's place is its line."""
 
     def __init__(self, title, tables, number):
         Group.__init__(self, title, ())
         self.tables, self.table, self.total = [table_bytes(reaches) for reaches in tables], [], 12
-        self.line, self.column = number // 8 * 20, number % 8
-        self.place = 2 + 256 * self.line + 32 * self.column
+        self.line, self.column = number // 16 * 20, number % 16
+        self.place = 1 + 256 * self.line + 16 * self.column
 
     def table_of(self, c):
         return self.tables[c[18] - self.line]
@@ -534,10 +534,10 @@ class Family(Group):
     def all_tables():
         """The bytes of the tables of all families."""
         families = [g for g in GROUPS if isinstance(g, Family)]
-        out = [0] * (512 * (max(g.line for g in families) + 20))
+        out = [0] * (1024 * (max(g.line for g in families) + 20))
         for g in families:
             for i, table in enumerate(g.tables):
-                at = 512 * (g.line + i) + 64 * g.column
+                at = 1024 * (g.line + i) + 64 * g.column
                 out[at:at + len(table)] = table
         return out
 
@@ -756,7 +756,7 @@ DRAWN = {}
 
 
 def are_new(networks):
-    """Whether these networks differ from each other and from all that were drawn, in more than the number of a shut two-way reach; they are drawn from now on."""
+    """Whether these networks differ from each other and from all that were drawn, in more than the number of a shut two-way reach; they are now drawn."""
     drawn = {(basins, tuple((min(k, ST), a, b) for k, a, b in reaches)): reaches for basins, reaches in networks}
     if len(drawn) < len(networks) or drawn.keys() & DRAWN.keys():
         return False
@@ -827,22 +827,22 @@ for f, (basins, g) in enumerate(product(range(2, 7), range(11))):
     gr.case('step', basins, setting, p=g, vary=vary[-3:], mode=QUIET)
     gr.case('write reply', basins, p=40, mode=QUIET)
 
-# many more, 168 from each ten reaches: the first two of all kinds, the first also shut of each, the second shut of number 255, and cut at four to ten;
-# the sums of all their plans
+# many more, 168 from each eleven reaches: the first two of all kinds, and shut (the first of all kinds, the second by number 255), and cut at five to
+# eleven; the sums of all their plans
 
 def draw_base(basins):
-    """Ten reaches from which only new networks are so made."""
+    """Eleven reaches from which only new networks are so made."""
     while True:
-        base = draw_reaches(basins, 0, 2) + draw_reaches(basins, NUMBERS.below(9), 8)
+        base = draw_reaches(basins, 0, 2) + draw_reaches(basins, NUMBERS.below(9), 9)
         varied = [tuple((k, a, b) for k, (_, a, b) in zip(kinds, base)) + base[2:] for kinds in product(range(6), (255, G, F, T))]
-        if are_new([(basins, reaches[:cut]) for reaches in varied for cut in range(4, 11)]):
+        if are_new([(basins, reaches[:cut]) for reaches in varied for cut in range(5, 12)]):
             return base
 
 
-gr = group('tables of ten reaches, the first two of all kinds and shut, cut at four to ten reaches', [])
+gr = group('tables of eleven reaches, the first two of all kinds and shut, cut at five to eleven reaches', [])
 for basins in range(2, 7):
     for _ in range(25):
-        gr.case('walk', basins, table_bytes(draw_base(basins)), p=10, k=0, x=10, y=10, limit=1100, vary=[('k', 7, 4), (2, 6, 0), (3, 4, 255)],
+        gr.case('walk', basins, table_bytes(draw_base(basins)), p=10, k=0, x=11, y=11, limit=1100, vary=[('k', 7, 5), (2, 6, 0), (3, 4, 255)],
                 mode=QUIET, listed=True, name='%d basins' % basins)
 
 
@@ -853,18 +853,18 @@ def served(reaches):
     return tuple(r for r in reaches if r[0] < SHUT)
 
 
-def put_back(reaches):
-    """The same with no reach shut."""
-    return tuple((k % SHUT if k <= ST else T, a, b) for k, a, b in reaches)
+def put_back(reaches, kind):
+    """The same with every shut reach of this kind in service."""
+    return tuple((kind if min(k - SHUT, T) == kind else k, a, b) for k, a, b in reaches)
 
 
 def traits(basins, reaches):
     joins = [frozenset((a, b)) for _, a, b in served(reaches) if a != b]
-    reply = outcome(basins, reaches)
+    reply, shut = outcome(basins, reaches), len(reaches) - len(served(reaches))
     return ['%d basins' % basins, '%d gates' % gates_of(reaches), 'reply %d' % reply] + ['first %d' % k for k, _, _ in reaches[:1]] + \
         ['loops' if len(joins) < len(served(reaches)) else 'no loops', 'parallel' if len(set(joins)) < len(joins) else 'not parallel'] + \
-        ['some %d' % k for k in {min(k, 6) for k, _, _ in reaches}] + ['%d shut' % min(len(reaches) - len(served(reaches)), 3)] + \
-        ['%d by shutting' % reply] * (outcome(basins, put_back(reaches)) != reply)
+        ['number %d' % k for k in {min(k, 6) for k, _, _ in reaches}] + ['%d shut' % min(shut, 3)] + \
+        ['%d for want of %d' % (reply, k) for k in (G, F, T) if reply > 0 and outcome(basins, put_back(reaches, k)) != reply]
 
 
 def often(least, *names):
@@ -875,7 +875,8 @@ CAME = Counter(name for (basins, _), reaches in DRAWN.items() for name in traits
 assert len(DRAWN) == 66 + 20 * 55 + 168 * 125
 assert often(100, *('%d gates' % g for g in range(11))) and often(4000, *('%d basins' % n for n in range(2, 7))) and often(11, '1 basins')
 assert often(3000, 'reply 0', 'reply 9', 'reply 10', 'loops', 'no loops', 'parallel', 'not parallel', *('first %d' % k for k in range(6)))
-assert often(5000, *('some %d' % k for k in range(7))) and often(3000, *('%d shut' % n for n in range(4))) and often(1000, '9 by shutting', '10 by shutting')
+assert often(5000, *('number %d' % k for k in range(7))) and often(3000, *('%d shut' % n for n in range(4)))
+assert often(100, *('%d for want of %d' % (n, k) for n in (9, 10) for k in (G, F, T))) and len({(basins, served(r)) for basins, r in DRAWN}) > 12000
 
 
 # ---- all networks of a few reaches: their plans in order
@@ -907,7 +908,7 @@ for small in (SMALL, FLAP_SHUT, ALL_SHUT):
     gr.case('list', 0, small, p=40, vary=[('n', len(small) + 1, 0)])
     gr.case('list', 0, small, p=40, vary=[(1, 3, 1), (3, 5, 1), (len(small) - 1, 2, 8)])
 assert FLAP_SHUT[8] == 5 and FLAP_SHUT[13] == 3
-gr.case('read network', 0, FLAP_SHUT, vary=[('n', 6, 9), (8, 4, 2), (9, 5, 0), (11, 5, 0), (13, 8, 0)], name='read network, kinds, ends, and kinds to go back to', **ROWS)
+gr.case('read network', 0, FLAP_SHUT, vary=[('n', 6, 9), (8, 4, 2), (9, 5, 0), (11, 5, 0), (13, 8, 0)], name='read network, kinds and ends, cut', **ROWS)
 gr.case('read network', 0, FLAP_SHUT, vary=[(9, 2, 2), (12, 2, 0), (13, 256, 0)], name='read network, each kind to go back to', **ROWS)
 gr.case('list', 0, FLAP_SHUT, p=40, vary=[(9, 2, 2), (13, 6, 0)])
 for place in range(len(FLAP_SHUT)):
@@ -932,7 +933,7 @@ longest = network_file(4, [(SHUT + k % 3, a, b) for k, a, b in many])
 assert len(longest) == 6148
 gr = group('network files: 1,024 shut reaches', [])
 gr.case('read network', 0, longest + [9], n=6147, vary=[('n', 3, 3), ('k high', 2, 3)], **MOST)
-gr.case('list', 0, longest + [9], n=6147, p=20, vary=[('n', 3, 3)])
+gr.case('list', 0, network_file(1, [(SHUT + i % 3, 0, 0) for i in range(1024)]) + [9], n=6147, p=20, vary=[('n', 3, 3)])
 
 
 # ---- listings
@@ -957,8 +958,7 @@ assert len(network(7, tuple(thousand)).plans) == 1000 and len(network(6, tuple(o
 gr = group('listings', [])
 listed('512 plans', 1, [(G, 0, 0)] * 9 + [(T, 0, 0)])
 listed('1,000 plans', 7, thousand)
-listed('1,000 plans, and every reach again, shut', 7, [(k, a, b) for k, a, b in thousand for k in (SHUT + k, k)])
-listed('1,024 reaches in one basin, all but one shut', 1, [(SHUT + i % 3, 0, 0) for i in range(1023)] + [(G, 0, 0)])
+listed('1,000 plans, and every reach again, shut', 7, [r for k, a, b in thousand for r in ((SHUT + k, a, b), (k, a, b))])
 listed('1,001 plans', 6, one_more)
 listed('1,024 plans', 1, [(G, 0, 0)] * 10)
 listed('a 16 by 16 grid', 256, grid)
@@ -1005,11 +1005,11 @@ def main():
     here = os.path.dirname(os.path.abspath(__file__))
     tables, places = Family.all_tables(), []
     for g in GROUPS:
-        places.append(g.place or (4 + len(tables)) // 2)
+        places.append(g.place or (4 + len(tables)) // 4)
         tables += g.table
     cases = [x for g, place in zip(GROUPS, places) for x in g.bytes(place)]
-    file = bytes(two(sum(len(g.cases) for g in GROUPS)) + two((4 + len(tables)) // 2) + tables + cases)
-    assert len(file) <= 280000          # the program reads no more
+    file = bytes(two(sum(len(g.cases) for g in GROUPS)) + two((4 + len(tables)) // 4) + tables + cases)
+    assert len(file) <= 310000          # the program reads no more
     with open(os.path.join(here, 'stdin'), 'wb') as f:
         f.write(file)
     with open(os.path.join(here, 'stdout'), 'w') as f:

@@ -103,7 +103,7 @@ fn sheet_read(answer: SheetAnswer) -> Size {
 // An answer, and the buffer afterwards.
 pub struct Left {
     size: Size,
-    bytes: [u8; 5200],
+    bytes: [u8; 6200],
 }
 
 // The calls, by the bytes of the case file; the reply writer has all others.
@@ -139,7 +139,7 @@ pub fn filled(
     s: &[u8],
     room: usize,
 ) -> Left {
-    let mut bytes = [OLD; 5200];
+    let mut bytes = [OLD; 6200];
     let n = within(&bytes, room);
     let size = fill(call, basins, kinds, a, b, s, &mut bytes[..n]);
     Left { size, bytes }

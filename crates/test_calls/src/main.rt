@@ -37,8 +37,8 @@ const LIST: u8 = 11;
 const LIST_PLACED: u8 = 12;
 
 // A case's bytes: the call; the basin count; the lengths of the three rows; those of two buffers; that of the data; how often to go on; where the
-// table stands, in steps of two bytes; the data, which is the table where that stands nowhere.
-const CASE: usize = 5300;
+// table stands, in steps of four bytes; the data, which is the table where that stands nowhere.
+const CASE: usize = 6200;
 
 const DATA: usize = 19;
 
@@ -115,7 +115,7 @@ struct Case {
 fn play(o: Out, x: Case, file: &[u8]) -> Out {
     let bytes = x.bytes;
     let c = front(&bytes, CASE);
-    let at = 2 * (word_at(c, 17) as usize);
+    let at = 4 * (word_at(c, 17) as usize);
     if at == 0 {
         play_with(o, c, rest(c, DATA))
     } else {
@@ -135,17 +135,13 @@ fn copied(c: &[u8]) -> Case {
     Case { bytes }
 }
 
-// The case with the value of number v of a variation: the place of a byte, the number of its values, and the lowest of them.
-fn with_value(mut c: Case, variation: &[u8], v: usize) -> Case {
-    let i = word_at(variation, 0) as usize;
+// The value of number v of a variation: the place of a byte, the number of its values, and the lowest of them.
+fn value(variation: &[u8], v: usize) -> u8 {
     let count = word_at(variation, 2) as usize;
     if count == 0 {
-        return c;
+        return 0;
     }
-    if i < CASE {
-        c.bytes[i] = ((v % count % 65536 + byte_at(variation, 4) as usize) % 256) as u8;
-    }
-    c
+    ((v % count % 65536 + byte_at(variation, 4) as usize) % 256) as u8
 }
 
 // The number that is left for the variations before it.
@@ -165,7 +161,10 @@ fn varied(c: Case, variations: &[u8], v: usize) -> Case {
     while n > 0 {
         n -= 1;
         let variation = rest(variations, 5 * (n % 256));
-        x = with_value(x, variation, left);
+        let i = word_at(variation, 0) as usize;
+        if i < CASE {
+            x.bytes[i] = value(variation, left);
+        }
         left = number_left(left, variation);
     }
     x
@@ -204,10 +203,10 @@ fn play_case(s: &[u8], file: &[u8]) -> usize {
     sum(sum(l, 8), sum(v, n))
 }
 
-// The file: the number of cases, where they start, in steps of two bytes; the tables; the cases.
+// The file: the number of cases, where they start, in steps of four bytes; the tables; the cases.
 fn play_cases(file: &[u8]) {
     let n = word_at(file, 0) as usize;
-    let mut at = 2 * (word_at(file, 2) as usize);
+    let mut at = 4 * (word_at(file, 2) as usize);
     let mut i: usize = 0;
     while i < n {
         at = sum(at, play_case(rest(file, at), file));
@@ -216,7 +215,7 @@ fn play_cases(file: &[u8]) {
 }
 
 fn main() {
-    let mut cases = [0u8; 260000];
+    let mut cases = [0u8; 310000];
     let n = io::read_full(0, &mut cases);
     play_cases(&cases[..n]);
 }

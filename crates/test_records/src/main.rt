@@ -107,7 +107,7 @@ fn rows(
     s: &[u8],
     p: usize,
 ) -> u64 {
-    let mut out = [OLD; 5200];
+    let mut out = [OLD; 6200];
     let mut marks = [OLD; 40];
     let k = within(&out, p);
     let x = over_rows(
@@ -136,7 +136,7 @@ fn records(
 ) -> u64
     requires { ⌜ n ≤ 1030 ⌝ }
 {
-    let mut out = [OLD; 5200];
+    let mut out = [OLD; 6200];
     let mut marks = [OLD; 40];
     let k = within(&out, p);
     let x = over_records(
@@ -186,7 +186,7 @@ fn both(call: u8, n: usize, basins: u16, t: Twice, s: &[u8], p: usize) -> Pair
 // A file is read into a table, and all of the table is written.
 fn reread_rows(kinds: &mut [u8], a: &mut [u16], b: &mut [u16], walker: Walker, s: &[u8]) -> u64 {
     let x = sums::of_read(netfile_rows::read_network(s, kinds, a, b));
-    mix(x, rows(WRITE_NETWORK, 256, kinds, a, b, walker, s, 5200))
+    mix(x, rows(WRITE_NETWORK, 256, kinds, a, b, walker, s, 6200))
 }
 
 fn reread_records(n: usize, reaches: [Reach; ROOM], walker: Walker, s: &[u8]) -> u64
@@ -194,7 +194,7 @@ fn reread_records(n: usize, reaches: [Reach; ROOM], walker: Walker, s: &[u8]) ->
 {
     let x = sums::of_read(relays::read_network(n, s, reaches));
     let after = relays::read_table(n, s, reaches);
-    mix(x, records(WRITE_NETWORK, n, 256, after, walker, s, 5200))
+    mix(x, records(WRITE_NETWORK, n, 256, after, walker, s, 6200))
 }
 
 fn reread(n: usize, t: Twice, s: &[u8]) -> Pair
@@ -218,7 +218,7 @@ fn reread(n: usize, t: Twice, s: &[u8]) -> Pair
 // A buffer, of which the first n bytes count.
 struct Bytes {
     n: usize,
-    bytes: [u8; 5200],
+    bytes: [u8; 6200],
 }
 
 // The file that a reader is lent: the reply's sheet, or the network file, and sometimes a byte less.
@@ -228,7 +228,7 @@ fn file(call: u8, n: usize, basins: u16, t: Twice, seed: u64) -> Bytes {
     let b = t.b;
     let bits = t.bits;
     let walker = Walker { setting: bits };
-    let mut bytes = [0u8; 5200];
+    let mut bytes = [0u8; 6200];
     let mut marks = [0u8; 40];
     let writer = if call == READ_SHEET {
         WRITE_REPLY
@@ -270,7 +270,7 @@ fn basins_of(seed: u64, ends: u64) -> u16 {
 
 // The room of an output: mostly enough.
 fn room(seed: u64) -> usize {
-    if seed % 8 == 3 { 2 } else { 5200 }
+    if seed % 8 == 3 { 2 } else { 6200 }
 }
 
 // A call that is lent the setting of a table.

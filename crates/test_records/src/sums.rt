@@ -31,7 +31,7 @@ pub fn sum(x: u64, s: &[u8]) -> u64 {
 }
 
 // What a call replied, and its buffers.
-pub fn total(x: u64, out: &[u8; 5200], marks: &[u8; 40]) -> u64 {
+pub fn total(x: u64, out: &[u8; 6200], marks: &[u8; 40]) -> u64 {
     sum(sum(x, out), marks)
 }
 

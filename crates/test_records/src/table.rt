@@ -3,6 +3,7 @@ use crate::relays::ROOM;
 use network::Kind;
 use network::MAX_REACHES;
 use network::Reach;
+use network::State;
 ghost use Prim.Native.Nat.{_≤_};
 ghost use Rattle.io.specs.Counts.{Counts};
 
@@ -16,12 +17,15 @@ pub struct Twice {
 }
 
 fn reach_of(kind: u8, a: u16, b: u16) -> Reach {
-    let kind = match kind {
-        0 => Kind::Gated,
-        1 => Kind::Flap,
-        _ => Kind::TwoWay,
+    let state = match kind {
+        0 => State::InService(Kind::Gated),
+        1 => State::InService(Kind::Flap),
+        2 => State::InService(Kind::TwoWay),
+        3 => State::Shut(Kind::Gated),
+        4 => State::Shut(Kind::Flap),
+        _ => State::Shut(Kind::TwoWay),
     };
-    Reach { kind, a, b }
+    Reach { state, a, b }
 }
 
 fn empty() -> Twice {
@@ -36,13 +40,13 @@ fn empty() -> Twice {
     }
 }
 
-// Reach i by a number: half of all are gated; the ends are below a bound.
+// Reach i by a number: a third of all are gated, a third are shut, of each kind and by numbers from 250 on; the ends are below a bound.
 fn with_reach(mut t: Twice, i: usize, x: u64, ends: u64) -> Twice {
     if ends == 0 {
         return t;
     }
     if i < ROOM {
-        let kind = (x % 4 % 3) as u8;
+        let kind = ((x % 4 % 3 + x / 1024 % 4 / 3 * 3 + x / 4096 % 8 / 7 * 250) % 256) as u8;
         let a = (x / 8 % ends % 65536) as u16;
         let b = (x / 64 % ends % 65536) as u16;
         let r = reach_of(kind, a, b);

@@ -9,7 +9,7 @@ abbrev Inv-loop : tie.InvT-loop
 Inv-loop c bytes₀ i₀ bytes i = Unit
 
 abbrev μ-loop : tie.MeasureT-loop
-μ-loop c bytes₀ i₀ bytes i = 5300 - i
+μ-loop c bytes₀ i₀ bytes i = 6200 - i
 
 loop-holds : tie.Need-loop-holds Inv-loop μ-loop
 loop-holds c = tt

@@ -22,8 +22,17 @@ mul-rest c = omega arith
 rest-requires : tie.Need-rest-requires Inv-loop μ-loop
 rest-requires c κs = tt
 
-with-value-requires : tie.Need-with-value-requires Inv-loop μ-loop
-with-value-requires c κs = tt
+word-at-requires : tie.Need-word-at-requires Inv-loop μ-loop
+word-at-requires c κs = tt
+
+cast-i : tie.Need-cast-i Inv-loop μ-loop
+cast-i c = omega arith
+
+value-requires : tie.Need-value-requires Inv-loop μ-loop
+value-requires c κs = tt
+
+element-write-x : tie.Need-element-write-x Inv-loop μ-loop
+element-write-x c = omega arith
 
 number-left-requires : tie.Need-number-left-requires Inv-loop μ-loop
 number-left-requires c κs = tt
@@ -47,7 +56,10 @@ varied-spec =
     sub-n
     mul-rest
     rest-requires
-    with-value-requires
+    word-at-requires
+    cast-i
+    value-requires
+    element-write-x
     number-left-requires
     loop-less
     loop-again
