@@ -18,14 +18,14 @@ use Rattle.network.specs.declared.State.the-variants.{InService, Shut}
 use Rattle.network.specs.declared.Reach.{Reach}
 use Rattle.network.specs.declared.Refusal.{Refusal}
 use Rattle.network.specs.declared.Refusal.the-variants.{BasinCount, TooManyReaches, EndOutOfRange, UnknownKind, TrailingBytes}
-use Rattle.lists.specs.Lists.{elem, every}
+use Rattle.lists.specs.Lists.{every}
 use Rattle.network.specs.Networks.{Network, Accepted, maxBasins, maxReaches}
 use Rattle.lists.specs.Words.{wordOf}
 use Rattle.file_records.specs.declared.Taken.{Taken}
 use Rattle.file_records.specs.declared.Taken.the-variants.{Broken, Whole}
 use Rattle.file_records.specs.Records.{bodyOf, twoBytes, takeRecord, takenAnswer}
 use lib.Pow.{areBytes}
-use Rattle.netfile_format.specs.Files.{reachKind, reachKinds, recordKind, stateRecord, reachRecord, reachRecords, fileOf, headDue, reachDue, goodInner, Reading, refused, read, atEnd, withReach, readReaches, readBasins, readFile}
+use Rattle.netfile_format.specs.Files.{reachKind, knownKind, recordKind, stateRecord, reachRecord, reachRecords, fileOf, headDue, reachDue, goodInner, Reading, refused, read, atEnd, withReach, readReaches, readBasins, readFile}
 use Rattle.netfile_format.specs.Answers.{recordLength, reachAtFront, reachesAt, spanOf}
 use Rattle.netfile_format.proofs.Marking.{Reaching, of-reach, comes-first, body-head, kind-byte}
 use Rattle.file_records.proofs.Records.{word-bytes, bytes-drop, two-again, three-again}
@@ -42,7 +42,7 @@ kind-again Gated = refl
 kind-again Flap = refl
 kind-again TwoWay = refl
 
-kind-listed : (d : Kind) → elem (reachKind d) reachKinds ≡ true
+kind-listed : (d : Kind) → knownKind (reachKind d) ≡ true
 kind-listed Gated = refl
 kind-listed Flap = refl
 kind-listed TwoWay = refl

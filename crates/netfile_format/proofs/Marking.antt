@@ -13,7 +13,7 @@ use mathlib.Mathlib.Data.Bool.Basic.{bool-eq-false}
 use Rattle.lists.specs.Lists.{elem}
 use Rattle.lists.proofs.Bools.{or-cases}
 use Rattle.file_records.specs.Records.{bodyOf}
-use Rattle.netfile_format.specs.Files.{reachKind, reachKinds, recordKind, headDue, reachDue}
+use Rattle.netfile_format.specs.Files.{reachKind, reachKinds, knownKind, recordKind, headDue, reachDue}
 use Rattle.netfile_format.specs.Answers.{recordLength}
 
 -- what holds of each number of a list holds of every number in it
@@ -49,10 +49,10 @@ body-head = refl
 -- ---- the kinds of reaches in service, which are the inner kinds of shut ones
 
 -- the kind byte of the kind that a kind byte means
-pub kind-byte : (k : ℕ) → elem k reachKinds ≡ true → reachKind (recordKind k) ≡ k
+pub kind-byte : (k : ℕ) → knownKind k ≡ true → reachKind (recordKind k) ≡ k
 kind-byte = of-elem (λ k. reachKind (recordKind k) ≡ k) reachKinds (refl, (refl, (refl, tt)))
 
-pub kind-known : (k : ℕ) → 2 ≤ k → k ≤ 4 → elem k reachKinds ≡ true
+pub kind-known : (k : ℕ) → 2 ≤ k → k ≤ 4 → knownKind k ≡ true
 kind-known zero p q = absurd (omega arith)
 kind-known (suc zero) p q = absurd (omega arith)
 kind-known (suc (suc zero)) p q = refl
@@ -60,9 +60,9 @@ kind-known (suc (suc (suc zero))) p q = refl
 kind-known (suc (suc (suc (suc zero)))) p q = refl
 kind-known (suc (suc (suc (suc (suc k))))) p q = absurd (omega arith)
 
-pub kind-unknown : (k : ℕ) → (2 ≤ k → k ≤ 4 → ⊥) → elem k reachKinds ≡ false
+pub kind-unknown : (k : ℕ) → (2 ≤ k → k ≤ 4 → ⊥) → knownKind k ≡ false
 kind-unknown k n =
-    bool-eq-false {b = elem k reachKinds}
+    bool-eq-false {b = knownKind k}
     (λ e.
     let within = of-elem (λ k. (2 ≤ k) × (k ≤ 4)) reachKinds ((omega arith, omega arith), ((omega arith, omega arith), ((omega arith, omega arith), tt))) k e in
     n (within .0) (within .1))

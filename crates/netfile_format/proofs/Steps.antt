@@ -17,16 +17,15 @@ use Rattle.network.specs.declared.Refusal.{Refusal}
 use Rattle.network.specs.declared.Refusal.the-variants.{BasinCount, TooManyReaches, EndOutOfRange, UnknownKind}
 use Rattle.network.specs.Networks.{maxBasins, maxReaches}
 use Rattle.network.specs.Tables.{stateNumber}
-use Rattle.lists.specs.Lists.{elem}
 use Rattle.lists.specs.Words.{wordOf}
 use Rattle.network.proofs.Networks.{endsBelow}
 use Rattle.tables.proofs.Faults.{count-good, count-bad}
 use Rattle.file_records.specs.declared.Taken.the-variants.{Broken, Whole}
 use Rattle.file_records.specs.Records.{bodyOf, broken, whole, takeRecord, takenAnswer}
-use Rattle.netfile_format.specs.Files.{reachKinds, recordKind, headDue, reachDue, innerKind, recordState, goodInner, recordReach, refused, atEnd, withReach, readReaches, readBasins, readFile}
+use Rattle.netfile_format.specs.Files.{knownKind, recordKind, headDue, reachDue, innerKind, recordState, goodInner, recordReach, refused, atEnd, withReach, readReaches, readBasins, readFile}
 use Rattle.netfile_format.specs.Answers.{recordLength, reachAtFront}
 use Rattle.file_records.proofs.Taking.{broken-is, Stands, stands, same-size}
-use Rattle.netfile_format.proofs.Marking.{Reaching, of-reach, comes-first, body-reach, body-head, kind-known, kind-unknown}
+use Rattle.netfile_format.proofs.Marking.{Reaching, of-reach, comes-first, body-reach, body-head}
 use Rattle.file_records.proofs.Records.{body-end}
 
 module _ (n : ℕ) (left : ℕ) (f : List ℕ) where
@@ -184,17 +183,11 @@ module _ (file : List ℕ) (at k j : ℕ) (e : k ≡ 5) (q : j ≡ at + 5) where
   inner-place : innerKind (drop (at + 1) file) ≡ getD file j 0
   inner-place = getD-drop (at + 1) file 4 0 ∙ ap (λ i. getD file i 0) (omega arith)
 
-  inner-is : goodInner k (drop (at + 1) file) ≡ elem (getD file j 0) reachKinds
-  inner-is = rw (eq-eqb k 5 e, inner-place)
+  pub inner-shut : (g : Bool) → g ≡ knownKind (getD file j 0) → g ≡ goodInner k (drop (at + 1) file)
+  inner-shut g h = h ∙ sym (rw (eq-eqb k 5 e, inner-place))
 
-  pub inner-good : 2 ≤ getD file j 0 → getD file j 0 ≤ 4 → true ≡ goodInner k (drop (at + 1) file)
-  inner-good l h = sym (inner-is ∙ kind-known (getD file j 0) l h)
-
-  pub inner-bad : (2 ≤ getD file j 0 → getD file j 0 ≤ 4 → ⊥) → false ≡ goodInner k (drop (at + 1) file)
-  inner-bad n = sym (inner-is ∙ kind-unknown (getD file j 0) n)
-
-  pub state-shut : (m : ℕ) → m ≡ stateNumber (InService (recordKind (getD file j 0))) → m + 3 ≡ stateNumber (recordState k (drop (at + 1) file))
-  state-shut m h = rw (eq-eqb k 5 e, inner-place, h) (number-shut (recordKind (getD file j 0)))
+  pub state-shut : (m n : ℕ) → m ≡ stateNumber (InService (recordKind (getD file j 0))) → n ≡ m + 3 → n ≡ stateNumber (recordState k (drop (at + 1) file))
+  state-shut m n h p = p ∙ rw (eq-eqb k 5 e, inner-place, h) (number-shut (recordKind (getD file j 0)))
 
 -- the head stands at the front: it fits, and how the reading goes on
 pub record HeadStep (f : List ℕ) : Type 0 where

@@ -29,6 +29,10 @@ reachKind TwoWay = 4
 abbrev pub reachKinds : List ℕ
 reachKinds = 2 ∷ 3 ∷ 4 ∷ []
 
+-- The byte is the kind of a reach in service.
+abbrev pub knownKind : ℕ → Bool
+knownKind k = elem k reachKinds
+
 abbrev pub shutKind : ℕ
 shutKind = 5
 
@@ -84,7 +88,7 @@ recordState k body = cond (eqb k shutKind) (Shut (recordKind (innerKind body))) 
 
 -- Item 1: "a wrong inner kind is refusal 5". Only a shut reach has an inner kind.
 abbrev pub goodInner : ℕ → List ℕ → Bool
-goodInner k body = cond (eqb k shutKind) (elem (innerKind body) reachKinds) true
+goodInner k body = cond (eqb k shutKind) (knownKind (innerKind body)) true
 
 -- The reach of a record: "ends A, B".
 abbrev pub recordReach : ℕ → List ℕ → Reach

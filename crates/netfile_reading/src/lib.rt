@@ -22,7 +22,7 @@ ghost use Rattle.network.specs.Networks.{maxReaches};
 ghost use Rattle.network.specs.declared.State.the-variants.{InService};
 ghost use Rattle.network.specs.Tables.{stateNumber};
 ghost use Rattle.file_records.specs.Records.{takeRecord, takenAnswer};
-ghost use Rattle.netfile_format.specs.Files.{reachDue, recordKind, recordState, goodInner, readReaches, readFile};
+ghost use Rattle.netfile_format.specs.Files.{knownKind, reachDue, recordKind, recordState, goodInner, readReaches, readFile};
 ghost use Rattle.netfile_format.specs.Answers.{readAnswer, recordLength, reachesAt, Fills, RowsFilled};
 
 // The record at a position after the head, a reach or the end.
@@ -32,32 +32,67 @@ fn reach_or_end(file: &[u8], at: usize) -> Taken
     take_record(file, at, &REACH_DUE)
 }
 
-// The length of a reach's record.
-fn record_length(kind: u8) -> usize
-    ensures { λ r. ⌜ r ≡ recordLength kind ⌝ }
+// Whether a reach in service may have this kind byte.
+fn known_kind(kind: u8) -> bool
+    ensures { λ r. ⌜ r ≡ knownKind kind ⌝ }
 {
-    if kind == SHUT { 6 } else { 5 }
-}
-
-// Whether a reach goes back to one of the three kinds, if it is shut.
-fn good_inner(file: &[u8], at: usize, kind: u8) -> bool
-    requires { ⌜ at + recordLength kind ≤ length (now file) ⌝ }
-    ensures { λ r. ⌜ r ≡ goodInner kind (drop (at + 1) (now (file .entry))) ⌝ }
-{
-    if kind != SHUT {
-        return true;
-    }
-    let inner = file[at + 5];
-    if inner < GATED {
+    if kind < GATED {
         return false;
     }
-    if TWO_WAY < inner {
+    if TWO_WAY < kind {
         return false;
     }
     true
 }
 
-// The reaches and the end, which start after the head.
+// The number of a kind, by its kind byte.
+fn kind_number(kind: u8) -> u8
+    ensures { λ r. ⌜ r ≡ stateNumber (InService (recordKind kind)) ⌝ }
+    ensures { λ r. ⌜ r ≤ 2 ⌝ }
+{
+    if kind == GATED {
+        return 0;
+    }
+    if kind == FLAP {
+        return 1;
+    }
+    2
+}
+
+// What a reach's record says: whether its inner kind, which only a shut reach has, is known; the number of the reach's state; the record's length.
+struct RecordFront {
+    known: bool,
+    state: u8,
+    size: usize,
+}
+
+// What the record of this kind at a position says.
+fn record_front(file: &[u8], at: usize, kind: u8) -> RecordFront
+    requires { ⌜ at + recordLength kind ≤ length (now file) ⌝ }
+    ensures { λ r. ⌜ r .known ≡ goodInner kind (drop (at + 1) (now (file .entry))) ⌝ }
+    ensures { λ r. ⌜ r .state ≡ stateNumber (recordState kind (drop (at + 1) (now (file .entry)))) ⌝ }
+    ensures { λ r. ⌜ r .size ≡ recordLength kind ⌝ }
+{
+    if kind == SHUT {
+        let inner = file[at + 5];
+        let known = known_kind(inner);
+        let state = kind_number(inner) + SHUT_OFFSET;
+        return RecordFront {
+            known,
+            state,
+            size: 6,
+        };
+    }
+    let state = kind_number(kind);
+    RecordFront {
+        known: true,
+        state,
+        size: 5,
+    }
+}
+
+// The reaches and the end, which start after the head. Per record: its kind (5), its body (4), its inner kind (5), one reach too many (2), its ends (3); after
+// the end 6.
 fn check_reaches(file: &[u8], basins: u16) -> ReadAnswer
     requires { ⌜ 3 ≤ length (now file) ⌝ }
     ensures { λ r. ⌜ r ≡ readAnswer (readReaches basins maxReaches (drop 3 (now (file .entry)))) ⌝ }
@@ -75,7 +110,8 @@ fn check_reaches(file: &[u8], basins: u16) -> ReadAnswer
             }
             return ReadAnswer::Read { basins, reaches };
         }
-        let wrong = !good_inner(file, at, kind);
+        let front = record_front(file, at, kind);
+        let wrong = !front.known;
         let full = reaches == MAX_REACHES;
         if wrong {
             return ReadAnswer::Refused(Refusal::UnknownKind);
@@ -89,7 +125,7 @@ fn check_reaches(file: &[u8], basins: u16) -> ReadAnswer
         if basins <= word_at(file, at + 3) {
             return ReadAnswer::Refused(Refusal::EndOutOfRange);
         }
-        at += record_length(kind);
+        at += front.size;
         reaches += 1;
     }
 }
@@ -113,31 +149,6 @@ pub fn check_network(file: &[u8]) -> ReadAnswer
     }
 }
 
-// The number of a kind, by its kind byte.
-fn kind_number(kind: u8) -> u8
-    ensures { λ r. ⌜ r ≡ stateNumber (InService (recordKind kind)) ⌝ }
-    ensures { λ r. ⌜ r ≤ 2 ⌝ }
-{
-    if kind == GATED {
-        return 0;
-    }
-    if kind == FLAP {
-        return 1;
-    }
-    2
-}
-
-// The number of a reach's state, by its kind byte, and by its inner kind if it is shut.
-fn state_number(file: &[u8], at: usize, kind: u8) -> u8
-    requires { ⌜ at + recordLength kind ≤ length (now file) ⌝ }
-    ensures { λ r. ⌜ r ≡ stateNumber (recordState kind (drop (at + 1) (now (file .entry)))) ⌝ }
-{
-    if kind == SHUT {
-        return kind_number(file[at + 5]) + SHUT_OFFSET;
-    }
-    kind_number(kind)
-}
-
 // The first n reaches of a file go to the rows.
 pub fn fill(file: &[u8], n: usize, kinds: &mut [u8], a: &mut [u16], b: &mut [u16])
     requires { ⌜ Fills (now file) n (now kinds) (now a) (now b) ⌝ }
@@ -150,10 +161,11 @@ pub fn fill(file: &[u8], n: usize, kinds: &mut [u8], a: &mut [u16], b: &mut [u16
     let mut at: usize = 3;
     while i < n {
         let kind = file[at];
-        kinds[i] = state_number(file, at, kind);
+        let front = record_front(file, at, kind);
+        kinds[i] = front.state;
         a[i] = word_at(file, at + 1);
         b[i] = word_at(file, at + 3);
-        at += record_length(kind);
+        at += front.size;
         i += 1;
     }
 }

@@ -64,74 +64,79 @@ returns-2 c = scan-over (c .before .before .before .before .before .before .loop
 returns-3 : tie.Need-returns-3 Inv-loop μ-loop
 returns-3 c = scan-end (c .before .before .before .before .before .before .loop .inv) (here (c .before .before)) (c .before .if1 .taken) (c .if2 .left)
 
-good-inner-requires : tie.Need-good-inner-requires Inv-loop μ-loop
-good-inner-requires c κs = reach c .fits
+record-front-requires : tie.Need-record-front-requires Inv-loop μ-loop
+record-front-requires c κs = reach c .fits
 
 returns-4 : tie.Need-returns-4 Inv-loop μ-loop
 returns-4 c =
     sym
-    (scan-values (c .before .before .before .before .before .before .before .loop .inv) (here (c .before .before .before)) (c .before .before .if1 .left) (c .before .good-inner .ensures)
+    (scan-values (c .before .before .before .before .before .before .before .before .loop .inv) (here (c .before .before .before .before))
+    (c .before .before .before .if1 .left) (c .before .before .record-front .ensures .0)
     ∙ rw (c .if3 .taken))
 
 -- its inner kind is good
 good :
     (c : tie.Else3 Inv-loop μ-loop)
-    → goodInner (c .before .before .before .before .kind .given .0 .0) (drop (c .before .before .before .before .before .before .before .loop .at + 1) (c .before .before .before .before .before .before .before .before .before .args .file .now)) ≡ true
-good c = sym (c .before .good-inner .ensures) ∙ not-false _ (c .if3 .left)
+    → goodInner (c .before .before .before .before .before .kind .given .0 .0)
+    (drop (c .before .before .before .before .before .before .before .before .loop .at + 1) (c .before .before .before .before .before .before .before .before .before .before .args .file .now))
+    ≡ true
+good c = sym (c .before .before .record-front .ensures .0) ∙ not-false _ (c .if3 .left)
 
 returns-5 : tie.Need-returns-5 Inv-loop μ-loop
 returns-5 c =
-    scan-full (c .before .before .before .before .before .before .before .before .loop .inv) (here (c .before .before .before .before)) (c .before .before .before .if1 .left) (good (c .before))
-    (omega (arith, eqb-true, c .if4 .taken))
+    scan-full (c .before .before .before .before .before .before .before .before .before .loop .inv) (here (c .before .before .before .before .before)) (c .before .before .before .before .if1 .left)
+    (good (c .before)) (omega (arith, eqb-true, c .if4 .taken))
 
 add-word-at : tie.Need-add-word-at Inv-loop μ-loop
-add-word-at c = omega (arith, c .before .before .before .before .before .before .before .before .loop .inv .below)
+add-word-at c = omega (arith, c .before .before .before .before .before .before .before .before .before .loop .inv .below)
 
 word-at-requires : tie.Need-word-at-requires Inv-loop μ-loop
-word-at-requires c κs = omega (arith, whole (c .before .before .before))
+word-at-requires c κs = omega (arith, whole (c .before .before .before .before))
 
 returns-6 : tie.Need-returns-6 Inv-loop μ-loop
 returns-6 c =
-    scan-stray (c .before .before .before .before .before .before .before .before .before .before .loop .inv)
-    (here (c .before .before .before .before .before .before)) (c .before .before .before .before .before .if1 .left)
+    scan-stray (c .before .before .before .before .before .before .before .before .before .before .before .loop .inv)
+    (here (c .before .before .before .before .before .before .before)) (c .before .before .before .before .before .before .if1 .left)
     (good (c .before .before .before)) (λ e. omega (arith, eqb-false, c .before .before .if4 .left))
     (λ p _. omega (arith, c .before .word-at .ensures, c .if5 .taken))
 
 add-word-at-2 : tie.Need-add-word-at-2 Inv-loop μ-loop
-add-word-at-2 c = omega (arith, whole (c .before .before .before .before .before))
+add-word-at-2 c = omega (arith, whole (c .before .before .before .before .before .before))
 
 word-at-requires-2 : tie.Need-word-at-requires-2 Inv-loop μ-loop
-word-at-requires-2 c κs = omega (arith, whole (c .before .before .before .before .before))
+word-at-requires-2 c κs = omega (arith, whole (c .before .before .before .before .before .before))
 
 returns-7 : tie.Need-returns-7 Inv-loop μ-loop
 returns-7 c =
-    scan-stray (c .before .before .before .before .before .before .before .before .before .before .before .before .loop .inv)
-    (here (c .before .before .before .before .before .before .before .before)) (c .before .before .before .before .before .before .before .if1 .left)
+    scan-stray (c .before .before .before .before .before .before .before .before .before .before .before .before .before .loop .inv)
+    (here (c .before .before .before .before .before .before .before .before .before)) (c .before .before .before .before .before .before .before .before .if1 .left)
     (good (c .before .before .before .before .before)) (λ e. omega (arith, eqb-false, c .before .before .before .before .if4 .left))
     (λ _ p. omega (arith, c .before .word-at2 .ensures, c .if6 .taken))
 
-record-length-requires : tie.Need-record-length-requires Inv-loop μ-loop
-record-length-requires c κs = tt
-
 add-at : tie.Need-add-at Inv-loop μ-loop
-add-at c = omega (arith, reach (c .before .before .before .before .before .before .before .before) .fits, c .record-length .ensures)
+add-at c = omega (arith, reach (c .before .before .before .before .before .before .before .before .before) .fits, c .before .before .before .before .before .before .before .before .record-front .ensures .1 .1)
 
 add-reaches : tie.Need-add-reaches Inv-loop μ-loop
-add-reaches c = omega (arith, c .before .before .before .before .before .before .before .before .before .before .before .before .before .loop .inv .few)
+add-reaches c = omega (arith, c .before .before .before .before .before .before .before .before .before .before .before .before .before .before .loop .inv .few)
 
 loop-less : tie.Need-loop-less Inv-loop μ-loop
 loop-less c =
-    omega
-    (arith, whole (c .before .before .before .before .before .before .before .before), record-long (c .before .before .before .before .before .before .before .before .before .before .kind .given .0 .0), c .record-length .ensures)
+    omega (
+      arith,
+      whole (c .before .before .before .before .before .before .before .before .before),
+      record-long (c .before .before .before .before .before .before .before .before .before .before .before .kind .given .0 .0),
+      c .before .before .before .before .before .before .before .before .record-front .ensures .1 .1,
+    )
 
 loop-again : tie.Need-loop-again Inv-loop μ-loop
 loop-again c =
-    scan-next (c .before .before .before .before .before .before .before .before .before .before .before .before .before .loop .inv)
-    (here (c .before .before .before .before .before .before .before .before .before)) (c .before .before .before .before .before .before .before .before .if1 .left)
+    let front = c .before .before .before .before .before .before .before .before .record-front in
+    scan-next (c .before .before .before .before .before .before .before .before .before .before .before .before .before .before .loop .inv)
+    (here (c .before .before .before .before .before .before .before .before .before .before)) (c .before .before .before .before .before .before .before .before .before .if1 .left)
     (good (c .before .before .before .before .before .before)) (λ e. omega (arith, eqb-false, c .before .before .before .before .before .if4 .left))
     (omega (arith, c .before .before .before .before .word-at .ensures, c .before .before .before .if5 .left))
     (omega (arith, c .before .before .word-at2 .ensures, c .before .if6 .left))
-    (c .record-length .result) (c .record-length .ensures)
+    (front .result .size) (front .ensures .1 .1)
 
 pub check-reaches-spec : {M : Type 1} → statement M
 check-reaches-spec =
@@ -147,7 +152,7 @@ check-reaches-spec =
     add-if2
     returns-2
     returns-3
-    good-inner-requires
+    record-front-requires
     returns-4
     returns-5
     add-word-at
@@ -156,7 +161,6 @@ check-reaches-spec =
     add-word-at-2
     word-at-requires-2
     returns-7
-    record-length-requires
     add-at
     add-reaches
     loop-less

@@ -41,8 +41,8 @@ loop-holds c =
 shared-slice-read-kind : tie.Need-shared-slice-read-kind Inv-loop μ-loop
 shared-slice-read-kind c = omega (arith, ends (c .before))
 
-state-number-requires : tie.Need-state-number-requires Inv-loop μ-loop
-state-number-requires c κs = stands (c .before)
+record-front-requires : tie.Need-record-front-requires Inv-loop μ-loop
+record-front-requires c κs = stands (c .before)
 
 slice-write-kinds : tie.Need-slice-write-kinds Inv-loop μ-loop
 slice-write-kinds c = omega (arith, room (c .before .before))
@@ -71,11 +71,8 @@ mul-b c = omega (arith, c .before .before .before .before .before .before .befor
 slice-write-b : tie.Need-slice-write-b Inv-loop μ-loop
 slice-write-b c = omega (arith, room (c .before .before .before .before))
 
-record-length-requires : tie.Need-record-length-requires Inv-loop μ-loop
-record-length-requires c κs = tt
-
 add-at : tie.Need-add-at Inv-loop μ-loop
-add-at c = omega (arith, stands (c .before .before .before .before .before), c .record-length .ensures)
+add-at c = omega (arith, stands (c .before .before .before .before .before), c .before .before .before .record-front .ensures .1 .1)
 
 add-i : tie.Need-add-i Inv-loop μ-loop
 add-i c = omega (arith, c .before .before .before .before .before .loop-test .taken)
@@ -86,12 +83,12 @@ loop-less c = omega (arith, c .before .before .before .before .before .loop-test
 loop-again : tie.Need-loop-again Inv-loop μ-loop
 loop-again c =
     let s = c .before .before .before .before .before .before .before .before .before .before .before in
-    let l = c .before .before .before .before .before .before .loop in
-    let kind = c .before .before .before .state-number in
+    let front = c .before .before .before .record-front in
     let x = c .before .before .word-at in
     let y = c .before .word-at2 in
-    filling-more (s .args .file .now) (s .args .n) (s .args .kinds .now) (s .args .a .now) (s .args .b .now) (s .pre) (l .inv) (c .before .before .before .before .before .loop-test .taken)
-    (kind .result) (x .result) (y .result) (c .record-length .result) (kind .ensures) (x .ensures) (y .ensures) (c .record-length .ensures)
+    filling-more (s .args .file .now) (s .args .n) (s .args .kinds .now) (s .args .a .now) (s .args .b .now) (s .pre)
+    (c .before .before .before .before .before .before .loop .inv) (c .before .before .before .before .before .loop-test .taken)
+    (front .result .state) (x .result) (y .result) (front .result .size) (front .ensures .1 .0) (x .ensures) (y .ensures) (front .ensures .1 .1)
 
 same-length : tie.Need-same-length Inv-loop μ-loop
 same-length c = c .before .loop .inv .kind-row .long
@@ -115,7 +112,7 @@ fill-spec =
     μ-loop
     loop-holds
     shared-slice-read-kind
-    state-number-requires
+    record-front-requires
     slice-write-kinds
     add-word-at
     word-at-requires
@@ -125,7 +122,6 @@ fill-spec =
     word-at-requires-2
     mul-b
     slice-write-b
-    record-length-requires
     add-at
     add-i
     loop-less
