@@ -32,8 +32,7 @@ use Rattle.file_records.proofs.Records.{word-bytes, bytes-drop, two-again, thre
 use Rattle.file_records.proofs.Taking.{stands, value-taken}
 use Rattle.netfile_format.proofs.Steps.{step-broken, step-end, reachFrom, front-ends, ReachStep, reach-front, head-step, head-at, head-broken}
 use Rattle.netfile_format.proofs.Accepting.{good}
-use Rattle.network.proofs.Networks.{endsBelow}
-use Rattle.tables.proofs.Faults.{fault-none}
+use Rattle.network.proofs.Networks.{endsBelow, fault-none}
 
 -- ---- a reach's record, as it is written
 

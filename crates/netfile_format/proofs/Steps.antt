@@ -183,11 +183,12 @@ module _ (file : List ℕ) (at k j : ℕ) (e : k ≡ 5) (q : j ≡ at + 5) where
   inner-place : innerKind (drop (at + 1) file) ≡ getD file j 0
   inner-place = getD-drop (at + 1) file 4 0 ∙ ap (λ i. getD file i 0) (omega arith)
 
-  pub inner-shut : (g : Bool) → g ≡ knownKind (getD file j 0) → g ≡ goodInner k (drop (at + 1) file)
-  inner-shut g h = h ∙ sym (rw (eq-eqb k 5 e, inner-place))
+  -- whether it is known, and the number of the state that it says
+  pub inner-known : (g : Bool) → g ≡ knownKind (getD file j 0) → g ≡ goodInner k (drop (at + 1) file)
+  inner-known g h = h ∙ sym (rw (eq-eqb k 5 e, inner-place))
 
-  pub state-shut : (m n : ℕ) → m ≡ stateNumber (InService (recordKind (getD file j 0))) → n ≡ m + 3 → n ≡ stateNumber (recordState k (drop (at + 1) file))
-  state-shut m n h p = p ∙ rw (eq-eqb k 5 e, inner-place, h) (number-shut (recordKind (getD file j 0)))
+  pub inner-state : (m n : ℕ) → m ≡ stateNumber (InService (recordKind (getD file j 0))) → n ≡ m + 3 → n ≡ stateNumber (recordState k (drop (at + 1) file))
+  inner-state m n h p = p ∙ rw (eq-eqb k 5 e, inner-place, h) (number-shut (recordKind (getD file j 0)))
 
 -- the head stands at the front: it fits, and how the reading goes on
 pub record HeadStep (f : List ℕ) : Type 0 where

@@ -11,7 +11,7 @@ use mathlib.Core.List.{List, [], _∷_, map, List·Memᴰ, List·Memᴰ·head, L
 use lib.ListN.{length, getD, List·getD-eq-default}
 use lib.Dec.{eqb}
 use borrow.Author.Tests.{eqb-true, eq-eqb, ne-eqb, not-false, not-true}
-use mathlib.Mathlib.Data.Bool.Basic.{and-elim-left, and-elim-right, and-intro, eq-true-of-not-eq-false}
+use mathlib.Mathlib.Data.Bool.Basic.{and-elim-left, and-elim-right, and-intro}
 use Rattle.network.specs.declared.Reach.{Reach}
 use Rattle.lists.specs.Lists.{range, some?, find, keep, elem}
 use Rattle.network.specs.Networks.{Network, inService, basinsOf, lowestBasin, Accepted}
@@ -25,7 +25,7 @@ use Rattle.lists.proofs.Searches.{every-at, every-make, some-make, some-has, fi
 use Rattle.lists.proofs.Ranges.{range-has, range-in}
 use Rattle.network.proofs.Walks.{walk-inside}
 use Rattle.network.proofs.Cuts.{strong-walks, one-crossing}
-use Rattle.network.proofs.Ways.{passingAt, arcs-in, gate-small, gated-in-service, ShutOut, shut-out, arc-in-service}
+use Rattle.network.proofs.Ways.{passingAt, arcs-in, gate-small, ShutOut, shut-out, arc-in-service}
 use Rattle.network.proofs.Networks.{accepted, basin-in, lowest-in, reach-alike, arc-alike}
 
 -- ---- sides

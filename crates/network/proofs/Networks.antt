@@ -42,7 +42,11 @@ passed : (b : Bool) (r : Refusal) (rest : Option Refusal) → cond (not b) (some
 passed true r rest e = (refl, e)
 passed false r rest e = absurd (Option·some-ne-none r e)
 
--- the three tests of an accepted network pass
+-- a network is accepted if the three tests pass, and only then
+pub fault-none : (N : Network) → goodCount N ≡ true → goodLength N ≡ true → goodEnds N ≡ true → Accepted N
+unfolding tableFault
+fault-none N e f g = rw (e, f, g)
+
 pub tests-passed : (N : Network) → Accepted N → (goodCount N ≡ true) × (goodLength N ≡ true) × (goodEnds N ≡ true)
 unfolding tableFault
 tests-passed N e =

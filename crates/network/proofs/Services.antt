@@ -17,7 +17,7 @@ use Rattle.network.specs.declared.State.the-variants.{InService, Shut}
 use Rattle.network.specs.declared.Reach.{Reach}
 use Rattle.network.specs.declared.Refusal.{Refusal}
 use Rattle.lists.specs.Lists.{range, some?, find, elem}
-use Rattle.network.specs.Networks.{Network, inService, kindIn, maxReaches, basinsOf, lowestBasin, goodLength, goodEnds, tableFault, Accepted}
+use Rattle.network.specs.Networks.{Network, inService, kindIn, maxReaches, basinsOf, lowestBasin, goodLength, goodEnds, Accepted}
 use Rattle.network.specs.Settings.{isGated, gatesFrom, gateCount, isSetting, settingFault, before, settings}
 use Rattle.network.specs.Orientations.{Arc, way, after, ways, passing, arcs, arcsUnder, unoriented}
 use Rattle.network.specs.Plans.{stronglyConnected, stronglyConnectedUnder, isPlan, passable, firstPlan, nextPlan}
@@ -29,7 +29,7 @@ use Rattle.lists.proofs.Lists.{length-cond}
 use Rattle.lists.proofs.Searches.{every-make, every-at, find-is, find-same, find-first, find-lowest, keep-in, length-keep, KeptFrom, kept-at, kept-below, kept-rises, kept-from}
 use Rattle.lists.proofs.Ranges.{range-in}
 use Rattle.network.proofs.Ways.{plain-here, plain-after, shut-way, shut-plain, gated-in-service}
-use Rattle.network.proofs.Networks.{endsBelow, tests-passed}
+use Rattle.network.proofs.Networks.{endsBelow, fault-none, tests-passed}
 use Rattle.network.proofs.Bridges.{uncrossed, Alone, alone-facts, alone-test, bridge-below, bridge-gated}
 use Rattle.network.proofs.Replies.{lowest-is-bridge, no-lowest}
 
@@ -215,14 +215,13 @@ service-lowest N = go (lowestBridge N) refl
 
 -- not the other way round: the limit on reaches and the test of ends ask shut reaches too
 pub service-accepted : (N : Network) → Accepted N → Accepted (serviceNet N)
-unfolding tableFault
 service-accepted N ok =
     let good = tests-passed N ok in
     let few : goodLength (serviceNet N) ≡ true =
     le-leb (length (serviceReaches (N .reaches))) maxReaches (omega (arith, leb-true (length (N .reaches)) maxReaches (good .1), length-keep serving (N .reaches))) in
     let ends : goodEnds (serviceNet N) ≡ true =
     every-make (endsBelow (N .basins)) (serviceReaches (N .reaches)) (λ r m. every-at (endsBelow (N .basins)) (good .2) ((keep-in serving (N .reaches) m) .0)) in
-    rw (good .0, few, ends)
+    fault-none (serviceNet N) (good .0) few ends
 
 -- only a lone reach is renumbered
 chosen-kept : (N : Network) (p : Option (List ℕ)) → chosen p ≡ renumbered N (chosen p)

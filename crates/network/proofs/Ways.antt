@@ -85,6 +85,20 @@ pub length-ways : (t : List Reach) (h : List ℕ) → length (ways t h) ≡ leng
 length-ways [] h = refl
 length-ways (r ∷ t) h = ap suc (length-ways t (after (r .state) h))
 
+-- a reach that is no gate has the way of its state, whatever the partial orientation
+pub plain-here : (d : State) (h : List ℕ) → isGated d ≡ false → way d h ≡ way d []
+plain-here (InService Gated) h e = absurd (true≢false e)
+plain-here (InService Flap) h e = refl
+plain-here (InService TwoWay) h e = refl
+plain-here (Shut d) h e = refl
+
+-- and has no byte
+pub plain-after : (d : State) (h : List ℕ) → isGated d ≡ false → after d h ≡ h
+plain-after (InService Gated) h e = absurd (true≢false e)
+plain-after (InService Flap) h e = refl
+plain-after (InService TwoWay) h e = refl
+plain-after (Shut d) h e = refl
+
 -- the gate k of a table: the number of its reach, and what its byte decides
 pub record Gate (o : ℕ) (t : List Reach) (h : List ℕ) (k : ℕ) : Type 0 where
   pub reach : ℕ
@@ -98,34 +112,15 @@ abbrev reachOf : State → ℕ → ℕ → Reach
 reachOf d a b = record { state = d; a = a; b = b }
 
 -- a gate of the tail is a gate of the table, after a reach that is no gate
-passed : (d : State) (a b o : ℕ) (t : List Reach) (h : List ℕ) (k : ℕ) → isGated d ≡ false → after d h ≡ h → Gate (suc o) t h k → Gate o (reachOf d a b ∷ t) h k
-passed (InService Gated) a b o t h k e f g = absurd (true≢false e)
-passed (InService Flap) a b o t h k e f g =
+passed : (d : State) (a b o : ℕ) (t : List Reach) (h : List ℕ) (k : ℕ) → isGated d ≡ false → Gate (suc o) t h k → Gate o (reachOf d a b ∷ t) h k
+passed d a b o t h k e g =
     record {
       reach = suc (g .reach);
       below = omega (arith, g .below);
-      numbered = g .numbered ∙ omega arith;
+      numbered = rw e (g .numbered ∙ omega arith);
       gated = g .gated;
-      byte = g .byte;
-      turn = λ x l. ap (λ (l : List ℕ). 0 ∷ l) (g .turn x l);
-    }
-passed (InService TwoWay) a b o t h k e f g =
-    record {
-      reach = suc (g .reach);
-      below = omega (arith, g .below);
-      numbered = g .numbered ∙ omega arith;
-      gated = g .gated;
-      byte = g .byte;
-      turn = λ x l. ap (λ (l : List ℕ). 2 ∷ l) (g .turn x l);
-    }
-passed (Shut d) a b o t h k e f g =
-    record {
-      reach = suc (g .reach);
-      below = omega (arith, g .below);
-      numbered = g .numbered ∙ omega arith;
-      gated = g .gated;
-      byte = g .byte;
-      turn = λ x l. ap (λ (l : List ℕ). 3 ∷ l) (g .turn x l);
+      byte = rw (plain-after d h e) (g .byte);
+      turn = λ x l. rw (plain-after d (set h k x) e, plain-after d h e, plain-here d (set h k x) e, plain-here d h e) (ap (λ (ws : List ℕ). way d [] ∷ ws) (g .turn x l));
     }
 
 first-gate : (a b o : ℕ) (t : List Reach) (h : List ℕ) → Gate o (reachOf (InService Gated) a b ∷ t) h 0
@@ -148,9 +143,9 @@ later-gate a b o t (y ∷ h) k g =
 gate-step : (d : State) (a b o : ℕ) (t : List Reach) (h : List ℕ) (k : ℕ) → ((h′ : List ℕ) (k′ : ℕ) → k′ < length (gatesFrom (suc o) t) → Gate (suc o) t h′ k′) → k < length (gatesFrom o (reachOf d a b ∷ t)) → Gate o (reachOf d a b ∷ t) h k
 gate-step (InService Gated) a b o t h zero f l = first-gate a b o t h
 gate-step (InService Gated) a b o t h (suc k) f l = later-gate a b o t h k (f (drop 1 h) k (le-of-suc-le-suc l))
-gate-step (InService Flap) a b o t h k f l = passed (InService Flap) a b o t h k refl refl (f h k l)
-gate-step (InService TwoWay) a b o t h k f l = passed (InService TwoWay) a b o t h k refl refl (f h k l)
-gate-step (Shut d) a b o t h k f l = passed (Shut d) a b o t h k refl refl (f h k l)
+gate-step (InService Flap) a b o t h k f l = passed (InService Flap) a b o t h k refl (f h k l)
+gate-step (InService TwoWay) a b o t h k f l = passed (InService TwoWay) a b o t h k refl (f h k l)
+gate-step (Shut d) a b o t h k f l = passed (Shut d) a b o t h k refl (f h k l)
 
 pub gate-at : (o : ℕ) (t : List Reach) (h : List ℕ) (k : ℕ) → k < length (gatesFrom o t) → Gate o t h k
 gate-at o [] h k l = absurd (not-suc-le-zero l)
@@ -179,20 +174,7 @@ rank-of o [] i l e = absurd (not-suc-le-zero l)
 rank-of o (r ∷ t) zero l e = rank-here (r .state) (r .a) (r .b) o t e
 rank-of o (r ∷ t) (suc i) l e = rank-step (r .state) (r .a) (r .b) o t i (rank-of (suc o) t i (le-of-suc-le-suc l) e)
 
--- a reach that is no gate has the way of its state, whatever the partial orientation
-pub plain-here : (d : State) (h : List ℕ) → isGated d ≡ false → way d h ≡ way d []
-plain-here (InService Gated) h e = absurd (true≢false e)
-plain-here (InService Flap) h e = refl
-plain-here (InService TwoWay) h e = refl
-plain-here (Shut d) h e = refl
-
--- and has no byte
-pub plain-after : (d : State) (h : List ℕ) → isGated d ≡ false → after d h ≡ h
-plain-after (InService Gated) h e = absurd (true≢false e)
-plain-after (InService Flap) h e = refl
-plain-after (InService TwoWay) h e = refl
-plain-after (Shut d) h e = refl
-
+-- so the way of each reach that is no gate
 pub plain-way : (t : List Reach) (h : List ℕ) (i : ℕ) → i < length t → isGated ((getD t i noReach) .state) ≡ false → getD (ways t h) i 3 ≡ way ((getD t i noReach) .state) []
 plain-way [] h i l e = absurd (not-suc-le-zero l)
 plain-way (r ∷ t) h zero l e = plain-here (r .state) h e

@@ -44,10 +44,6 @@ module _ (N : Network) where
   unfolding tableFault
   fault-ends e f g = rw (e, f, g)
 
-  pub fault-none : goodCount N ≡ true → goodLength N ≡ true → goodEnds N ≡ true → tableFault N ≡ none
-  unfolding tableFault
-  fault-none e f g = rw (e, f, g)
-
 module _ (n i : ℕ) (ks xs ys : List ℕ) (l : i < length (tableOf ks xs ys)) where
   -- by the two numbers in the rows
   pub ends-good : getD xs i 0 < n → getD ys i 0 < n → endsBelow n (getD (tableOf ks xs ys) i noReach) ≡ true

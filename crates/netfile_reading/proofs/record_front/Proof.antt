@@ -5,7 +5,7 @@ use native.Mathlib.Omega.{arith}
 use mathlib.Core.Path.{_∙_}
 use lib.ListN.{length}
 use borrow.Author.Tests.{eq-eqb, ne-eqb}
-use Rattle.netfile_format.proofs.Steps.{inner-shut, state-shut}
+use Rattle.netfile_format.proofs.Steps.{inner-known, inner-state}
 use Rattle.netfile_reading.proofs.record_front.Statement.{statement}
 use Rattle.netfile_reading.proofs.record_front.Tie as tie
 
@@ -34,9 +34,9 @@ returns c =
     let shut = c .before .before .before .if1 .taken in
     let known = c .before .known-kind in
     let number = c .kind-number in (
-      inner-shut (s .file .now) (s .at) (s .kind) _ shut (omega arith) (known .result) (known .ensures),
+      inner-known (s .file .now) (s .at) (s .kind) _ shut (omega arith) (known .result) (known .ensures),
       (
-        state-shut (s .file .now) (s .at) (s .kind) _ shut (omega arith) (number .result) _ (number .ensures .0) (omega arith),
+        inner-state (s .file .now) (s .at) (s .kind) _ shut (omega arith) (number .result) _ (number .ensures .0) (omega arith),
         rw (eq-eqb (s .kind) 5 shut),
       ),
     )

@@ -9,7 +9,8 @@ use borrow.Author.Needs.{needs}
 use borrow.Author.Tests.{ltb-true, ltb-false, le-leb, lt-leb, eq-eqb, ne-eqb}
 use Rattle.network.specs.Networks.{Network, goodCount, maxBasins, maxReaches}
 use Rattle.tables.specs.Rows.{netOf}
-use Rattle.tables.proofs.Faults.{count-good, count-bad, fault-count, fault-length, fault-ends, fault-none, table-checked}
+use Rattle.network.proofs.Networks.{fault-none}
+use Rattle.tables.proofs.Faults.{count-good, count-bad, fault-count, fault-length, fault-ends, table-checked}
 use Rattle.tables.proofs.table_check.Statement.{statement}
 use Rattle.tables.proofs.table_check.Tie as tie
 
