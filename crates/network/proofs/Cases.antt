@@ -1,4 +1,4 @@
--- The marked cases 1 to 11 and the cases with shut reaches, computed from the definitions.
+-- The marked cases 1 to 11, the cases with shut reaches and the bytes of bound gates, computed from the definitions.
 -- Assumes nothing.
 use mathlib.Core.Path.{refl}
 use lib.Count.{ones}
@@ -8,11 +8,13 @@ use Rattle.network.specs.Plans.{stronglyConnectedUnder, isPlan, passable
 use Rattle.network.specs.Bridges.{crossesAlone, isBridge, lowestBridge}
 use Rattle.network.specs.Marks.{marksOf}
 use Rattle.network.specs.Replies.{shutInBasin, shutInSide, bridgeSide, shutInFinding, loneFinding, answer, firstAnswer, nextAnswer, roomFault, firstReply, nextReply}
-use Rattle.network.specs.Cases.{cases, shutCases, CasesHold}
+use Rattle.network.specs.Bound.{plans, boundByte, boundBytes}
+use Rattle.network.specs.Cases.{cases, shutCases, boundCases, CasesHold, BytesHold}
 
-pub marked-cases : CasesHold cases × CasesHold shutCases
-unfolding tableFault isSetting settingFault stronglyConnectedUnder isPlan passable firstPlan nextPlan crossesAlone isBridge lowestBridge marksOf ones shutInBasin shutInSide bridgeSide shutInFinding loneFinding answer firstAnswer nextAnswer roomFault firstReply nextReply
+pub marked-cases : CasesHold cases × CasesHold shutCases × BytesHold boundCases
+unfolding tableFault isSetting settingFault stronglyConnectedUnder isPlan passable firstPlan nextPlan crossesAlone isBridge lowestBridge marksOf ones shutInBasin shutInSide bridgeSide shutInFinding loneFinding answer firstAnswer nextAnswer roomFault firstReply nextReply plans boundByte boundBytes
 marked-cases = (
   ((refl, (refl, tt)), ((refl, tt), ((refl, (refl, (refl, (refl, tt)))), ((refl, tt), ((refl, tt), ((refl, tt), ((refl, (refl, tt)), ((refl, (refl, tt)), ((refl, (refl, (refl, tt))), ((refl, tt), ((refl, tt), tt))))))))))),
   ((refl, tt), ((refl, tt), ((refl, (refl, (refl, (refl, tt)))), ((refl, tt), ((refl, tt), ((refl, tt), ((refl, (refl, tt)), tt))))))),
+  (refl, (refl, (refl, (refl, (refl, (refl, (refl, (refl, (refl, (refl, (refl, (refl, (refl, tt))))))))))))),
 )

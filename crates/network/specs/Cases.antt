@@ -1,4 +1,5 @@
--- The marked cases 1 to 11 of document 01 in one table, and cases with shut reaches in another. proofs/Cases.antt computes them from the definitions.
+-- The marked cases 1 to 11 of document 01 in one table, cases with shut reaches in another, and the bytes of bound gates in a third. proofs/Cases.antt computes them
+-- from the definitions.
 -- Assumes nothing.
 use Prim.Native.Nat.{ℕ}
 use mathlib.Core.Path.{_≡_}
@@ -13,6 +14,7 @@ use Rattle.network.specs.Settings.{gateCount}
 use Rattle.network.specs.Marks.{markBytes}
 use Rattle.network.specs.Services.{shutReach}
 use Rattle.network.specs.Replies.{Outcome, plan, shutIn, lone, refused, firstReply, nextReply}
+use Rattle.network.specs.Bound.{boundIn}
 
 -- "G gated, F flap, T two-way."
 abbrev pub G : ℕ → ℕ → Reach
@@ -94,6 +96,32 @@ shutCases =
     -- Case 9 with its loop shut: the empty plan, and no other.
     row (net 1 (shutReach (G 0 0) ∷ [])) (plan []) (comes [] (refused LastPlan) ∷ []) ∷ []
 
+-- A network and the bytes that it gets, one for each gated reach in service, if it has a plan (document 02, item 2).
+pub record BoundCase : Type 0 where
+  pub network : Network
+  pub bytes : List ℕ
+
+abbrev pub gets : Network → List ℕ → BoundCase
+gets N l = record { network = N; bytes = l }
+
+abbrev pub boundCases : List BoundCase
+boundCases =
+    -- Cases 1 and 4 have no gate, cases 2 and 5 no plan.
+    gets (net 1 []) [] ∷ gets (net 2 (T 0 1 ∷ [])) [] ∷ gets (net 2 (G 0 1 ∷ [])) [] ∷ gets (net 2 (F 0 1 ∷ [])) [] ∷
+    -- Case 3: each can be turned if the other is, though not with the other as the first plan has it. So it is in case 7.
+    gets case3 (2 ∷ 2 ∷ []) ∷
+    gets (net 3 (G 0 1 ∷ G 1 2 ∷ G 2 0 ∷ [])) (2 ∷ 2 ∷ 2 ∷ []) ∷
+    -- Case 8: always as drawn; with the flap the other way, always turned. Case 9: either.
+    gets (net 2 (F 1 0 ∷ G 0 1 ∷ [])) (0 ∷ []) ∷
+    gets (net 2 (F 0 1 ∷ G 0 1 ∷ [])) (1 ∷ []) ∷
+    gets (net 1 (G 0 0 ∷ [])) (2 ∷ []) ∷
+    -- Case 7 with reach 0 a flap, and with reach 2 drawn from 0 to 2: the flap binds the others. A gate beside the flap is free to go along or against it.
+    gets (net 3 (F 0 1 ∷ G 1 2 ∷ G 0 2 ∷ [])) (0 ∷ 1 ∷ []) ∷
+    gets (net 3 (F 0 1 ∷ G 1 2 ∷ G 0 2 ∷ G 0 1 ∷ [])) (2 ∷ 2 ∷ 2 ∷ []) ∷
+    -- Case 3 with a third gate, shut, between the two: it has no byte. Case 8 with a shut flap beside it that would free the gate.
+    gets (net 2 (G 0 1 ∷ shutReach (G 0 1) ∷ G 0 1 ∷ [])) (2 ∷ 2 ∷ []) ∷
+    gets (net 2 (shutReach (F 0 1) ∷ F 1 0 ∷ G 0 1 ∷ [])) (0 ∷ []) ∷ []
+
 -- The replies hold: first's and each of next's, with lent buffers of just the length needed.
 abbrev pub NextsHold : Network → List After → Type 0
 NextsHold N [] = Unit {0}
@@ -105,3 +133,8 @@ CaseHolds c = (firstReply (c .network) (gateCount (c .network)) markBytes ≡ c 
 abbrev pub CasesHold : List Case → Type 0
 CasesHold [] = Unit {0}
 CasesHold (c ∷ l) = CaseHolds c × CasesHold l
+
+-- The bytes hold, with lent buffers of just the length needed.
+abbrev pub BytesHold : List BoundCase → Type 0
+BytesHold [] = Unit {0}
+BytesHold (c ∷ l) = (boundIn (c .network) (firstReply (c .network) (gateCount (c .network)) markBytes) ≡ c .bytes) × BytesHold l
