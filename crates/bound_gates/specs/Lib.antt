@@ -1,0 +1,2 @@
+-- What the call that tells bound gates promises.
+pub mod Calls
