@@ -1,27 +1,38 @@
 -- Document 02, item 2: what the byte of a bound gate says of all plans, which search decides it, and what a gated reach made a flap leaves.
 -- Assumes nothing.
-use Prim.Native.Nat.{ℕ, zero, suc, _+_, _≤_, _<_}
+use Prim.Native.Nat.{ℕ, zero, suc, _+_, _≤_, _<_, compare·suc-suc}
 use native.Mathlib.Omega.{arith}
 use native.Mathlib.Decide.{ℕ-discrete}
 use mathlib.Core.Path.{_≡_, refl, sym, ap, _∙_}
-use mathlib.Core.Bool.{Bool, true, false, cond}
+use mathlib.Core.Bool.{Bool, true, false, cond, _&&_, and-comm}
 use mathlib.Core.Logic.{_⊎_, inl, inr, ⊎-elim, _↔_}
-use mathlib.Core.List.{List}
-use lib.ListN.{length, getD, set, length-replicate}
+use mathlib.Core.List.{List, [], _∷_, _++_}
+use mathlib.Core.Option.{Option, none, some}
+use lib.ListN.{length, getD, set, length-set, length-replicate, length-map}
 use lib.Seq.{getD-set-same, getD-set-other}
-use lib.Dec.{eqb}
-use borrow.Author.Tests.{eqb-true, eqb-false}
+use lib.Dec.{leb, ltb, eqb}
+use borrow.Author.Tests.{eqb-true, eqb-false, le-leb}
+use mathlib.Mathlib.Data.Bool.Basic.{and-elim-left, and-elim-right, and-intro}
+use Rattle.network.specs.declared.Kind.the-variants.{Gated, Flap, TwoWay}
+use Rattle.network.specs.declared.State.{State}
+use Rattle.network.specs.declared.State.the-variants.{InService, Shut}
+use Rattle.network.specs.declared.Reach.{Reach}
+use Rattle.lists.specs.Lists.{range, every}
 use Rattle.lists.proofs.Bools.{decide, clash}
-use Rattle.lists.proofs.Searches.{every-at, every-fails, keep-in, keep-has}
+use Rattle.lists.proofs.Searches.{every-at, every-fails, every-getD, keep-in, keep-has}
+use Rattle.lists.proofs.Ranges.{length-range, map-range-at}
 use Rattle.network.specs.Networks.{Network, Accepted}
-use Rattle.network.specs.Settings.{gates, gateCount, settings}
-use Rattle.network.specs.Orientations.{reached, unoriented}
-use Rattle.network.specs.Plans.{stronglyConnectedUnder, isPlan, passable}
-use Rattle.network.specs.Bridges.{reachAt}
-use Rattle.network.specs.Bound.{plans, hungAlike, boundByte}
+use Rattle.network.specs.Settings.{isGated, gatesFrom, gates, gateCount, isSetting, settings}
+use Rattle.network.specs.Orientations.{Arc, way, ways, passing, arcs, reached, unoriented}
+use Rattle.network.specs.Plans.{stronglyConnectedUnder, isPlan, passable, firstPlan, nextPlan}
+use Rattle.network.specs.Bridges.{noReach, reachAt}
+use Rattle.network.specs.Replies.{plan, firstAnswer}
+use Rattle.network.specs.Bound.{plans, hungAlike, boundByte, boundBytes, flapReach, flapAt}
+use Rattle.network.proofs.Networks.{endsBelow, fault-none, tests-passed}
 use Rattle.network.proofs.Bridges.{bridge-blocks}
-use Rattle.network.proofs.Ways.{Looser}
-use Rattle.network.proofs.Order.{plan-in, plan-setting}
+use Rattle.network.proofs.Ways.{gate-at, plain-here, plain-after, reachOf, Looser}
+use Rattle.network.proofs.Order.{setting-length, plan-in, plan-setting, first-is-plan, first-none, next-is-plan}
+use Rattle.network.proofs.Replies.{first-given}
 use Rattle.network.proofs.Theorem.{setting-byte, orient-set, unoriented-2, unoriented-oriented, looser-strong, plan-reaches, plan-passable, without, as-drawn, as-turned, complete}
 
 -- a plan that hangs the k-th gate so
@@ -42,10 +53,12 @@ module _ (N : Network) where
       let f = every-fails (λ q. eqb (getD q k 2) x) (plans N) e in
       (f .0, (keep-in (isPlan N) (settings (gateCount N)) (f .1)) .1, eqb-false (getD (f .0) k 2) x (f .2))
 
+  -- the byte, by whether all plans hang the gate as drawn, and whether all hang it turned
   byte-is : (k : ℕ) (c d : Bool) → hungAlike N k 0 ≡ c → hungAlike N k 1 ≡ d → boundByte N k ≡ cond c 0 (cond d 1 2)
   unfolding boundByte
   byte-is k c d e f = rw (e, f)
 
+  -- it is up to 2
   byte-small : (k : ℕ) → boundByte N k ≤ 2
   byte-small k = go (hungAlike N k 0) (hungAlike N k 1) (byte-is k (hungAlike N k 0) (hungAlike N k 1) refl refl)
     where
@@ -54,7 +67,7 @@ module _ (N : Network) where
       go false true e = omega arith
       go false false e = omega arith
 
-  -- "A byte 0 or 1 is what every plan has there."
+  -- "0 always as drawn, 1 always turned": a byte 0 or 1 is what every plan has there
   pub bound-plan : (k : ℕ) (p : List ℕ) → isPlan N p ≡ true → boundByte N k ≤ 1 → getD p k 2 ≡ boundByte N k
   bound-plan k p y l = go (hungAlike N k 0) refl (hungAlike N k 1) refl
     where
@@ -68,6 +81,22 @@ module _ (N : Network) where
   alike-byte k zero l p y e = byte-is k true (hungAlike N k 1) e refl
   alike-byte k (suc zero) l p y e = ⊎-elim (λ d. absurd (omega (arith, alike-each k 0 d p y, alike-each k 1 e p y))) (λ d. byte-is k false true d e) (decide (hungAlike N k 0))
   alike-byte k (suc (suc x)) l p y e = absurd (omega arith)
+
+  -- "a byte for each gated reach", in reach order
+  pub bound-length : length (boundBytes N) ≡ gateCount N
+  unfolding boundBytes
+  bound-length = length-map (range 0 (gateCount N)) (boundByte N) ∙ length-range 0 (gateCount N)
+
+  pub bound-getD : (k : ℕ) → k < gateCount N → getD (boundBytes N) k 2 ≡ boundByte N k
+  unfolding boundBytes
+  bound-getD k l = map-range-at (boundByte N) 2 0 (gateCount N) k l ∙ ap (boundByte N) (omega arith)
+
+  -- so every plan that first or next gives has the byte of a bound gate there
+  pub bound-first : (k : ℕ) {p : List ℕ} → firstPlan N ≡ some p → boundByte N k ≤ 1 → getD p k 2 ≡ boundByte N k
+  bound-first k {p} e = bound-plan k p (first-is-plan N e)
+
+  pub bound-next : (k : ℕ) (s : List ℕ) {p : List ℕ} → nextPlan N s ≡ some p → boundByte N k ≤ 1 → getD p k 2 ≡ boundByte N k
+  bound-next k s {p} e = bound-plan k p (next-is-plan N s e)
 
   module _ (k : ℕ) (l : k < gateCount N) (p : List ℕ) (y : isPlan N p ≡ true) where
     -- a gate's byte is not that of the one way exactly if some plan hangs it the other
@@ -87,7 +116,7 @@ module _ (N : Network) where
     not-drawn = not-alike 1 0 (omega arith)
 
   module _ (ok : Accepted N) (p : List ℕ) (y : isPlan N p ≡ true) (k : ℕ) (l : k < gateCount N) where
-    -- the partial orientation that hangs the gate k alone, and what is hung so
+    -- the partial orientation that hangs the gate k alone has its byte there, and is looser than all that hang it so
     here : (x : ℕ) → getD (set (unoriented N) k x) k 2 ≡ x
     here x = getD-set-same (unoriented N) k x 2 (omega (arith, length-replicate {A = ℕ} (gateCount N) 2))
 
@@ -121,6 +150,7 @@ module _ (N : Network) where
         always t (yes q) = q
         always t (no n) = clash ((hung-strong z (omega arith)) .0 ((not-alike k l p y z x (omega arith)) .0 n)) t
 
+    -- a network with a plan is passable
     passes : stronglyConnectedUnder N (unoriented N) ≡ true
     unfolding passable
     passes = plan-passable N p y
@@ -133,3 +163,148 @@ module _ (N : Network) where
     pub bound-turned : getD p k 2 ≡ 1 →
         boundByte N k ≡ cond (reached (without N (unoriented N) (getD (gates N) k 0)) ((reachAt N (getD (gates N) k 0)) .b) ((reachAt N (getD (gates N) k 0)) .a)) 2 1
     bound-turned e = bound-other 1 0 (omega arith) e ∙ ap (λ (c : Bool). cond c 2 1) (as-drawn N ok (unoriented N) (unoriented-oriented N) k l (unoriented-2 N k) passes)
+
+-- ---- a gated reach made a flap
+
+-- a setting with the byte x put in at place k
+abbrev putIn : ℕ → ℕ → List ℕ → List ℕ
+putIn zero x s = x ∷ s
+putIn (suc k) x [] = []
+putIn (suc k) x (z ∷ s) = z ∷ putIn k x s
+
+-- its length, the byte, and a test that this byte passes
+put-length : (k x : ℕ) (s : List ℕ) → k ≤ length s → length (putIn k x s) ≡ suc (length s)
+put-length zero x s l = refl
+put-length (suc k) x [] l = absurd (omega arith)
+put-length (suc k) x (z ∷ s) l = ap suc (put-length k x s (omega arith))
+
+put-getD : (k x : ℕ) (s : List ℕ) → k ≤ length s → getD (putIn k x s) k 2 ≡ x
+put-getD zero x s l = refl
+put-getD (suc k) x [] l = absurd (omega arith)
+put-getD (suc k) x (z ∷ s) l = put-getD k x s (omega arith)
+
+put-every : (t : ℕ → Bool) (k x : ℕ) (s : List ℕ) → t x ≡ true → every t (putIn k x s) ≡ every t s
+put-every t zero x s e = rw e
+put-every t (suc k) x [] e = refl
+put-every t (suc k) x (z ∷ s) e = ap (λ (c : Bool). t z && c) (put-every t k x s e)
+
+-- each byte of a setting is put in so
+put-from : (k : ℕ) (p : List ℕ) → k < length p → (s : List ℕ) × (k ≤ length s) × (putIn k (getD p k 2) s ≡ p)
+put-from k [] l = absurd (omega arith)
+put-from zero (z ∷ p) l = (p, omega arith, refl)
+put-from (suc k) (z ∷ p) l = let r = put-from k p (omega arith) in (z ∷ r .0, omega (arith, r .1), ap (λ (q : List ℕ). z ∷ q) (r .2))
+
+-- a table with its reach i made a flap
+abbrev flapIn : Bool → List Reach → ℕ → List Reach
+flapIn turned t i = set t i (flapReach turned (getD t i noReach))
+
+-- the gate k of a table made a flap: there is one gate less, and the table passes what it passed with the gate hung so
+record Flapped (turned : Bool) (o : ℕ) (t : List Reach) (k : ℕ) : Type 0 where
+  reach : ℕ
+  numbered : getD (gatesFrom o t) k 0 ≡ o + reach
+  fewer : length (gatesFrom o t) ≡ suc (length (gatesFrom o (flapIn turned t reach)))
+  same : (s : List ℕ) → k ≤ length s → arcs t (ways t (putIn k (cond turned 1 0) s)) ≡ arcs (flapIn turned t reach) (ways (flapIn turned t reach) s)
+
+-- so it is of the first gate, of a later gate, and of a gate behind a reach that is none: of every gate
+flap-first : (turned : Bool) (a b o : ℕ) (t : List Reach) → Flapped turned o (reachOf (InService Gated) a b ∷ t) 0
+flap-first false a b o t = record { reach = 0; numbered = omega arith; fewer = refl; same = λ s l. refl }
+flap-first true a b o t = record { reach = 0; numbered = omega arith; fewer = refl; same = λ s l. refl }
+
+flap-later : (turned : Bool) (a b o : ℕ) (t : List Reach) (k : ℕ) → Flapped turned (suc o) t k → Flapped turned o (reachOf (InService Gated) a b ∷ t) (suc k)
+flap-later turned a b o t k g = record { reach = suc (g .reach); numbered = g .numbered ∙ omega arith; fewer = ap suc (g .fewer); same = same }
+  where
+    same : (s : List ℕ) → suc k ≤ length s → arcs (reachOf (InService Gated) a b ∷ t) (ways (reachOf (InService Gated) a b ∷ t) (putIn (suc k) (cond turned 1 0) s)) ≡ arcs (reachOf (InService Gated) a b ∷ flapIn turned t (g .reach)) (ways (reachOf (InService Gated) a b ∷ flapIn turned t (g .reach)) s)
+    same [] l = absurd (omega arith)
+    same (z ∷ s) l = ap (λ (A : List Arc). passing z a b ++ A) (g .same s (omega arith))
+
+flap-passed : (turned : Bool) (d : State) (a b o : ℕ) (t : List Reach) (k : ℕ) → isGated d ≡ false → Flapped turned (suc o) t k → Flapped turned o (reachOf d a b ∷ t) k
+flap-passed turned d a b o t k e g =
+    record {
+      reach = suc (g .reach);
+      numbered = rw e (g .numbered ∙ omega arith);
+      fewer = rw e (g .fewer);
+      same = λ s l. rw (plain-here d (putIn k (cond turned 1 0) s) e, plain-here d s e, plain-after d (putIn k (cond turned 1 0) s) e, plain-after d s e) (ap (λ (A : List Arc). passing (way d []) a b ++ A) (g .same s l));
+    }
+
+flap-step : (turned : Bool) (d : State) (a b o : ℕ) (t : List Reach) (k : ℕ) → ((j : ℕ) → j < length (gatesFrom (suc o) t) → Flapped turned (suc o) t j) → k < length (gatesFrom o (reachOf d a b ∷ t)) → Flapped turned o (reachOf d a b ∷ t) k
+flap-step turned (InService Gated) a b o t zero f l = flap-first turned a b o t
+flap-step turned (InService Gated) a b o t (suc k) f l = flap-later turned a b o t k (f k (omega arith))
+flap-step turned (InService Flap) a b o t k f l = flap-passed turned (InService Flap) a b o t k refl (f k l)
+flap-step turned (InService TwoWay) a b o t k f l = flap-passed turned (InService TwoWay) a b o t k refl (f k l)
+flap-step turned (Shut d) a b o t k f l = flap-passed turned (Shut d) a b o t k refl (f k l)
+
+flap-at : (turned : Bool) (o : ℕ) (t : List Reach) (k : ℕ) → k < length (gatesFrom o t) → Flapped turned o t k
+flap-at turned o [] k l = absurd (omega arith)
+flap-at turned o (r ∷ t) k l = flap-step turned (r .state) (r .a) (r .b) o t k (flap-at turned (suc o) t) l
+
+-- of the bytes of the two ways one is 0, the other 1
+one-way : (turned : Bool) → cond turned 1 0 + cond turned 0 1 ≡ 1
+one-way false = omega arith
+one-way true = omega arith
+
+module _ (N : Network) (k : ℕ) (l : k < gateCount N) (turned : Bool) where
+  -- the gate's reach, and how many gates are left
+  g : Flapped turned 0 (N .reaches) k
+  g = flap-at turned 0 (N .reaches) k l
+
+  number : getD (gates N) k 0 ≡ g .reach
+  number = omega (arith, g .numbered)
+
+  flap-count : gateCount N ≡ suc (gateCount (flapAt N (getD (gates N) k 0) turned))
+  flap-count = rw number (g .fewer)
+
+  -- a setting is a plan of the changed network exactly if it is one of N with the byte put in
+  flap-same : (s : List ℕ) → k ≤ length s → isPlan N (putIn k (cond turned 1 0) s) ≡ isPlan (flapAt N (getD (gates N) k 0) turned) s
+  unfolding isPlan isSetting stronglyConnectedUnder
+  flap-same s m =
+      rw (put-length k (cond turned 1 0) s m, flap-count, compare·suc-suc, put-every (λ x. leb x 1) k (cond turned 1 0) s (le-leb (cond turned 1 0) 1 (omega (arith, one-way turned))), number, g .same s m)
+
+  -- the plans of the network with the gate made a flap are those that hang it so, without its byte
+  pub flap-plan : HungIn N k (cond turned 1 0) ↔ ((q : List ℕ) × (isPlan (flapAt N (getD (gates N) k 0) turned) q ≡ true))
+  flap-plan = (
+    λ c.
+        let r = put-from k (c .setting) (omega (arith, setting-length N (c .setting) (plan-setting N (c .setting) (c .is-plan)))) in
+        (r .0, sym (flap-same (r .0) (r .1)) ∙ rw (← c .hung, r .2) (c .is-plan)),
+    λ q.
+        let m : k ≤ length (q .0) = omega (arith, flap-count, setting-length (flapAt N (getD (gates N) k 0) turned) (q .0) (plan-setting (flapAt N (getD (gates N) k 0) turned) (q .0) (q .1))) in
+        record { setting = putIn k (cond turned 1 0) (q .0); is-plan = flap-same (q .0) m ∙ q .1; hung = put-getD k (cond turned 1 0) (q .0) m },
+  )
+
+-- a test of every member of a list with one member replaced
+every-set : {A : Type 0} (t : A → Bool) (l : List A) (i : ℕ) {x : A} → every t l ≡ true → t x ≡ true → every t (set l i x) ≡ true
+every-set t [] i e f = refl
+every-set t (y ∷ l) zero e f = and-intro f (and-elim-right (t y) _ e)
+every-set t (y ∷ l) (suc i) e f = and-intro (and-elim-left (t y) _ e) (every-set t l i (and-elim-right (t y) _ e) f)
+
+-- a reach made a flap has the same ends, and so an accepted network stays accepted
+flap-ends : (n : ℕ) (turned : Bool) (r : Reach) → endsBelow n r ≡ true → endsBelow n (flapReach turned r) ≡ true
+flap-ends n false r e = e
+flap-ends n true r e = and-comm (ltb (r .b) n) (ltb (r .a) n) ∙ e
+
+pub flap-accepted : (N : Network) → Accepted N → (i : ℕ) → i < length (N .reaches) → (turned : Bool) → Accepted (flapAt N i turned)
+flap-accepted N ok i l turned =
+    let good = tests-passed N ok in
+    fault-none (flapAt N i turned) (good .0) (rw (length-set (N .reaches) i (flapReach turned (reachAt N i))) (good .1))
+    (every-set (endsBelow (N .basins)) (N .reaches) i (good .2) (flap-ends (N .basins) turned (reachAt N i) (every-getD (endsBelow (N .basins)) (N .reaches) i noReach (good .2) l)))
+
+-- first gives a plan exactly if there is one
+first-gives : (N : Network) → Accepted N → ((q : List ℕ) × (firstAnswer N ≡ plan q)) ↔ ((q : List ℕ) × (isPlan N q ≡ true))
+first-gives N ok = (λ a. (a .0, first-is-plan N ((first-given N ok (a .0)) .0 (a .1))), λ q. go (firstPlan N) refl (q .0) (q .1))
+  where
+    go : (o : Option (List ℕ)) → firstPlan N ≡ o → (q : List ℕ) → isPlan N q ≡ true → (s : List ℕ) × (firstAnswer N ≡ plan s)
+    go none e q y = absurd (first-none N e q y)
+    go (some s) e q y = (s, (first-given N ok s) .1 e)
+
+-- "A reach made a flap as drawn leaves a plan exactly if its byte isn't 1, made a flap turned exactly if it isn't 0."
+pub bound-flap : (N : Network) → Accepted N → (p : List ℕ) → isPlan N p ≡ true → (k : ℕ) → k < gateCount N → (turned : Bool) →
+    ((q : List ℕ) × (firstAnswer (flapAt N (getD (gates N) k 0) turned) ≡ plan q)) ↔ (boundByte N k ≡ cond turned 0 1 → ⊥)
+bound-flap N ok p y k l turned = (λ a. hung .1 ((flap-plan N k l turned) .1 (gives .0 a)), λ n. gives .1 ((flap-plan N k l turned) .0 (hung .0 n)))
+  where
+    below : getD (gates N) k 0 < length (N .reaches)
+    below = let g = gate-at 0 (N .reaches) p k l in omega (arith, g .numbered, g .below)
+
+    gives : ((q : List ℕ) × (firstAnswer (flapAt N (getD (gates N) k 0) turned) ≡ plan q)) ↔ ((q : List ℕ) × (isPlan (flapAt N (getD (gates N) k 0) turned) q ≡ true))
+    gives = first-gives (flapAt N (getD (gates N) k 0) turned) (flap-accepted N ok (getD (gates N) k 0) below turned)
+
+    hung : (boundByte N k ≡ cond turned 0 1 → ⊥) ↔ HungIn N k (cond turned 1 0)
+    hung = not-alike N k l p y (cond turned 1 0) (cond turned 0 1) (one-way turned)

@@ -108,7 +108,7 @@ pub record Gate (o : ℕ) (t : List Reach) (h : List ℕ) (k : ℕ) : Type 0 whe
   pub byte : getD (ways t h) reach 3 ≡ getD h k 2
   pub turn : (x : ℕ) → k < length h → ways t (set h k x) ≡ set (ways t h) reach x
 
-abbrev reachOf : State → ℕ → ℕ → Reach
+abbrev pub reachOf : State → ℕ → ℕ → Reach
 reachOf d a b = record { state = d; a = a; b = b }
 
 -- a gate of the tail is a gate of the table, after a reach that is no gate
