@@ -9,10 +9,14 @@ use Rattle.network.specs.Networks.{Accepted}
 use Rattle.network.specs.Plans.{isPlan}
 use Rattle.tables.specs.Rows.{netOf, gatesIn, waysRow}
 
--- An accepted table whose rows are of one length, no gate of it oriented in the ways ws, and a plan in the first of the bytes.
-pub record Tellable (n : ℕ) (ks xs ys ws bytes : List ℕ) : Type 0 where
+-- An accepted table whose rows are of one length, and a plan of it in the first of the bytes.
+pub record Planned (n : ℕ) (ks xs ys bytes : List ℕ) : Type 0 where
   pub accepted : Accepted (netOf n ks xs ys)
   pub ends-a : length xs ≡ length ks
   pub ends-b : length ys ≡ length ks
-  pub unoriented : ws ≡ waysRow ks []
   pub is-plan : isPlan (netOf n ks xs ys) (take (gatesIn ks) bytes) ≡ true
+
+-- Such a table with the ways ws, in which no gate is oriented.
+pub record Tellable (n : ℕ) (ks xs ys ws bytes : List ℕ) : Type 0 where
+  pub planned : Planned n ks xs ys bytes
+  pub unoriented : ws ≡ waysRow ks []

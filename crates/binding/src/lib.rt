@@ -36,11 +36,15 @@ pub fn bound_at(
     !open
 }
 
-// The byte of a gate that a plan hangs in the way: that way if it is bound, else 2.
+// The byte of a gate that a plan hangs in the way: "0 always as drawn, 1 always turned, 2 either".
 fn told(bound: bool, way: u8) -> u8
+    requires { ⌜ way ≤ 1 ⌝ }
     ensures { λ r. ⌜ r ≡ cond bound way 2 ⌝ }
 {
-    if bound { way } else { 2 }
+    if !bound {
+        return 2;
+    }
+    if way == 0 { 0 } else { 1 }
 }
 
 // Puts the bytes of all gates where those of a plan stand. No gate is oriented in the ways. What it leaves in seen and in the queue is free.

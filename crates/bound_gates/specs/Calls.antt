@@ -2,13 +2,27 @@
 -- Assumes nothing.
 use Prim.Native.Nat.{ℕ}
 use mathlib.Core.Path.{_≡_}
+use mathlib.Core.Bool.{Bool, true, false}
 use mathlib.Core.List.{List}
 use lib.ListN.{length}
 use Rattle.network.specs.Networks.{Network}
 use Rattle.network.specs.Replies.{Outcome, number, reachIn, countIn, marksAfter, firstReply}
 use Rattle.network.specs.Bound.{boundAfter}
+use Rattle.replies.specs.declared.Verdict.{Verdict}
+use Rattle.replies.specs.declared.Verdict.the-variants.{Plan, ShutIn, Lone}
 use Rattle.replies.specs.declared.Answer.{Answer}
+use Rattle.replies.specs.declared.Answer.the-variants.{Refused, Given}
 use Rattle.replies.specs.Answers.{answerOf, answerNumber, answerReach, answerCount}
+
+-- Whether an answer is a plan.
+abbrev pub verdictPlan : Verdict → Bool
+verdictPlan Plan = true
+verdictPlan (ShutIn f) = false
+verdictPlan (Lone f) = false
+
+abbrev pub givesPlan : Answer → Bool
+givesPlan (Refused r) = false
+givesPlan (Given y) = verdictPlan (y .verdict)
 
 -- Where first replies o: the same answer, with its number and values, and the same marks; the bytes of the gates stand in the first of their buffer if there is
 -- a plan, and all else is untouched.

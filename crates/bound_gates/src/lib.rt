@@ -11,10 +11,81 @@ use packing::pack;
 use replies::Answer;
 use replies::Verdict;
 ghost use mathlib.Core.Path.{_≡_};
+ghost use mathlib.Core.List.{_++_};
+ghost use lib.ListN.{drop};
 ghost use Rattle.network.specs.Networks.{net};
-ghost use Rattle.tables.specs.Rows.{netOf};
+ghost use Rattle.network.specs.Bound.{boundBytes};
+ghost use Rattle.tables.specs.Rows.{netOf, gatesIn};
 ghost use Rattle.packing.specs.Tables.{OfTable};
-ghost use Rattle.bound_gates.specs.Calls.{BoundCall};
+ghost use Rattle.binding.specs.Tellings.{Planned};
+ghost use Rattle.finder.specs.Rooms.{Space};
+ghost use Rattle.bound_gates.specs.Calls.{givesPlan, BoundCall};
+
+// Whether the answer is a plan.
+fn gives_plan(answer: Answer) -> bool
+    ensures { λ r. ⌜ r ≡ givesPlan answer ⌝ }
+{
+    match answer {
+        Answer::Refused(_) => false,
+        Answer::Given(reply) => {
+            let verdict = reply.verdict;
+            match verdict {
+                Verdict::Plan => true,
+                Verdict::ShutIn(_) => false,
+                Verdict::Lone(_) => false,
+            }
+        }
+    }
+}
+
+// Puts the bytes of the gates where those of a plan stand, in lent working memory. What it leaves there is free.
+fn tell_in(
+    n: usize,
+    kinds: &[u8],
+    a: &[u16],
+    b: &[u16],
+    bytes: &mut [u8],
+    ways: &mut [u8],
+    head: &mut [u16; MAX_BASINS],
+    next: &mut [u16; HALF_EDGES],
+    seen: &mut [u8; MAX_BASINS],
+    queue: &mut [u16; MAX_BASINS],
+)
+    requires { ⌜ Planned n (now kinds) (now a) (now b) (now bytes) ⌝ }
+    requires { ⌜ Space (now ways) (now head) (now next) (now seen) (now queue) ⌝ }
+    ensures { λ _. ⌜ now (bytes .exit) ≡ boundBytes (netOf n (now (kinds .entry)) (now (a .entry)) (now (b .entry)))
+        ++ drop (gatesIn (now (kinds .entry))) (now (bytes .entry)) ⌝ }
+{
+    let m = kinds.len();
+    let oriented = &mut ways[..m];
+    finder::prepare(n, kinds, a, b, &[], oriented, head, next);
+    binding::tell_bound(n, kinds, a, b, oriented, head, next, bytes, seen, queue);
+}
+
+// The same, with working memory of its own.
+fn tell(n: usize, kinds: &[u8], a: &[u16], b: &[u16], bytes: &mut [u8])
+    requires { ⌜ Planned n (now kinds) (now a) (now b) (now bytes) ⌝ }
+    ensures { λ _. ⌜ now (bytes .exit) ≡ boundBytes (netOf n (now (kinds .entry)) (now (a .entry)) (now (b .entry)))
+        ++ drop (gatesIn (now (kinds .entry))) (now (bytes .entry)) ⌝ }
+{
+    let mut ways = [0u8; MAX_REACHES];
+    let mut head = [0u16; MAX_BASINS];
+    let mut next = [0u16; HALF_EDGES];
+    let mut seen = [0u8; MAX_BASINS];
+    let mut queue = [0u16; MAX_BASINS];
+    tell_in(
+        n,
+        kinds,
+        a,
+        b,
+        bytes,
+        &mut ways,
+        &mut head,
+        &mut next,
+        &mut seen,
+        &mut queue,
+    );
+}
 
 // Which gates of a network have no choice. Where the network has a plan, the answer is `Plan` and the bytes stand in the first of their buffer; else it is that of
 // the first plan. Refuses: 1, 2, 3, 7.
@@ -33,6 +104,7 @@ pub fn bound_gates_rows(
     if gives_plan(answer) {
         let m = tables::row_count(kinds, a, b);
         tell(basins as usize, &kinds[..m], &a[..m], &b[..m], bytes);
+        return answer;
     }
     answer
 }

@@ -12,7 +12,7 @@ use seeking::Found;
 use seeking::Sought;
 
 // Fills the working memory: the ways of the reaches under a setting, and the index of their half-edges.
-fn prepare(
+pub fn prepare(
     n: usize,
     kinds: &[u8],
     a: &[u16],
