@@ -68,12 +68,14 @@ pub fn tell_bound(
     let mut k = 0;
     let mut i = 0;
     while i < kinds.len() {
-        if kinds[i] == 0 {
-            let way = bytes[k];
-            let bound = bound_at(n, a, b, ways, head, next, i, way, seen, queue);
-            bytes[k] = told(bound, way);
-            k += 1;
+        if kinds[i] != 0 {
+            i += 1;
+            continue;
         }
+        let way = bytes[k];
+        let bound = bound_at(n, a, b, ways, head, next, i, way, seen, queue);
+        bytes[k] = told(bound, way);
+        k += 1;
         i += 1;
     }
 }

@@ -1,0 +1,2 @@
+-- The laws of telling bound gates.
+pub mod Tellings
