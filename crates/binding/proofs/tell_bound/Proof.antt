@@ -70,7 +70,7 @@ loop-again-2 : tie.Need-loop-again-2 Inv-loop μ-loop
 loop-again-2 c =
     let gate = c .before .before .before .before .before .before .before .before .before .before .before .before in
     let found = c .before .before .before .before .before .before .before .bound-at in
-    going-gate (gate .before .before .before .before .before .before .before .before .before .before .before .before .before .pre .1) (gate .before .before .before .loop .inv) (gate .before .before .loop-test .taken) (gate .if1 .left) (found .ensures .0) (found .ensures .1)
+    going-gate (gate .before .before .before .before .before .before .before .before .before .before .before .before .before .pre .1) (gate .before .before .before .loop .inv) (gate .before .before .loop-test .taken) (gate .if1 .left) {ws′ = found .last .1 .1 .1 .0} (found .ensures .0) (found .ensures .1)
     (found .kept .1 .1 .1 .1 .1 .1 .1 .1 .0) (found .kept .1 .1 .1 .1 .1 .1 .1 .1 .1 .0) (c .told .ensures)
 
 same-length : tie.Need-same-length Inv-loop μ-loop
