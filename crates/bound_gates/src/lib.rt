@@ -58,7 +58,7 @@ fn tell_in(
 {
     let m = kinds.len();
     let oriented = &mut ways[..m];
-    finder::prepare(n, kinds, a, b, &[], oriented, head, next);
+    finder::prepare(n, kinds, a, b, &bytes[..0], oriented, head, next);
     binding::tell_bound(n, kinds, a, b, oriented, head, next, bytes, seen, queue);
 }
 

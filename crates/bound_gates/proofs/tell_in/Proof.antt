@@ -1,0 +1,54 @@
+-- `bound_gates::tell_in` meets its contract: the working memory is cut to the table, and no gate is oriented in it.
+-- Assumes nothing.
+use native.Mathlib.Omega.{arith}
+use mathlib.Core.Path.{refl, sym}
+use lib.Seq.{length-take-le}
+use Rattle.finder.proofs.Rooms.{room-index, room-ready, level-few, level-room}
+use Rattle.bound_gates.proofs.Calls.{planned-level}
+use borrow.Author.Needs.{needs}
+use Rattle.bound_gates.proofs.tell_in.Statement.{statement}
+use Rattle.bound_gates.proofs.tell_in.Tie as tie
+
+slice-relend-prefix-oriented : tie.Need-slice-relend-prefix-oriented
+slice-relend-prefix-oriented c = let s = c .before .before .before .before .before in omega (arith, level-few (planned-level (s .pre .0)), s .pre .1 .ways-space)
+
+slice-aggregate-oriented : tie.Need-slice-aggregate-oriented
+slice-aggregate-oriented c = let s = c .before .before .before .before .before .before in sym (length-take-le _ (s .args .ways .now) (omega (arith, level-few (planned-level (s .pre .0)), s .pre .1 .ways-space)))
+
+slice-reshare-prefix-prepare : tie.Need-slice-reshare-prefix-prepare
+slice-reshare-prefix-prepare c = omega arith
+
+slice-aggregate-prepare : tie.Need-slice-aggregate-prepare
+slice-aggregate-prepare c = search needs
+
+prepare-requires : tie.Need-prepare-requires
+prepare-requires c κs = let s = c .before .before .before .before .before .before .before .before .before .before in let room = level-room (planned-level (s .pre .0)) (s .pre .1) in record { ways-room = room .ways-room; indexable = room-index room refl refl }
+
+tell-bound-requires : tie.Need-tell-bound-requires
+tell-bound-requires c κs =
+    let s = c .before .before .before .before .before .before .before .before .before .before .before .before .before .before .before .before .before .before .before .before in
+    let p = c .before .before .before .before .before .before .before .before .before .prepare in
+    (room-ready (level-room (planned-level (s .pre .0)) (s .pre .1)) (p .kept .1 .1 .1 .1 .1 .0) (p .ensures .index) refl refl, record { planned = s .pre .0; unoriented = p .ensures .oriented })
+
+same-length : tie.Need-same-length
+same-length c = search needs
+
+same-length-2 : tie.Need-same-length-2
+same-length-2 c = search needs
+
+returns : tie.Need-returns
+returns c = c .before .before .before .before .tell-bound .ensures
+
+pub tell-in-spec : {M : Type 1} → statement M
+tell-in-spec =
+    tie.close
+    (tie.spec
+    slice-relend-prefix-oriented
+    slice-aggregate-oriented
+    slice-reshare-prefix-prepare
+    slice-aggregate-prepare
+    prepare-requires
+    tell-bound-requires
+    same-length
+    same-length-2
+    returns)
