@@ -38,7 +38,8 @@ fn gives_plan(answer: Answer) -> bool
     }
 }
 
-// Puts the bytes of the gates where those of a plan stand, in lent working memory. What it leaves there is free.
+// Puts the bytes of the gates where those of a plan stand, in lent working memory. What it leaves there is free. None of the plan's bytes is taken for the ways, so that
+// no gate is oriented in them.
 fn tell_in(
     n: usize,
     kinds: &[u8],

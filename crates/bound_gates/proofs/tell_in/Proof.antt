@@ -19,7 +19,7 @@ slice-reshare-prefix-prepare : tie.Need-slice-reshare-prefix-prepare
 slice-reshare-prefix-prepare c = omega arith
 
 slice-aggregate-prepare : tie.Need-slice-aggregate-prepare
-slice-aggregate-prepare c = search needs
+slice-aggregate-prepare c = sym (length-take-le _ ((c .before .before .before .before .before .before .before) .args .bytes .now) (omega arith))
 
 prepare-requires : tie.Need-prepare-requires
 prepare-requires c κs = let s = c .before .before .before .before .before .before .before .before .before .before in let room = level-room (planned-level (s .pre .0)) (s .pre .1) in record { ways-room = room .ways-room; indexable = room-index room refl refl }
