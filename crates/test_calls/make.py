@@ -1,9 +1,9 @@
 #!/usr/bin/env python3
 """Writes the case file `stdin` and the expected output `stdout` of the program test_calls, into the folder that this file stands in.
 
-What is expected is worked out here from document 01 and item 1 of document 02 alone. Small networks are planned by trying every setting and every
-division of the basins; larger ones by the theorem, gate by gate. Where both can be had they are compared. The pseudo-random sequence is fixed: the
-files never change by themselves.
+What is expected is worked out here from document 01 and items 1 and 2 of document 02 alone. Small networks are planned by trying every setting and every
+division of the basins, and their bound gates are looked up in all their plans; larger ones go by the theorem, gate by gate. Where both can be had they are
+compared. The pseudo-random sequence is fixed: the files never change by themselves.
 """
 import os
 from bisect import bisect
@@ -32,6 +32,7 @@ class Network:
             self.plans = [s for s in product((0, 1), repeat=len(self.gates)) if self.strong(s)]
             assert bool(self.plans) == (self.finding is None)
             assert self.finding == self.find(by_divisions=True)
+            assert self.finding or self.bound_in_plans() == self.bound_by_theorem()
 
     def arcs(self, setting):
         """The arcs, with gates as hung; a gate past the setting's end passes either way."""
@@ -121,6 +122,19 @@ class Network:
                 return self.complete(tuple(setting[:i]) + (1,))
         return None
 
+    def bound(self):
+        """A byte for each gate: 0 if every plan hangs it as drawn, 1 if every plan hangs it turned, else 2. The network has a plan."""
+        return self.bound_in_plans() if self.small else self.bound_by_theorem()
+
+    def bound_in_plans(self):
+        return [ways[0] if len(set(ways)) == 1 else 2 for ways in zip(*self.plans)]
+
+    def bound_by_theorem(self):
+        """No reach is lone: so a gate can be hung a way exactly if the network is passable with it hung so."""
+        drawn, turned = ([self.strong((2,) * i + (way,)) for i in range(len(self.gates))] for way in (0, 1))
+        assert all(d or t for d, t in zip(drawn, turned))
+        return [2 if d and t else 0 if d else 1 for d, t in zip(drawn, turned)]
+
 
 @lru_cache(maxsize=None)
 def network(basins, reaches):
@@ -166,6 +180,12 @@ def plan_call(basins, reaches, setting, p, m):
         return number, (reach, bin(marked).count('1')), (), mark_bytes(marked)
     plan = net.next_plan(setting)
     return (11, (), (), ()) if plan is None else (0, (), plan, ())
+
+
+def bound_call(basins, reaches, p, m):
+    """Bound gates: as first plan, but for the bytes where there is a plan."""
+    number, values, plan, marks = plan_call(basins, reaches, None, p, m)
+    return number, values, plan if number else network(basins, reaches).bound(), marks
 
 
 def step_call(held, basins, reaches, p, m):
@@ -355,9 +375,9 @@ class Out:
 
 
 # first plan is a walk that does not go on, a step a walker that does not
-CALLS = ['table', 'check', 'walk', 'next', 'make', 'walker', 'read network', 'write network', 'read sheet', 'write sheet', 'write reply', 'list',
+CALLS = ['table', 'check', 'walk', 'bound', 'next', 'make', 'walker', 'read network', 'write network', 'read sheet', 'write sheet', 'write reply', 'list',
          'list placed']
-CODES = dict([(call, i) for i, call in enumerate(CALLS)] + [('first', 2), ('step', 5)])
+CODES = dict([(call, i) for i, call in enumerate(CALLS)] + [('first', 2), ('step', 6)])
 
 
 def padded(front, n, old=OLD):
@@ -391,6 +411,8 @@ def play(o, c, table):
         o.reply(table_fault(basins, reaches))
     elif call == 'check':
         o.reply(check(basins, reaches, s))
+    elif call == 'bound':
+        show_plan_call(o, bound_call(basins, reaches, p, m), p, m)
     elif call == 'next':
         show_plan_call(o, plan_call(basins, reaches, s, p, m), p, m)
     elif call == 'make':
@@ -485,7 +507,7 @@ class Group:
         k, x, y = (self.total if z is None else z for z in (k, x, y))
         n = len(data) if n is None else n
         c = [CODES[call]] + [z for v in (basins, k, x, y, p, m, n, limit, 0) for z in two(v)] + list(data)
-        fields = {'basins': 1, 'basins high': 2, 'k': 3, 'k high': 4, 'x': 5, 'y': 7, 'p': 9, 'm': 11, 'n': 13, 'line': 18}
+        fields = {'call': 0, 'basins': 1, 'basins high': 2, 'k': 3, 'k high': 4, 'x': 5, 'y': 7, 'p': 9, 'm': 11, 'n': 13, 'line': 18}
         vary = [(fields[v[0]] if v[0] in fields else 19 + v[0],) + tuple(v[1:]) for v in vary]
         mode = mode if mode is not None else BRIEF if vary or call == 'list' else FULL
         name = name or call
@@ -602,6 +624,8 @@ def whole(title, basins, reaches):
     gr.case('table', basins)
     gr.case('check', basins, zeros, vary=settings(g))
     gr.case('first', basins, p=g)
+    gr.case('bound', basins, p=g)
+    gr.case('bound', basins, vary=[('p', 3, max(g - 1, 0)), ('m', 3, 31)])
     gr.case('next', basins, zeros, p=g, vary=settings(g))
     gr.case('walk', basins, p=g + 1, m=33, limit=1100, mode=BRIEF)
     gr.case('make', basins, zeros, p=g + 2, vary=settings(g))
@@ -655,19 +679,23 @@ EDGES = [('basins high', 2, 0), ('basins', 2, 0), ('k', 2, 0)]      # 0, 1, 256 
 
 for title, kind in (('flaps', F), ('two-way reaches', T), ('shut gates', SG)):
     gr = group('case 12: %s round a ring of 256 basins' % title, ring(256, 1026, kind))
-    for call in ('table', 'check', 'first', 'next', 'make', 'step', 'write reply', 'write sheet'):
+    for call in ('table', 'check', 'first', 'bound', 'next', 'make', 'step', 'write reply', 'write sheet'):
         gr.case(call, 0, p=4, k=1024, vary=EDGES)
     gr.case('read sheet', 0, [16, 0, 0, 9], p=0, k=1024, vary=EDGES)
     length = len(network_file(256, gr.reaches[:1024]))
     gr.case('write network', 0, p=length, k=1024, vary=EDGES)
     gr.case('write network', 256, p=length - 1, k=1024, vary=[('p', 3, length % 256 - 1)])
     gr.case('first', 256, k=256)
+    gr.case('bound', 256, k=256)
 
 gr = group('case 12: gates round a ring of 256 basins, four times', ring(256, 1026, G))
 zeros = [0] * 1025
 gr.case('first', 0, p=1024, k=1024, vary=EDGES)
 gr.case('first', 256, p=1023, k=1024, vary=[('m', 3, 31)])
 gr.case('first', 256, p=1024, k=1024, vary=[('p', 3, 0), ('m', 3, 31)])
+gr.case('bound', 0, p=1024, k=1024, vary=EDGES)
+gr.case('bound', 256, p=1023, k=1024, vary=[('m', 3, 31)])
+gr.case('bound', 256, p=1024, k=1024, vary=[('p', 3, 0), ('m', 3, 31)])
 gr.case('check', 256, zeros, n=1024, k=1024, vary=[('k', 2, 0), ('n', 2, 0), (1023, 3, 0)])
 gr.case('next', 256, zeros, n=1024, p=1024, k=1024, vary=[('k', 2, 0), ('n', 2, 0), (1023, 3, 0)])
 gr.case('make', 256, zeros, n=1024, p=16, k=1024, vary=[('k', 2, 0), ('n', 2, 0), (1023, 3, 0)])
@@ -683,6 +711,7 @@ for odd in ((G, 256, 0), (G, 0, 255), (F, 0, 255), (T, 0, 255), (SF, 0, 255), (S
     gr = group('gates round a ring of 255 basins, and reach 700 is ' + letters([odd]), ring(255, 1025, G, (700, odd)))
     gr.case('table', 0, k=1024, vary=EDGES)
     gr.case('first', 256, p=1024, k=1024)
+    gr.case('bound', 255, p=1024, k=1024, vary=[('basins high', 2, 0), ('basins', 2, 255)])
     gr.case('write reply', 0, p=3076, k=1024, vary=EDGES)
     gr.case('write reply', 256, p=3072, k=1024, vary=[('p', 5, 0)])
     gr.case('write reply', 256, k=1024, vary=[('p', 6, 32)])
@@ -691,13 +720,14 @@ for odd in ((G, 256, 0), (G, 0, 255), (F, 0, 255), (T, 0, 255), (SF, 0, 255), (S
 
 for odd in [(kind, a, b) for kind in (F, ST) for a, b in ((3, 3), (3, 4), (4, 3), (4, 4), (65535, 0))]:
     gr = group('case 12: flaps round a ring of four basins, and ' + letters([odd]), ring(4, 4, F) + [odd])
-    for call in ('table', 'check', 'first', 'next', 'make', 'step', 'write network', 'write sheet', 'write reply'):
+    for call in ('table', 'check', 'first', 'bound', 'next', 'make', 'step', 'write network', 'write sheet', 'write reply'):
         gr.case(call, 4, p=30)
     gr.case('read sheet', 4, [16, 0, 0, 9], p=0)
 
 for place, odd in ((245, (G, 245, 246)), (9, (F, 10, 9)), (0, (F, 0, 1)), (100, (ST, 100, 101))):
     gr = group('256 basins in a line of two-way reaches, and reach %d is %s' % (place, letters([odd])), ring(256, 255, T, (place, odd)))
     gr.case('first', 256, p=1)
+    gr.case('bound', 256, p=1)
     gr.case('next', 256, [0] * gates_of(gr.reaches), p=1, m=34)
     gr.case('write reply', 256, p=36)
 
@@ -710,8 +740,49 @@ for title, reaches in (('', grid), (' with reach 100 shut', grid[:100] + [(SG,) 
     gr = group('case 14: a 16 by 16 grid' + title, reaches)
     gr.case('walk', 256, p=g, limit=10)
     gr.case('walker', 256, [0] * g, p=g, limit=10)
+    gr.case('bound', 256, p=g)
     gr.case('check', 256, network(256, gr.reaches).next_plan(), vary=[(g - 1, 2, 0)])
     gr.case('write reply', 256, p=4 + 3 * g)
+
+
+# ---- bound gates (document 02, item 2), with the bytes that are seen by hand
+
+def reaches_of(text):
+    """The reaches that letters() writes so."""
+    return [('GFTgft'.index(r[0]),) + tuple(map(int, r[1:].split('-'))) for r in text.split()]
+
+
+def bound(title, basins, reaches, *expected):
+    """A table and its bytes, or two: of the table without its last reach, and whole."""
+    gr = group('bound gates: ' + title, reaches)
+    for k, text in enumerate(expected, len(reaches) - len(expected) + 1):
+        g = len(text)
+        assert network(basins, gr.reaches[:k]).bound() == [int(x) for x in text]
+        gr.case('bound', basins, p=g, k=k)
+        gr.case('bound', basins, p=g - 1, k=k, vary=[('p', 3, (g - 1) % 256), ('m', 3, 31)])
+        gr.case('walk', basins, p=g, k=k, limit=7)
+
+
+bound('case 8 with its flap turned', 2, reaches_of('F0-1 G0-1'), '1')
+bound('case 8 with a shut flap that would free the gate', 2, reaches_of('f0-1 F1-0 G0-1'), '0')
+bound('case 8 with a two-way reach beside', 2, reaches_of('F1-0 G0-1 T0-1'), '2')
+bound('case 8 with loops of every kind, and two shut gates', 2, reaches_of('g0-1 G0-0 F1-0 G0-1 F0-0 g1-0 T1-1 G1-1'), '202')
+bound('case 7 with reach 0 a flap and reach 2 the other way, then a gate beside the flap', 3, reaches_of('F0-1 G1-2 G0-2 G0-1'), '01', '222')
+bound('two rings of gates, one with a flap', 5, reaches_of('G1-2 G3-4 F0-1 G0-2 G4-0 G0-3'), '02122')
+bound('the example bound-gates', 6, reaches_of('G1-4 F3-0 G0-1 G4-5 G2-1 g0-2 G5-1 G2-3 G1-5'), '2021202')
+
+# every third gate of the line is drawn the other way; on it are loops, and beside it shut gates; a gate beside the flap frees all
+line = [r for v in range(255) for r in [(G, v + 1, v) if v % 3 == 0 else (G, v, v + 1)] + [(SG, v, v + 1), (G, v, v)] * (v % 50 == 7)] + [(F, 255, 0)]
+bound('a line of 256 basins and a flap back, then a gate beside the flap', 256, line + [(G, 0, 255)],
+      ''.join('100'[v % 3] + '2' * (v % 50 == 7) for v in range(255)), '2' * (gates_of(line) + 1))
+
+# with flaps at three corners of the grid, which bind the other reach of each; at the fourth a reach of each kind, and shut
+corners = [(F,) + r[1:] if i in (30, 449, 479) else r for i, r in enumerate(grid)]
+for kind, more in ((G, {}), (F, {15: 1}), (T, {})):
+    net = network(256, ((kind, 0, 1),) + tuple(corners[1:]))
+    assert {i: x for i, x in zip(net.gates, net.bound()) if x < 2} == {14: 0, 464: 1, 465: 0, **more}
+gr = group('bound gates: a 16 by 16 grid with flaps at its corners', [])
+gr.case('bound', 256, table_bytes(corners), p=480, k=480, x=480, y=480, vary=[(2, 4, 0)], mode=FULL, listed=True)
 
 
 # ---- refusals and their order: the table, the setting, the buffers, then what the network gets
@@ -731,6 +802,7 @@ for title, reaches in TABLES:
     gr.case('table', 3, vary=table, **at_six)
     gr.case('check', 3, [0, 0, 0, 0], vary=table + setting, **at_six)
     gr.case('first', 3, vary=table + rooms, **at_six)
+    gr.case('bound', 3, vary=table + rooms, **at_six)
     gr.case('next', 3, [0, 0, 0, 0], vary=table + setting + rooms, **at_six)
     gr.case('next', 3, [1, 1, 0, 0], vary=[('basins', 3, 2)] + setting + rooms, **at_six)
     gr.case('make', 3, [0, 1, 0, 0], p=5, vary=table + setting, **at_six)
@@ -744,6 +816,7 @@ for title, reaches in TABLES:
     lengths = [('k', 4, 5), ('x', 4, 5), ('y', 4, 5)]
     gr.case('table', 3, vary=lengths)
     gr.case('first', 3, p=8, vary=lengths)
+    gr.case('bound', 3, p=8, vary=lengths)
     gr.case('write network', 3, p=40, vary=lengths)
     gr.case('check', 3, [0, 0, 0, 0, 0], vary=lengths + [('n', 3, 2)])
     gr.case('read sheet', 3, sheet, p=8, vary=lengths)
@@ -803,6 +876,7 @@ for basins, g in product(range(1, 7), range(11)):
     gr = group('%d basins, %s' % (basins, letters(reaches)), reaches)
     zeros = [0] * g
     gr.case('first', basins, p=g)
+    gr.case('bound', basins, p=g)
     gr.case('check', basins, zeros, vary=settings(g))
     if network(basins, reaches).finding is None:
         gr.case('walk', basins, p=g, limit=1100, mode=BRIEF)
@@ -820,6 +894,7 @@ for f, (basins, g) in enumerate(product(range(2, 7), range(11))):
     gr = family('twenty networks of %d basins and %d gates' % (basins, g), [draw_network(basins, g, number) for number in numbers], f)
     setting, vary = some_settings(g)
     gr.case('first', basins, p=g)
+    gr.case('bound', basins, p=g)
     gr.case('walk', basins, p=g, limit=1100, mode=QUIET)
     gr.case('check', basins, setting, vary=vary, mode=QUIET)
     gr.case('next', basins, setting, p=g, vary=vary, mode=QUIET)
@@ -828,7 +903,7 @@ for f, (basins, g) in enumerate(product(range(2, 7), range(11))):
     gr.case('write reply', basins, p=40, mode=QUIET)
 
 # many more, 168 from each eleven reaches: the first two of all kinds, and shut (the first of all kinds, the second by number 255), and cut at five to
-# eleven; the sums of all their plans
+# eleven; the sums of all their plans and of the bytes of their gates
 
 def draw_base(basins):
     """Eleven reaches from which only new networks are so made."""
@@ -842,8 +917,45 @@ def draw_base(basins):
 gr = group('tables of eleven reaches, the first two of all kinds and shut, cut at five to eleven reaches', [])
 for basins in range(2, 7):
     for _ in range(25):
-        gr.case('walk', basins, table_bytes(draw_base(basins)), p=10, k=0, x=11, y=11, limit=1100, vary=[('k', 7, 5), (2, 6, 0), (3, 4, 255)],
-                mode=QUIET, listed=True, name='%d basins' % basins)
+        gr.case('walk', basins, table_bytes(draw_base(basins)), p=10, k=0, x=11, y=11, limit=1100,
+                vary=[('call', 2, CODES['walk']), ('k', 7, 5), (2, 6, 0), (3, 4, 255)], mode=QUIET, listed=True, name='%d basins' % basins)
+
+
+# the law of bound gates: nine networks of nine gates, with every gate made a flap as drawn and turned, and with every gate drawn the other way
+
+def made_flap(reaches, i, turned):
+    """The same with reach i made a flap, as drawn or turned."""
+    _, a, b = reaches[i]
+    return reaches[:i] + ((F, b, a) if turned else (F, a, b),) + reaches[i + 1:]
+
+
+def law_holds(basins, reaches):
+    """Of a network with a plan: "a reach made a flap as drawn leaves a plan exactly if its byte isn't 1, made a flap turned exactly if it isn't 0"."""
+    net = network(basins, reaches)
+    return all(bool(network(basins, made_flap(reaches, i, turned)).plans) == (byte != 1 - turned)
+               for i, byte in zip(net.gates, net.bound()) for turned in (0, 1))
+
+
+def draw_law(basins):
+    """The twenty networks, all new; of the first some gates are bound each way, and some are free."""
+    while True:
+        reaches = draw_reaches(basins, 9, 9 + NUMBERS.below(4))
+        net = Network(basins, reaches, try_all=False)
+        if not net.finding and len(set(net.bound_by_theorem())) == 3:
+            flaps = [made_flap(reaches, i, turned) for i in net.gates for turned in (0, 1)]
+            tables = [reaches] + flaps + [tuple((k, b, a) if k == G else (k, a, b) for k, a, b in reaches)]
+            if are_new([(basins, t) for t in tables]):
+                return tables
+
+
+for f in range(9):
+    basins = 5 + f % 3
+    tables = draw_law(basins)
+    gr = family('%d basins, %s; each gate a flap' % (basins, letters(tables[0])), tables, 55 + f)
+    gr.case('bound', basins, p=9)
+    gr.case('walk', basins, p=9, limit=600, mode=QUIET)
+    assert law_holds(basins, tables[0])
+    assert network(basins, tables[-1]).bound() == [(1, 0, 2)[byte] for byte in network(basins, tables[0]).bound()]
 
 
 # all are different, and each shape and each state came often
@@ -861,9 +973,11 @@ def put_back(reaches, kind):
 def traits(basins, reaches):
     joins = [frozenset((a, b)) for _, a, b in served(reaches) if a != b]
     reply, shut = outcome(basins, reaches), len(reaches) - len(served(reaches))
+    gets = set(network(basins, reaches).bound()) if reply == 0 else set()
     return ['%d basins' % basins, '%d gates' % gates_of(reaches), 'reply %d' % reply] + ['first %d' % k for k, _, _ in reaches[:1]] + \
         ['loops' if len(joins) < len(served(reaches)) else 'no loops', 'parallel' if len(set(joins)) < len(joins) else 'not parallel'] + \
         ['number %d' % k for k in {min(k, 6) for k, _, _ in reaches}] + ['%d shut' % min(shut, 3)] + \
+        ['byte %d' % x for x in gets] + ['all bytes'] * (len(gets) == 3) + ['bound and shut'] * (shut > 0 and bool(gets - {2})) + \
         ['%d for want of %d' % (reply, k) for k in (G, F, T) if reply > 0 and outcome(basins, put_back(reaches, k)) != reply]
 
 
@@ -872,20 +986,24 @@ def often(least, *names):
 
 
 CAME = Counter(name for (basins, _), reaches in DRAWN.items() for name in traits(basins, reaches))
-assert len(DRAWN) == 66 + 20 * 55 + 168 * 125
+assert len(DRAWN) == 66 + 20 * 55 + 168 * 125 + 20 * 9
 assert often(100, *('%d gates' % g for g in range(11))) and often(4000, *('%d basins' % n for n in range(2, 7))) and often(11, '1 basins')
 assert often(3000, 'reply 0', 'reply 9', 'reply 10', 'loops', 'no loops', 'parallel', 'not parallel', *('first %d' % k for k in range(6)))
 assert often(5000, *('number %d' % k for k in range(7))) and often(3000, *('%d shut' % n for n in range(4)))
+assert often(800, 'byte 0', 'byte 1', 'bound and shut') and often(300, 'all bytes') and often(7000, 'byte 2')
 assert often(100, *('%d for want of %d' % (n, k) for n in (9, 10) for k in (G, F, T))) and len({(basins, served(r)) for basins, r in DRAWN}) > 12000
 
 
-# ---- all networks of a few reaches: their plans in order
+# ---- all networks of a few reaches: their plans in order, and the bytes of their gates. Each gate made a flap is again one of these networks
 
 def networks(basins, size, kinds, mode):
     ends = 2 + size
     vary = [v for i in range(size) for v in ((2 + i, kinds, 0), (ends + 4 * i, basins, 0), (ends + 2 + 4 * i, basins, 0))]
-    gr.case('walk', basins, table_bytes([(G, 0, 0)] * size), p=size, k=size, x=size, y=size, limit=1100, vary=vary, mode=mode, listed=True,
-            name='%d basins, %d reaches of kinds below %d' % (basins, size, kinds))
+    for call in ('walk', 'bound'):
+        gr.case(call, basins, table_bytes([(G, 0, 0)] * size), p=size, k=size, x=size, y=size, limit=1100, vary=vary, mode=mode, listed=True,
+                name='%s, %d basins, %d reaches of kinds below %d' % (call, basins, size, kinds))
+    for reaches in product(product(range(kinds), range(basins), range(basins)), repeat=size):
+        assert network(basins, reaches).finding or law_holds(basins, reaches)
 
 
 gr = group('all networks of a few reaches', [])
@@ -1009,7 +1127,7 @@ def main():
         tables += g.table
     cases = [x for g, place in zip(GROUPS, places) for x in g.bytes(place)]
     file = bytes(two(sum(len(g.cases) for g in GROUPS)) + two((4 + len(tables)) // 4) + tables + cases)
-    assert len(file) <= 310000          # the program reads no more
+    assert len(file) <= 330000          # the program reads no more
     with open(os.path.join(here, 'stdin'), 'wb') as f:
         f.write(file)
     with open(os.path.join(here, 'stdout'), 'w') as f:

@@ -107,11 +107,11 @@ pub struct Left {
 }
 
 // The calls, by the bytes of the case file; the reply writer has all others.
-const WRITE_NETWORK: u8 = 7;
+const WRITE_NETWORK: u8 = 8;
 
-const READ_SHEET: u8 = 8;
+const READ_SHEET: u8 = 9;
 
-const WRITE_SHEET: u8 = 9;
+const WRITE_SHEET: u8 = 10;
 
 fn fill(
     call: u8,

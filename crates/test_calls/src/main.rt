@@ -23,18 +23,20 @@ const CHECK: u8 = 1;
 
 const WALK: u8 = 2;
 
-const NEXT: u8 = 3;
+const BOUND: u8 = 3;
 
-const MAKE: u8 = 4;
+const NEXT: u8 = 4;
 
-const STEPS: u8 = 5;
+const MAKE: u8 = 5;
 
-const READ_NETWORK: u8 = 6;
+const STEPS: u8 = 6;
 
-const LIST: u8 = 11;
+const READ_NETWORK: u8 = 7;
+
+const LIST: u8 = 12;
 
 // The same, of a file that stands where the kinds of a table do.
-const LIST_PLACED: u8 = 12;
+const LIST_PLACED: u8 = 13;
 
 // A case's bytes: the call; the basin count; the lengths of the three rows; those of two buffers; that of the data; how often to go on; where the
 // table stands, in steps of four bytes; the data, which is the table where that stands nowhere.
@@ -54,7 +56,9 @@ fn ask(o: Out, c: &[u8], kinds: &[u8], a: &[u16], b: &[u16], s: &[u8]) -> Out {
         TABLE => show::reply(o, plans::table_number(basins, kinds, a, b)),
         CHECK => show::reply(o, plans::check_number(basins, kinds, a, b, s)),
         WALK => plans::walk(o, basins, kinds, a, b, room, n),
-        NEXT => plans::show_got(o, plans::next(basins, kinds, a, b, s, room), room),
+        BOUND | NEXT => {
+            plans::show_got(o, plans::filled(call, basins, kinds, a, b, s, room), room)
+        }
         MAKE => plans::show_made(o, basins, kinds, a, b, s, plan),
         _ => plans::steps(o, plans::walker_of(s), basins, kinds, a, b, room, n),
     }
@@ -215,7 +219,7 @@ fn play_cases(file: &[u8]) {
 }
 
 fn main() {
-    let mut cases = [0u8; 310000];
+    let mut cases = [0u8; 330000];
     let n = io::read_full(0, &mut cases);
     play_cases(&cases[..n]);
 }

@@ -79,30 +79,50 @@ pub struct Got {
     marks: [u8; 40],
 }
 
-fn first(basins: u16, kinds: &[u8], a: &[u16], b: &[u16], room: Room) -> Got {
-    let mut plan = [OLD; 1040];
-    let mut marks = [OLD; 40];
-    let p = within(&plan, room.plan);
-    let m = within(&marks, room.marks);
-    let answer = planner_rows::first_plan(basins, kinds, a, b, &mut plan[..p], &mut marks[..m]);
-    Got {
-        answer,
-        plan,
-        marks,
+// The calls that fill a row of bytes for the gates, or marks, by the bytes of the case file; the next plan has all others.
+pub const FIRST: u8 = 2;
+
+pub const BOUND: u8 = 3;
+
+pub const NEXT: u8 = 4;
+
+fn fill(
+    call: u8,
+    basins: u16,
+    kinds: &[u8],
+    a: &[u16],
+    b: &[u16],
+    s: &[u8],
+    plan: &mut [u8],
+    marks: &mut [u8],
+) -> Answer {
+    match call {
+        FIRST => planner_rows::first_plan(basins, kinds, a, b, plan, marks),
+        BOUND => bound_gates::bound_gates_rows(basins, kinds, a, b, plan, marks),
+        _ => planner_rows::next_plan(basins, kinds, a, b, s, plan, marks),
     }
 }
 
-pub fn next(basins: u16, kinds: &[u8], a: &[u16], b: &[u16], setting: &[u8], room: Room) -> Got {
+pub fn filled(
+    call: u8,
+    basins: u16,
+    kinds: &[u8],
+    a: &[u16],
+    b: &[u16],
+    s: &[u8],
+    room: Room,
+) -> Got {
     let mut plan = [OLD; 1040];
     let mut marks = [OLD; 40];
     let p = within(&plan, room.plan);
     let m = within(&marks, room.marks);
-    let answer = planner_rows::next_plan(
+    let answer = fill(
+        call,
         basins,
         kinds,
         a,
         b,
-        setting,
+        s,
         &mut plan[..p],
         &mut marks[..m],
     );
@@ -199,7 +219,8 @@ pub fn show_made(
 // The next plan of the plan that was got.
 fn after(g: Got, basins: u16, kinds: &[u8], a: &[u16], b: &[u16], room: Room) -> Got {
     let plan = g.plan;
-    next(
+    filled(
+        NEXT,
         basins,
         kinds,
         a,
@@ -211,7 +232,7 @@ fn after(g: Got, basins: u16, kinds: &[u8], a: &[u16], b: &[u16], room: Room) ->
 
 // The first plan and the next ones, to a refusal, or so many of these.
 pub fn walk(o: Out, basins: u16, kinds: &[u8], a: &[u16], b: &[u16], room: Room, n: usize) -> Out {
-    let mut g = first(basins, kinds, a, b, room);
+    let mut g = filled(FIRST, basins, kinds, a, b, kinds, room);
     let mut o = show_got(o, g, room);
     let mut left = n;
     while left > 0 {

@@ -10,8 +10,8 @@ Inv-loop basins kinds a b room n g₀ o₀ left₀ g o left = Unit
 abbrev μ-loop : tie.MeasureT-loop
 μ-loop basins kinds a b room n g₀ o₀ left₀ g o left = left
 
-first-requires : tie.Need-first-requires Inv-loop μ-loop
-first-requires c κs = tt
+filled-requires : tie.Need-filled-requires Inv-loop μ-loop
+filled-requires c κs = tt
 
 show-got-requires : tie.Need-show-got-requires Inv-loop μ-loop
 show-got-requires c κs = tt
@@ -46,7 +46,7 @@ walk-spec =
     (tie.spec
     Inv-loop
     μ-loop
-    first-requires
+    filled-requires
     show-got-requires
     loop-holds
     sub-left
