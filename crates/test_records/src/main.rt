@@ -42,6 +42,8 @@ const WRITE_SHEET: u8 = 9;
 
 const WRITE_REPLY: u8 = 10;
 
+const BOUND: u8 = 11;
+
 fn over_rows(
     call: u8,
     basins: u16,
@@ -63,6 +65,7 @@ fn over_rows(
         WRITE_NETWORK => sums::of_written(netfile_rows::write_network(basins, kinds, a, b, out)),
         READ_SHEET => sums::of_sheet(sheet_rows::read_sheet(basins, kinds, a, b, s, out)),
         WRITE_SHEET => sums::of_written(sheet_rows::write_sheet(basins, kinds, a, b, s, out)),
+        BOUND => sums::of_answer(bound_gates::bound_gates_rows(basins, kinds, a, b, out, marks)),
         _ => sums::of_written(sheet_rows::write_reply(basins, kinds, a, b, out)),
     }
 }
@@ -89,6 +92,7 @@ fn over_records(
         WRITE_NETWORK => sums::of_written(relays::write_network(n, basins, reaches, out)),
         READ_SHEET => sums::of_sheet(relays::read_sheet(n, basins, reaches, s, out)),
         WRITE_SHEET => sums::of_written(relays::write_sheet(n, basins, reaches, s, out)),
+        BOUND => sums::of_answer(relays::bound_gates(n, basins, reaches, out, marks)),
         _ => sums::of_written(relays::write_reply(n, basins, reaches, out)),
     }
 }
@@ -353,4 +357,5 @@ fn main() {
     show(b"read a sheet", READ_SHEET);
     show(b"write a sheet", WRITE_SHEET);
     show(b"write the reply", WRITE_REPLY);
+    show(b"bound gates", BOUND);
 }

@@ -39,6 +39,18 @@ pub fn first_plan(
     planner::first_plan(basins, &reaches[..n], plan, marks)
 }
 
+pub fn bound_gates(
+    n: usize,
+    basins: u16,
+    reaches: [Reach; ROOM],
+    bytes: &mut [u8],
+    marks: &mut [u8],
+) -> Answer
+    requires { ⌜ n ≤ 1030 ⌝ }
+{
+    bound_gates::bound_gates(basins, &reaches[..n], bytes, marks)
+}
+
 pub fn next_plan(
     n: usize,
     basins: u16,
