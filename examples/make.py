@@ -41,6 +41,10 @@ NETWORKS = {
     # The same with a second culvert, reach 10: a flap from the lower pasture back to the upper.
     "second-culvert": (7, "G 0-1, G 1-2, F 2-3, T 3-0, G 1-3, G 3-4, G 4-5, T 5-6, G 6-4, F 4-6, F 4-3"),
 
+    # A ditch from basin 0 over 1 and 2 to 3, whose flap leads back, and a side arm over 4 and 5. The flap binds the ditch's three
+    # gates, reach 4 turned. Reach 5, a second way past basin 1, is shut; in service it would free reaches 2 and 4.
+    "bound-gates": (6, "G 1-4, F 3-0, G 0-1, G 4-5, G 2-1, g 0-2, G 5-1, G 2-3, G 1-5"),
+
     # On both edges of the lister's 1,000 plans. Parts that meet in basin 0 alone multiply: 5 * 5 * 5 * 2 * 2 * 2 plans,
     # and 7 * 11 * 13.
     "plans-1000": (10,
