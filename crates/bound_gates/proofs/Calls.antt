@@ -47,14 +47,14 @@ none-told N (refused x) w n = record { reply = w .reply; number = w .number; rea
 
 -- ---- a plan
 
-plan-given : (o : Outcome) → givesPlan (answerOf o) ≡ true → (s : List ℕ) × (o ≡ plan s)
+pub plan-given : (o : Outcome) → givesPlan (answerOf o) ≡ true → (s : List ℕ) × (o ≡ plan s)
 plan-given (plan s) e = (s, refl)
 plan-given (shutIn m c) e = absurd (false≢true e)
 plan-given (lone i m c) e = absurd (false≢true e)
 plan-given (refused r) e = absurd (false≢true e)
 
 -- a plan replied to any input is one of an accepted network
-replied-plan : (N : Network) (planLength marksLength : ℕ) {s : List ℕ} → firstReply N planLength marksLength ≡ plan s → Accepted N × (isPlan N s ≡ true)
+pub replied-plan : (N : Network) (planLength marksLength : ℕ) {s : List ℕ} → firstReply N planLength marksLength ≡ plan s → Accepted N × (isPlan N s ≡ true)
 unfolding firstReply
 replied-plan N planLength marksLength {s} e =
     let table = unless-plan (tableFault N) (unless (roomFault N planLength marksLength) (firstAnswer N)) e in

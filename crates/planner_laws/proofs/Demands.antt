@@ -131,7 +131,7 @@ module _ (N : Network) (s t : List ℕ) {plan₁ marks₁ plan₂ marks₂ plan�
 -- ---- a walker's steps, on rows (`Walker::step_rows`) or on records (`Walker::step`): both promise `Stepping` of the lent table's network
 
 -- a plan replied to any input is the next plan
-plan-replied : (N : Network) (s : List ℕ) (planLength marksLength : ℕ) {p : List ℕ} → nextReply N s planLength marksLength ≡ plan p → nextPlan N s ≡ some p
+pub plan-replied : (N : Network) (s : List ℕ) (planLength marksLength : ℕ) {p : List ℕ} → nextReply N s planLength marksLength ≡ plan p → nextPlan N s ≡ some p
 unfolding nextReply
 plan-replied N s planLength marksLength {p} e =
     let room = unless (roomFault N planLength marksLength) (nextAnswer N s) in

@@ -1,0 +1,2 @@
+-- Item 2 of document 02 over the running calls.
+pub mod Bounds
