@@ -26,7 +26,7 @@ use Rattle.tables.proofs.Turns.{gates-gate, gates-other, gates-done}
 use Rattle.orienting.specs.Tries.{leftOut, ledRound, Tried, oriented, undecided}
 use Rattle.orienting.proofs.Readies.{kind-gate}
 use Rattle.orienting.proofs.Rows.{row-below, row-led, row-led-turned, row-gated}
-use Rattle.binding.specs.Tellings.{Planned, Tellable}
+use Rattle.binding.specs.Tellings.{Tellable}
 
 -- what a try of a gate's other way shows
 pub bound-tried : {xs ys ws ws₁ ws′ : List ℕ} {i way : ℕ} {r₁ r : Bool} → Tried xs ys ws i way ws₁ r₁ → ws′ ≡ set ws₁ i 2 → r ≡ not r₁ → (ws′ ≡ set ws i 2) × (r ≡ not (ledRound (leftOut xs ys ws i) xs ys i way))
@@ -150,21 +150,21 @@ module _ {n : ℕ} {ks xs ys ws bytes₀ : List ℕ} (t : Tellable n ks xs ys ws
 -- ---- the loop over all reaches
 
 -- The ways are as they were, and so are the lengths of what a search notes.
-pub record Going (n : ℕ) (ks xs ys ws₀ bytes₀ seen₀ queue₀ ws bytes seen queue : List ℕ) (k i : ℕ) : Type 0 where
+pub record TellingOn (n : ℕ) (ks xs ys ws₀ bytes₀ seen₀ queue₀ ws bytes seen queue : List ℕ) (k i : ℕ) : Type 0 where
   pub ways-kept : ws ≡ ws₀
   pub seen-kept : length seen ≡ length seen₀
   pub queue-kept : length queue ≡ length queue₀
   pub telling : Telling n ks xs ys bytes₀ bytes k i
 
-pub going-none : (n : ℕ) (ks xs ys ws bytes seen queue : List ℕ) → Going n ks xs ys ws bytes seen queue ws bytes seen queue 0 0
-going-none n ks xs ys ws bytes seen queue = record { ways-kept = refl; seen-kept = refl; queue-kept = refl; telling = telling-none n ks xs ys bytes }
+pub telling-on-none : (n : ℕ) (ks xs ys ws bytes seen queue : List ℕ) → TellingOn n ks xs ys ws bytes seen queue ws bytes seen queue 0 0
+telling-on-none n ks xs ys ws bytes seen queue = record { ways-kept = refl; seen-kept = refl; queue-kept = refl; telling = telling-none n ks xs ys bytes }
 
-module _ {n : ℕ} {ks xs ys ws₀ bytes₀ seen₀ queue₀ ws bytes seen queue : List ℕ} {k i : ℕ} (t : Tellable n ks xs ys ws₀ bytes₀) (h : Going n ks xs ys ws₀ bytes₀ seen₀ queue₀ ws bytes seen queue k i) (l : i < length ks) where
-  pub going-gate :
+module _ {n : ℕ} {ks xs ys ws₀ bytes₀ seen₀ queue₀ ws bytes seen queue : List ℕ} {k i : ℕ} (t : Tellable n ks xs ys ws₀ bytes₀) (h : TellingOn n ks xs ys ws₀ bytes₀ seen₀ queue₀ ws bytes seen queue k i) (l : i < length ks) where
+  pub telling-on-gate :
       getD ks i 0 ≡ 0 → {ws′ seen′ queue′ : List ℕ} {r : Bool} {x : ℕ}
       → ws′ ≡ set ws i 2 → r ≡ not (ledRound (leftOut xs ys ws i) xs ys i (1 - getD bytes k 0)) → length seen′ ≡ length seen → length queue′ ≡ length queue
-      → x ≡ cond r (getD bytes k 0) 2 → Going n ks xs ys ws₀ bytes₀ seen₀ queue₀ ws′ (set bytes k x) seen′ queue′ (k + 1) (i + 1)
-  going-gate g {r = r} e f seen-same queue-same told =
+      → x ≡ cond r (getD bytes k 0) 2 → TellingOn n ks xs ys ws₀ bytes₀ seen₀ queue₀ ws′ (set bytes k x) seen′ queue′ (k + 1) (i + 1)
+  telling-on-gate g {r = r} e f seen-same queue-same told =
       record {
         ways-kept = e ∙ ap (λ (v : List ℕ). set v i 2) (h .ways-kept) ∙ telling-ways t (h .telling) l g;
         seen-kept = seen-same ∙ h .seen-kept;
@@ -172,5 +172,5 @@ module _ {n : ℕ} {ks xs ys ws₀ bytes₀ seen₀ queue₀ ws bytes seen queue
         telling = telling-gate t (h .telling) l g (told ∙ telling-due t (h .telling) l g (getD bytes k 0) r refl (f ∙ rw (h .ways-kept)));
       }
 
-  pub going-other : (getD ks i 0 ≡ 0 → ⊥) → Going n ks xs ys ws₀ bytes₀ seen₀ queue₀ ws bytes seen queue k (i + 1)
-  going-other no-gate = record { ways-kept = h .ways-kept; seen-kept = h .seen-kept; queue-kept = h .queue-kept; telling = telling-other t (h .telling) l no-gate }
+  pub telling-on-other : (getD ks i 0 ≡ 0 → ⊥) → TellingOn n ks xs ys ws₀ bytes₀ seen₀ queue₀ ws bytes seen queue k (i + 1)
+  telling-on-other no-gate = record { ways-kept = h .ways-kept; seen-kept = h .seen-kept; queue-kept = h .queue-kept; telling = telling-other t (h .telling) l no-gate }

@@ -8,7 +8,6 @@ use lib.ListN.{length, take, drop}
 use lib.Seq.{take-at, drop-at}
 use Rattle.network.specs.Networks.{Network, tableFault, Accepted}
 use Rattle.network.specs.Tables.{tableOf}
-use Rattle.network.specs.Settings.{gateCount}
 use Rattle.network.specs.Plans.{isPlan}
 use Rattle.network.specs.Replies.{Outcome, plan, shutIn, lone, refused, unless, firstAnswer, roomFault, firstReply, planAfter}
 use Rattle.network.specs.Bound.{boundBytes, boundAfter}

@@ -3,7 +3,7 @@
 use Prim.Native.Nat.{ℕ, _≤_, _<_}
 use native.Mathlib.Omega.{arith}
 use mathlib.Core.Path.{_≡_, sym, ap, subst⁻¹, _∙_}
-use mathlib.Core.Bool.{Bool, true, cond}
+use mathlib.Core.Bool.{true, cond}
 use mathlib.Core.Logic.{_↔_}
 use mathlib.Core.Option.{none}
 use mathlib.Core.List.{List}
@@ -27,7 +27,7 @@ use Rattle.planner_laws.specs.Demands.{readReply}
 use Rattle.planner_laws.proofs.Demands.{first-read, next-read, plan-replied}
 use Rattle.bound_gates.specs.Calls.{givesPlan, BoundCall}
 use Rattle.bound_gates.proofs.Calls.{plan-given, replied-plan}
-use Rattle.bound_laws.specs.Bounds.{MadeFlap, FlapOver, PlanOver, FlapOfBound, NextOfBound}
+use Rattle.bound_laws.specs.Bounds.{FlapOver, PlanOver, FlapOfBound, NextOfBound}
 
 -- What was told of a network that has a plan.
 record Told (N : Network) (bytes′ : List ℕ) : Type 0 where

@@ -1,6 +1,5 @@
 -- `binding::bound_at` meets its contract: the gate is bound if its other way cannot be had.
 -- Assumes nothing.
-use native.Mathlib.Omega.{arith}
 use mathlib.Core.Path.{refl}
 use borrow.Author.Needs.{needs}
 use Rattle.binding.proofs.Tellings.{bound-tried}

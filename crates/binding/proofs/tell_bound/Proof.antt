@@ -7,12 +7,12 @@ use mathlib.Core.Path.{ap}
 use lib.ListN.{length, getD}
 use Rattle.lists.proofs.Lists.{copied-length}
 use Rattle.orienting.proofs.Readies.{ready-ways, ready-notes}
-use Rattle.binding.proofs.Tellings.{telling-room, telling-few, telling-small, telling-all, Going, going-none, going-gate, going-other}
+use Rattle.binding.proofs.Tellings.{telling-room, telling-few, telling-small, telling-all, TellingOn, telling-on-none, telling-on-gate, telling-on-other}
 use Rattle.binding.proofs.tell_bound.Statement.{statement}
 use Rattle.binding.proofs.tell_bound.Tie as tie
 
 abbrev Inv-loop : tie.InvT-loop
-Inv-loop n kinds a b ways₀ head next bytes₀ seen₀ queue₀ k₀ i₀ ways bytes seen queue k i = Going n kinds a b ways₀ bytes₀ seen₀ queue₀ ways bytes seen queue k i
+Inv-loop n kinds a b ways₀ head next bytes₀ seen₀ queue₀ k₀ i₀ ways bytes seen queue k i = TellingOn n kinds a b ways₀ bytes₀ seen₀ queue₀ ways bytes seen queue k i
 
 abbrev μ-loop : tie.MeasureT-loop
 μ-loop n kinds a b ways₀ head next bytes₀ seen₀ queue₀ k₀ i₀ ways bytes seen queue k i = length kinds - i
@@ -25,7 +25,7 @@ small-in : (c : tie.Else1 Inv-loop μ-loop) → let at = c .before .before .befo
 small-in c = let at = c .before .before .before .loop in telling-small (c .before .before .before .before .before .before .before .before .before .before .before .before .before .pre .1) (at .inv .telling) (c .before .before .loop-test .taken) (c .if1 .left)
 
 loop-holds : tie.Need-loop-holds Inv-loop μ-loop
-loop-holds c = let s = c .before .before .before .before .before .before .before .before .before .args in going-none (s .n) (s .kinds .now) (s .a .now) (s .b .now) (s .ways .now) (s .bytes .now) (s .seen .now) (s .queue .now)
+loop-holds c = let s = c .before .before .before .before .before .before .before .before .before .args in telling-on-none (s .n) (s .kinds .now) (s .a .now) (s .b .now) (s .ways .now) (s .bytes .now) (s .seen .now) (s .queue .now)
 
 shared-slice-read-if1 : tie.Need-shared-slice-read-if1 Inv-loop μ-loop
 shared-slice-read-if1 c = omega arith
@@ -37,7 +37,7 @@ loop-less : tie.Need-loop-less Inv-loop μ-loop
 loop-less c = omega arith
 
 loop-again : tie.Need-loop-again Inv-loop μ-loop
-loop-again c = going-other (c .before .before .before .before .before .before .before .before .before .before .before .before .before .pre .1) (c .before .before .before .loop .inv) (c .before .before .loop-test .taken) (c .if1 .taken)
+loop-again c = telling-on-other (c .before .before .before .before .before .before .before .before .before .before .before .before .before .pre .1) (c .before .before .before .loop .inv) (c .before .before .loop-test .taken) (c .if1 .taken)
 
 slice-read-way : tie.Need-slice-read-way Inv-loop μ-loop
 slice-read-way c = room-in (c .before)
@@ -70,7 +70,7 @@ loop-again-2 : tie.Need-loop-again-2 Inv-loop μ-loop
 loop-again-2 c =
     let gate = c .before .before .before .before .before .before .before .before .before .before .before .before in
     let found = c .before .before .before .before .before .before .before .bound-at in
-    going-gate (gate .before .before .before .before .before .before .before .before .before .before .before .before .before .pre .1) (gate .before .before .before .loop .inv) (gate .before .before .loop-test .taken) (gate .if1 .left) {ws′ = found .last .1 .1 .1 .0} (found .ensures .0) (found .ensures .1)
+    telling-on-gate (gate .before .before .before .before .before .before .before .before .before .before .before .before .before .pre .1) (gate .before .before .before .loop .inv) (gate .before .before .loop-test .taken) (gate .if1 .left) {ws′ = found .last .1 .1 .1 .0} (found .ensures .0) (found .ensures .1)
     (found .kept .1 .1 .1 .1 .1 .1 .1 .1 .0) (found .kept .1 .1 .1 .1 .1 .1 .1 .1 .1 .0) (c .told .ensures)
 
 same-length : tie.Need-same-length Inv-loop μ-loop
