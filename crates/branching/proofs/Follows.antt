@@ -9,37 +9,36 @@ use mathlib.Core.List.{List, []}
 use lib.ListN.{length, getD, set}
 use Rattle.lists.proofs.Lists.{getD-any}
 use Rattle.network.specs.Networks.{Network, basinsOf, Accepted}
-use Rattle.network.specs.Settings.{isGated}
 use Rattle.network.specs.Orientations.{arcs}
 use Rattle.network.specs.Plans.{stronglyConnected}
-use Rattle.network.specs.Bridges.{reachAt}
 use Rattle.lists.proofs.Bools.{clash}
 use Rattle.network.proofs.Ways.{length-ways}
 use Rattle.network.proofs.Steps.{orient-drawn, orient-turned}
 use Rattle.tables.specs.Rows.{netOf}
 use Rattle.tables.proofs.Laws.{row-length}
-use Rattle.orientations.specs.Partials.{StronglyConnected, NotStronglyConnected, Under, upTo, StronglyConnectedBelow, NoPart}
+use Rattle.orientations.specs.Least.{isTried}
+use Rattle.orientations.specs.Partials.{StronglyConnected, NotStronglyConnected, Tries, Under, upTo, StronglyConnectedBelow, NoPart}
 use Rattle.orientations.proofs.Parts.{up-length, up-all, up-more, up-plain, up-again, up-either, byte-under}
 use Rattle.orienting.specs.Tries.{leftOut, ledRound, Tried}
 use Rattle.orienting.proofs.Readies.{tried-same, tried-led, tried-lost}
-use Rattle.orienting.proofs.Rows.{row-below, row-led, row-led-turned, row-gated}
+use Rattle.orienting.proofs.Rows.{row-below, row-led, row-led-turned}
 use Rattle.parting.specs.Parts.{OrientedAs, no-gate, as-under, PartedAt, passed, freed, tried}
 use Rattle.branching.specs.Follows.{Followed, through, stopped, TurnedBack, turned-at, nowhere}
 
 -- the gates below i are oriented as us has them, the others usable either way, and everything reaches everything
-pub record Along (N : Network) (us ws : List ℕ) (i : ℕ) : Type 0 where
-  pub is : ws ≡ upTo N us i
-  pub connected : StronglyConnected N (upTo N us i)
+pub record Along (N : Network) (fs us ws : List ℕ) (i : ℕ) : Type 0 where
+  pub is : ws ≡ upTo fs us i
+  pub connected : StronglyConnected N (upTo fs us i)
 
 -- the same looking back, after no plan was found to part at a reach from i on below `to`
-pub record Back (N : Network) (us : List ℕ) (to : ℕ) (ws : List ℕ) (i : ℕ) : Type 0 where
-  pub is : ws ≡ upTo N us i
-  pub none : (j : ℕ) → i ≤ j → j < to → NoPart N us j
+pub record Back (N : Network) (fs us : List ℕ) (to : ℕ) (ws : List ℕ) (i : ℕ) : Type 0 where
+  pub is : ws ≡ upTo fs us i
+  pub none : (j : ℕ) → i ≤ j → j < to → NoPart N fs us j
 
-pub along-start : {N : Network} {us ws : List ℕ} → ws ≡ upTo N us 0 → StronglyConnected N ws → Along N us ws 0
+pub along-start : {N : Network} {fs us ws : List ℕ} → ws ≡ upTo fs us 0 → StronglyConnected N ws → Along N fs us ws 0
 along-start {N} e str = record { is = e; connected = subst (λ (v : List ℕ). StronglyConnected N v) e str }
 
-pub back-start : {N : Network} {us ws : List ℕ} {to : ℕ} → ws ≡ upTo N us to → Back N us to ws to
+pub back-start : {N : Network} {fs us ws : List ℕ} {to : ℕ} → ws ≡ upTo fs us to → Back N fs us to ws to
 back-start e = record { is = e; none = λ j l k. absurd (omega arith) }
 
 module _ (n : ℕ) (ks xs ys : List ℕ) (ea : length xs ≡ length ks) (eb : length ys ≡ length ks) (us : List ℕ) (u : Under (netOf n ks xs ys) us) where
@@ -49,106 +48,101 @@ module _ (n : ℕ) (ks xs ys : List ℕ) (ea : length xs ≡ length ks) (eb : le
   pub under-length : length us ≡ length ks
   under-length = ap length (u .is) ∙ length-ways (N .reaches) (u .setting) ∙ row-length ks xs ys ea eb
 
-  -- all gates are oriented so
-  pub follow-done : (ws : List ℕ) (i : ℕ) → i ≡ length ks → Along N us ws i → Followed N us ws i
-  follow-done ws i e w =
-      let same : i ≡ length (N .reaches) = e ∙ sym (row-length ks xs ys ea eb) in
-      let all : upTo N us i ≡ us = ap (λ (j : ℕ). upTo N us j) same ∙ up-all N (u .setting) us (u .is) in
-      through same (w .is ∙ all) (subst (λ (v : List ℕ). StronglyConnected N v) all (w .connected))
+  module _ (fs : List ℕ) (tries : Tries N fs) where
+    -- all gates are oriented so
+    pub follow-done : (ws : List ℕ) (i : ℕ) → i ≡ length ks → Along N fs us ws i → Followed N fs us ws i
+    follow-done ws i e w =
+        let same : i ≡ length (N .reaches) = e ∙ sym (row-length ks xs ys ea eb) in
+        let all : upTo fs us i ≡ us = ap (λ (j : ℕ). upTo fs us j) same ∙ up-all N (u .setting) us (u .is) fs tries in
+        through same (w .is ∙ all) (subst (λ (v : List ℕ). StronglyConnected N v) all (w .connected))
 
-  -- no gate is left to look at
-  pub back-done : (to : ℕ) (ws : List ℕ) (i r : ℕ) → i ≡ 0 → r ≡ length ks → Back N us to ws i → TurnedBack N us to ws r
-  back-done to ws i r e f w = nowhere (f ∙ sym (row-length ks xs ys ea eb)) (λ j l. w .none j (omega arith) l)
+    -- no gate is left to look at
+    pub back-done : (to : ℕ) (ws : List ℕ) (i r : ℕ) → i ≡ 0 → r ≡ length ks → Back N fs us to ws i → TurnedBack N fs us to ws r
+    back-done to ws i r e f w = nowhere (f ∙ sym (row-length ks xs ys ea eb)) (λ j l. w .none j (omega arith) l)
 
-  module _ (ok : Accepted N) (i : ℕ) (l : i < length ks) where
-    below : i < length (N .reaches)
-    below = row-below n ks xs ys ea eb i l
+    module _ (ok : Accepted N) (i : ℕ) (l : i < length ks) where
+      below : i < length (N .reaches)
+      below = row-below n ks xs ys ea eb i l
 
-    -- the byte of a gate, whatever stands past the end
-    byte : getD us i 0 ≡ getD us i 3
-    byte = getD-any us i 0 3 (omega (arith, under-length))
+      -- the byte of a gate, whatever stands past the end
+      byte : getD us i 0 ≡ getD us i 3
+      byte = getD-any us i 0 3 (omega (arith, under-length))
 
-    byte-small : isGated ((reachAt N i) .state) ≡ true → getD us i 0 ≤ 1
-    byte-small g = omega (arith, byte, byte-under N (u .setting) us (u .is) (u .fits) i below g)
+      byte-small : isTried fs i ≡ true → getD us i 0 ≤ 1
+      byte-small g = omega (arith, byte, byte-under N (u .setting) us (u .is) fs tries (u .fits) i below (tries .only-gates i below g))
 
-    module _ (str : StronglyConnected N (upTo N us i)) (g : isGated ((reachAt N i) .state) ≡ true) where
-      either : StronglyConnected N (set (upTo N us i) i 2)
-      either = subst⁻¹ (λ (v : List ℕ). StronglyConnected N v) (up-either N (u .setting) us (u .is) i below g) str
+      module _ (str : StronglyConnected N (upTo fs us i)) (g : isTried fs i ≡ true) where
+        either : StronglyConnected N (set (upTo fs us i) i 2)
+        either = subst⁻¹ (λ (v : List ℕ). StronglyConnected N v) (up-either N (u .setting) us (u .is) fs tries i below g) str
 
-      full : length (upTo N us i) ≡ length (N .reaches)
-      full = up-length N (u .setting) us (u .is) i (omega (arith, below))
+        full : length (upTo fs us i) ≡ length (N .reaches)
+        full = up-length N (u .setting) us (u .is) fs tries i (omega (arith, below))
 
-      -- what a search decides, for each way
-      way-law : (x : ℕ) → x ≤ 1 → stronglyConnected (basinsOf N) (arcs (N .reaches) (set (upTo N us i) i x)) ≡ ledRound (leftOut xs ys (upTo N us i) i) xs ys i x
-      way-law zero small = orient-drawn N ok (upTo N us i) i below full either ∙ row-led n ks xs ys ea eb (upTo N us i) i l
-      way-law (suc zero) small = orient-turned N ok (upTo N us i) i below full either ∙ row-led-turned n ks xs ys ea eb (upTo N us i) i l
-      way-law (suc (suc x)) small = absurd (omega arith)
+        -- what a search decides, for each way
+        way-law : (x : ℕ) → x ≤ 1 → stronglyConnected (basinsOf N) (arcs (N .reaches) (set (upTo fs us i) i x)) ≡ ledRound (leftOut xs ys (upTo fs us i) i) xs ys i x
+        way-law zero small = orient-drawn N ok (upTo fs us i) i below full either ∙ row-led n ks xs ys ea eb (upTo fs us i) i l
+        way-law (suc zero) small = orient-turned N ok (upTo fs us i) i below full either ∙ row-led-turned n ks xs ys ea eb (upTo fs us i) i l
+        way-law (suc (suc x)) small = absurd (omega arith)
 
-      module _ (x : ℕ) (small : x ≤ 1) {ws′ : List ℕ} {r : Bool} (t : Tried xs ys (upTo N us i) i x ws′ r) where
-        tried-on : r ≡ true → (ws′ ≡ set (upTo N us i) i x) × StronglyConnected N (set (upTo N us i) i x)
-        tried-on y = let d = tried-led xs ys (upTo N us i) i t y in (d .1, way-law x small ∙ d .0)
+        module _ (x : ℕ) (small : x ≤ 1) {ws′ : List ℕ} {r : Bool} (t : Tried xs ys (upTo fs us i) i x ws′ r) where
+          tried-on : r ≡ true → (ws′ ≡ set (upTo fs us i) i x) × StronglyConnected N (set (upTo fs us i) i x)
+          tried-on y = let d = tried-led xs ys (upTo fs us i) i t y in (d .1, way-law x small ∙ d .0)
 
-        tried-off : r ≡ false → (ws′ ≡ upTo N us i) × NotStronglyConnected N (set (upTo N us i) i x)
-        tried-off y = let d = tried-lost xs ys (upTo N us i) i t y in (d .1 ∙ up-either N (u .setting) us (u .is) i below g, way-law x small ∙ d .0)
+          tried-off : r ≡ false → (ws′ ≡ upTo fs us i) × NotStronglyConnected N (set (upTo fs us i) i x)
+          tried-off y = let d = tried-lost xs ys (upTo fs us i) i t y in (d .1 ∙ up-either N (u .setting) us (u .is) fs tries i below g, way-law x small ∙ d .0)
 
-    -- ---- following
+      -- ---- following
 
-    module _ (ws : List ℕ) (w : Along N us ws i) where
-      same : (y : ℕ) → set ws i y ≡ set (upTo N us i) i y
-      same y = ap (λ (v : List ℕ). set v i y) (w .is)
+      module _ (ws : List ℕ) (w : Along N fs us ws i) where
+        same : (y : ℕ) → set ws i y ≡ set (upTo fs us i) i y
+        same y = ap (λ (v : List ℕ). set v i y) (w .is)
 
-      more : set (upTo N us i) i (getD us i 0) ≡ upTo N us (suc i)
-      more = up-more N (u .setting) us (u .is) i (getD us i 0) below (sym byte)
+        more : set (upTo fs us i) i (getD us i 0) ≡ upTo fs us (suc i)
+        more = up-more N (u .setting) us (u .is) fs tries i (getD us i 0) below (sym byte)
 
-      -- one reach more
-      pub follow-on : {ws′ : List ℕ} {r : Bool} → OrientedAs ks xs ys us ws i ws′ r → r ≡ true → Along N us ws′ (suc i)
-      follow-on (no-gate p e q) y =
-          let plain = up-plain N (u .setting) us (u .is) i below (row-gated n ks xs ys ea eb i false l p) in
-          record { is = e ∙ w .is ∙ sym plain; connected = subst⁻¹ (λ (v : List ℕ). StronglyConnected N v) plain (w .connected) }
-      follow-on (as-under p t) y =
-          let g = row-gated n ks xs ys ea eb i true l p in
-          let d = tried-on (w .connected) g (getD us i 0) (byte-small g) (tried-same xs ys ws (upTo N us i) i same t) y in
-          record { is = d .0 ∙ more; connected = subst (λ (v : List ℕ). StronglyConnected N v) more (d .1) }
+        -- one reach more
+        pub follow-on : {ws′ : List ℕ} {r : Bool} → OrientedAs fs xs ys us ws i ws′ r → r ≡ true → Along N fs us ws′ (suc i)
+        follow-on (no-gate p e q) y =
+            let plain = up-plain N (u .setting) us (u .is) fs tries i below p in
+            record { is = e ∙ w .is ∙ sym plain; connected = subst⁻¹ (λ (v : List ℕ). StronglyConnected N v) plain (w .connected) }
+        follow-on (as-under p t) y =
+            let d = tried-on (w .connected) p (getD us i 0) (byte-small p) (tried-same xs ys ws (upTo fs us i) i same t) y in
+            record { is = d .0 ∙ more; connected = subst (λ (v : List ℕ). StronglyConnected N v) more (d .1) }
 
-      -- or the gate that loses something
-      pub follow-off : {ws′ : List ℕ} {r : Bool} → OrientedAs ks xs ys us ws i ws′ r → r ≡ false → Followed N us ws′ i
-      follow-off (no-gate p e q) y = clash q y
-      follow-off (as-under p t) y =
-          let g = row-gated n ks xs ys ea eb i true l p in
-          let d = tried-off (w .connected) g (getD us i 0) (byte-small g) (tried-same xs ys ws (upTo N us i) i same t) y in
-          stopped below (d .0) (subst⁻¹ (λ (v : List ℕ). StronglyConnected N v) (d .0) (w .connected)) (subst (λ (v : List ℕ). NotStronglyConnected N v) more (d .1))
+        -- or the gate that loses something
+        pub follow-off : {ws′ : List ℕ} {r : Bool} → OrientedAs fs xs ys us ws i ws′ r → r ≡ false → Followed N fs us ws′ i
+        follow-off (no-gate p e q) y = clash q y
+        follow-off (as-under p t) y =
+            let d = tried-off (w .connected) p (getD us i 0) (byte-small p) (tried-same xs ys ws (upTo fs us i) i same t) y in
+            stopped below (d .0) (subst⁻¹ (λ (v : List ℕ). StronglyConnected N v) (d .0) (w .connected)) (subst (λ (v : List ℕ). NotStronglyConnected N v) more (d .1))
 
-    -- ---- looking back
+      -- ---- looking back
 
-    module _ (ws : List ℕ) (to m : ℕ) (e : m ≡ suc i) (k : i < to) (all : StronglyConnectedBelow N us to) (w : Back N us to ws m) where
-      again : (y : ℕ) → set ws i y ≡ set (upTo N us i) i y
-      again y = ap (λ (v : List ℕ). set v i y) (w .is ∙ ap (λ (j : ℕ). upTo N us j) e) ∙ up-again N (u .setting) us (u .is) i y below
+      module _ (ws : List ℕ) (to m : ℕ) (e : m ≡ suc i) (k : i < to) (all : StronglyConnectedBelow N fs us to) (w : Back N fs us to ws m) where
+        again : (y : ℕ) → set ws i y ≡ set (upTo fs us i) i y
+        again y = ap (λ (v : List ℕ). set v i y) (w .is ∙ ap (λ (j : ℕ). upTo fs us j) e) ∙ up-again N (u .setting) us (u .is) fs tries i y below
 
-      more-none : NoPart N us i → (j : ℕ) → i ≤ j → j < to → NoPart N us j
-      more-none f j p q = go (ℕ-discrete j i)
-        where
-          go : Dec (j ≡ i) → NoPart N us j
-          go (yes d) = subst⁻¹ (λ (v : ℕ). NoPart N us v) d f
-          go (no d) = w .none j (omega arith) q
+        more-none : NoPart N fs us i → (j : ℕ) → i ≤ j → j < to → NoPart N fs us j
+        more-none f j p q = go (ℕ-discrete j i)
+          where
+            go : Dec (j ≡ i) → NoPart N fs us j
+            go (yes d) = subst⁻¹ (λ (v : ℕ). NoPart N fs us v) d f
+            go (no d) = w .none j (omega arith) q
 
-      -- one reach less
-      pub back-on : {ws′ : List ℕ} {r : Bool} → PartedAt ks xs ys us ws i ws′ r → r ≡ false → Back N us to ws′ i
-      back-on (passed p q z) y =
-          let g = row-gated n ks xs ys ea eb i false l p in
-          record { is = q ∙ w .is ∙ ap (λ (j : ℕ). upTo N us j) e ∙ up-plain N (u .setting) us (u .is) i below g; none = more-none (λ h d. clash h g) }
-      back-on (freed p z q d) y =
-          let g = row-gated n ks xs ys ea eb i true l p in
-          record { is = q ∙ again 2 ∙ up-either N (u .setting) us (u .is) i below g; none = more-none (λ h x. absurd (z (byte ∙ x))) }
-      back-on (tried p z t) y =
-          let g = row-gated n ks xs ys ea eb i true l p in
-          let o = tried-off (all i k) g 1 (omega arith) (tried-same xs ys ws (upTo N us i) i again t) y in
-          record { is = o .0; none = more-none (λ h x. o .1) }
+        -- one reach less
+        pub back-on : {ws′ : List ℕ} {r : Bool} → PartedAt fs xs ys us ws i ws′ r → r ≡ false → Back N fs us to ws′ i
+        back-on (passed p q z) y =
+            record { is = q ∙ w .is ∙ ap (λ (j : ℕ). upTo fs us j) e ∙ up-plain N (u .setting) us (u .is) fs tries i below p; none = more-none (λ h d. clash h p) }
+        back-on (freed p z q d) y =
+            record { is = q ∙ again 2 ∙ up-either N (u .setting) us (u .is) fs tries i below p; none = more-none (λ h x. absurd (z (byte ∙ x))) }
+        back-on (tried p z t) y =
+            let o = tried-off (all i k) p 1 (omega arith) (tried-same xs ys ws (upTo fs us i) i again t) y in
+            record { is = o .0; none = more-none (λ h x. o .1) }
 
-      -- or the gate that was turned
-      pub back-found : {ws′ : List ℕ} {r : Bool} → PartedAt ks xs ys us ws i ws′ r → r ≡ true → TurnedBack N us to ws′ i
-      back-found (passed p q z) y = clash y z
-      back-found (freed p z q d) y = clash y d
-      back-found (tried p z t) y =
-          let g = row-gated n ks xs ys ea eb i true l p in
-          let o = tried-on (all i k) g 1 (omega arith) (tried-same xs ys ws (upTo N us i) i again t) y in
-          turned-at k g (sym byte ∙ z) (o .0) (subst⁻¹ (λ (v : List ℕ). StronglyConnected N v) (o .0) (o .1)) (λ j p q. w .none j (omega arith) q)
+        -- or the gate that was turned
+        pub back-found : {ws′ : List ℕ} {r : Bool} → PartedAt fs xs ys us ws i ws′ r → r ≡ true → TurnedBack N fs us to ws′ i
+        back-found (passed p q z) y = clash y z
+        back-found (freed p z q d) y = clash y d
+        back-found (tried p z t) y =
+            let o = tried-on (all i k) p 1 (omega arith) (tried-same xs ys ws (upTo fs us i) i again t) y in
+            turned-at k p (sym byte ∙ z) (o .0) (subst⁻¹ (λ (v : List ℕ). StronglyConnected N v) (o .0) (o .1)) (λ j p q. w .none j (omega arith) q)

@@ -7,16 +7,19 @@ use mathlib.Core.Bool.{Bool, true, false}
 use mathlib.Core.Logic.{⊎-elim}
 use mathlib.Core.List.{List, []}
 use lib.ListN.{length, getD, set}
-use Rattle.network.specs.Networks.{Accepted}
+use Rattle.network.specs.Networks.{Network, Accepted}
 use Rattle.network.specs.Tables.{tableOf}
 use Rattle.network.specs.Orientations.{Arc, reached}
 use Rattle.network.specs.Bridges.{isBridge}
 use Rattle.network.specs.Marks.{bit}
+use mathlib.Mathlib.Data.Bool.Basic.{bool-eq-false}
 use Rattle.lists.proofs.Bools.{decide, clash}
+use Rattle.network.proofs.Bridges.{bridge-gated}
 use Rattle.tables.specs.Rows.{netOf}
 use Rattle.tables.proofs.Laws.{row-length, row-a}
+use Rattle.orientations.specs.Least.{isTried}
 use Rattle.orientations.proofs.Least.{bytes-ways}
-use Rattle.orientations.proofs.Goings.{Going, going-plain, going-drawn, going-turned, going-end, bridge-cut, is-bridge}
+use Rattle.orientations.proofs.Goings.{Going, going-held, going-drawn, going-turned, going-end, bridge-cut, is-bridge}
 use Rattle.orienting.specs.Tries.{leftOut, ledRound}
 use Rattle.orienting.proofs.Rows.{row-arcs, row-below, row-led, row-led-turned, row-gated}
 use Rattle.deciding.specs.Gates.{OrientedGate, no-gate, drawn, turned, neither, Settled, as-it-was, as-drawn, as-turned}
@@ -27,48 +30,55 @@ bit-small true = omega arith
 bit-small false = omega arith
 
 module _ (n : ℕ) (ks xs ys : List ℕ) (ea : length xs ≡ length ks) (eb : length ys ≡ length ks) where
-  module _ (ok : Accepted (netOf n ks xs ys)) (ws₀ : List ℕ) (from : ℕ) (ws : List ℕ) (i : ℕ) (l : i < length ks) (w : Going (netOf n ks xs ys) ws₀ from ws i) where
-    -- one reach more
-    pub going-on : {ws′ seen : List ℕ} {r : Bool} → OrientedGate n ks xs ys ws i ws′ seen r → r ≡ true → Going (netOf n ks xs ys) ws₀ from ws′ (suc i)
-    going-on (no-gate g e q) y = subst⁻¹ (λ (v : List ℕ). Going (netOf n ks xs ys) ws₀ from v (suc i)) e (going-plain (netOf n ks xs ys) ok ws₀ from ws i (row-below n ks xs ys ea eb i l) w (row-gated n ks xs ys ea eb i false l g))
-    going-on (drawn g p e q) y =
-        subst⁻¹ (λ (v : List ℕ). Going (netOf n ks xs ys) ws₀ from v (suc i)) e
-        (going-drawn (netOf n ks xs ys) ok ws₀ from ws i (row-below n ks xs ys ea eb i l) w (row-gated n ks xs ys ea eb i true l g) (row-led n ks xs ys ea eb ws i l ∙ p))
-    going-on (turned g p p′ e q) y =
-        subst⁻¹ (λ (v : List ℕ). Going (netOf n ks xs ys) ws₀ from v (suc i)) e
-        (going-turned (netOf n ks xs ys) ok ws₀ from ws i (row-below n ks xs ys ea eb i l) w (row-gated n ks xs ys ea eb i true l g) (row-led n ks xs ys ea eb ws i l ∙ p) (row-led-turned n ks xs ys ea eb ws i l ∙ p′))
-    going-on (neither g p p′ q f) y = clash y q
+  abbrev N : Network
+  N = netOf n ks xs ys
+
+  module _ (ok : Accepted N) (fs ws₀ : List ℕ) (from : ℕ) (ws : List ℕ) (i : ℕ) (l : i < length ks) (w : Going N fs ws₀ from ws i) where
+    below : i < length (N .reaches)
+    below = row-below n ks xs ys ea eb i l
+
+    -- one reach more, which is no bridge if it is not tried
+    pub going-on : {ws′ seen : List ℕ} {r : Bool} → (isTried fs i ≡ false → isBridge N i ≡ false) → OrientedGate n fs xs ys ws i ws′ seen r → r ≡ true → Going N fs ws₀ from ws′ (suc i)
+    going-on c (no-gate g e q) y = subst⁻¹ (λ (v : List ℕ). Going N fs ws₀ from v (suc i)) e (going-held N ok fs ws₀ from ws i below w g (c g))
+    going-on c (drawn g p e q) y =
+        subst⁻¹ (λ (v : List ℕ). Going N fs ws₀ from v (suc i)) e (going-drawn N ok fs ws₀ from ws i below w g (row-led n ks xs ys ea eb ws i l ∙ p))
+    going-on c (turned g p p′ e q) y =
+        subst⁻¹ (λ (v : List ℕ). Going N fs ws₀ from v (suc i)) e
+        (going-turned N ok fs ws₀ from ws i below w g (row-led n ks xs ys ea eb ws i l ∙ p) (row-led-turned n ks xs ys ea eb ws i l ∙ p′))
+    going-on c (neither g p p′ q f) y = clash y q
 
     -- the same of a gate that is settled, since it is no bridge
-    pub going-settled : {ws′ : List ℕ} → isBridge (netOf n ks xs ys) i ≡ false → Settled ks xs ys ws i ws′ → Going (netOf n ks xs ys) ws₀ from ws′ (suc i)
-    going-settled c (as-it-was g e) = going-on {seen = []} (no-gate g e refl) refl
-    going-settled c (as-drawn g p e) = going-on {seen = []} (drawn g p e refl) refl
-    going-settled c (as-turned g p e) = ⊎-elim (λ y. going-on {seen = []} (turned g p y e refl) refl) (λ y. clash (bridge y) c) (decide (ledRound (leftOut xs ys ws i) xs ys i 1))
+    pub going-settled : {ws′ : List ℕ} → isBridge N i ≡ false → Settled fs xs ys ws i ws′ → Going N fs ws₀ from ws′ (suc i)
+    going-settled c (as-it-was g e) = going-on {seen = []} (λ n. c) (no-gate g e refl) refl
+    going-settled c (as-drawn g p e) = going-on {seen = []} (λ n. c) (drawn g p e refl) refl
+    going-settled c (as-turned g p e) = ⊎-elim (λ y. going-on {seen = []} (λ n. c) (turned g p y e refl) refl) (λ y. clash (bridge y) c) (decide (ledRound (leftOut xs ys ws i) xs ys i 1))
       where
-        bridge : ledRound (leftOut xs ys ws i) xs ys i 1 ≡ false → isBridge (netOf n ks xs ys) i ≡ true
-        bridge y = is-bridge (netOf n ks xs ys) ok ws i (row-below n ks xs ys ea eb i l) (w .begun) (row-gated n ks xs ys ea eb i true l g) (row-led n ks xs ys ea eb ws i l ∙ p) (row-led-turned n ks xs ys ea eb ws i l ∙ y)
+        bridge : ledRound (leftOut xs ys ws i) xs ys i 1 ≡ false → isBridge N i ≡ true
+        bridge y = is-bridge N ok fs ws i below (w .begun) g (row-led n ks xs ys ea eb ws i l ∙ p) (row-led-turned n ks xs ys ea eb ws i l ∙ y)
 
     -- or the gate that can get neither way
-    pub going-bridge : {ws′ seen : List ℕ} {r : Bool} (ws″ : List ℕ) → OrientedGate n ks xs ys ws i ws′ seen r → r ≡ false → Greedy (netOf n ks xs ys) ws₀ from ws″ seen i
+    pub going-bridge : {ws′ seen : List ℕ} {r : Bool} (ws″ : List ℕ) → OrientedGate n fs xs ys ws i ws′ seen r → r ≡ false → Greedy N ws₀ from ws″ seen i
     going-bridge ws″ (no-gate g e q) y = clash q y
     going-bridge ws″ (drawn g p e q) y = clash q y
     going-bridge ws″ (turned g p p′ e q) y = clash q y
     going-bridge {seen} ws″ (neither g p p′ q f) y =
-        let gate = row-gated n ks xs ys ea eb i true l g in
         let ba = row-led n ks xs ys ea eb ws i l ∙ p in
         let ab = row-led-turned n ks xs ys ea eb ws i l ∙ p′ in
-        bridge-at (row-below n ks xs ys ea eb i l) (is-bridge (netOf n ks xs ys) ok ws i (row-below n ks xs ys ea eb i l) (w .begun) gate ba ab) (w .clear)
-        (bridge-cut (netOf n ks xs ys) ok ws i (row-below n ks xs ys ea eb i l) (w .begun) gate ba ab seen
+        bridge-at below (is-bridge N ok fs ws i below (w .begun) g ba ab) (w .clear)
+        (bridge-cut N ok fs ws i below (w .begun) g ba ab seen
         (λ v k. f v k ∙ sym (ap bit (ap₂ (λ (A : List Arc) (u : ℕ). reached A u v) (row-arcs n ks xs ys ea eb (set ws i 3)) (row-a ks xs ys ea eb i l)))))
         (λ v k. subst⁻¹ (λ (x : ℕ). x ≤ 1) (f v k) (bit-small (reached (leftOut xs ys ws i) (getD xs i 0) v)))
 
-  pub going-done : (ws₀ : List ℕ) (from : ℕ) (ws seen : List ℕ) (i : ℕ) → i ≡ length ks → Going (netOf n ks xs ys) ws₀ from ws i → Greedy (netOf n ks xs ys) ws₀ from ws seen i
-  going-done ws₀ from ws seen i e w =
-      let same : i ≡ length (tableOf ks xs ys) = e ∙ sym (row-length ks xs ys ea eb) in
-      all-oriented same (going-end (netOf n ks xs ys) ws₀ from ws (subst (λ (j : ℕ). Going (netOf n ks xs ys) ws₀ from ws j) same w))
+  -- a reach that is no gate is no bridge
+  pub plain-clear : (i : ℕ) → i < length ks → isTried ks i ≡ false → isBridge N i ≡ false
+  plain-clear i l p = bool-eq-false {b = isBridge N i} (λ e. clash (bridge-gated N i e) (row-gated n ks xs ys ea eb i false l p))
 
-  pub going-complete : (ws₀ : List ℕ) (from : ℕ) (ws : List ℕ) (i : ℕ) → i ≡ length ks → Going (netOf n ks xs ys) ws₀ from ws i → Completed (netOf n ks xs ys) ws₀ ws
-  going-complete ws₀ from ws i e w =
-      let N = netOf n ks xs ys in
-      let end : Going N ws₀ from ws (length (N .reaches)) = subst (λ (j : ℕ). Going N ws₀ from ws j) (e ∙ sym (row-length ks xs ys ea eb)) w in
-      record { least = going-end N ws₀ from ws end; oriented = sym (bytes-ways (N .reaches) ws (end .begun .full) (end .begun .shaped)) }
+  pub going-done : (fs ws₀ : List ℕ) (from : ℕ) (ws seen : List ℕ) (i : ℕ) → i ≡ length ks → Going N fs ws₀ from ws i → Greedy N ws₀ from ws seen i
+  going-done fs ws₀ from ws seen i e w =
+      let same : i ≡ length (tableOf ks xs ys) = e ∙ sym (row-length ks xs ys ea eb) in
+      all-oriented same (going-end N fs ws₀ from ws (subst (λ (j : ℕ). Going N fs ws₀ from ws j) same w))
+
+  pub going-complete : (fs ws₀ : List ℕ) (from : ℕ) (ws : List ℕ) (i : ℕ) → i ≡ length ks → Going N fs ws₀ from ws i → Completed N ws₀ ws
+  going-complete fs ws₀ from ws i e w =
+      let end : Going N fs ws₀ from ws (length (N .reaches)) = subst (λ (j : ℕ). Going N fs ws₀ from ws j) (e ∙ sym (row-length ks xs ys ea eb)) w in
+      record { least = going-end N fs ws₀ from ws end; oriented = sym (bytes-ways (N .reaches) ws (end .begun .full) (end .begun .shaped)) }

@@ -13,14 +13,14 @@ use Rattle.network.specs.Bridges.{crossesAlone, isBridge}
 use Rattle.tables.specs.Bytes.{bytesOf}
 use Rattle.tables.specs.Rows.{netOf}
 use Rattle.orientations.specs.Least.{LeastPlan}
-use Rattle.orientations.specs.Partials.{Begun}
+use Rattle.orientations.specs.Partials.{Begun, Bridgeless}
 
--- An accepted table, with a kind for each reach, of which the gates below i are decided and the others not.
-pub record Completable (n : ℕ) (ks xs ys ws : List ℕ) (i : ℕ) : Type 0 where
+-- An accepted table, with a kind for each reach, of which the gates below i are decided and the others that fs tries are not.
+pub record Completable (n : ℕ) (ks fs xs ys ws : List ℕ) (i : ℕ) : Type 0 where
   pub kinds-full : length ks ≡ length xs
   pub accepted : Accepted (netOf n ks xs ys)
   pub bound : i ≤ length xs
-  pub begun : Begun (netOf n ks xs ys) ws i
+  pub begun : Begun (netOf n ks xs ys) fs ws i
 
 -- What deciding the gates from i on leaves: the least plan that fits, or the first gate that can get neither way. That one is a bridge,
 -- those before it are none, and it alone crosses the cut of the basins whose byte is 1, not 0.
@@ -33,3 +33,7 @@ pub data Greedy (N : Network) (ws : List ℕ) (i : ℕ) : List ℕ → List ℕ 
 pub record Completed (N : Network) (ws ws′ : List ℕ) : Type 0 where
   pub least : LeastPlan N ws (bytesOf (N .reaches) ws′)
   pub oriented : ws′ ≡ ways (N .reaches) (bytesOf (N .reaches) ws′)
+
+-- It leaves so the table of all kinds ks of which fs tries gates.
+pub record CompletedFrom (n : ℕ) (fs xs ys ws : List ℕ) (i : ℕ) (ws′ : List ℕ) : Type 0 where
+  pub from : (ks : List ℕ) → Completable n ks fs xs ys ws i → Bridgeless (netOf n ks xs ys) → Completed (netOf n ks xs ys) ws ws′

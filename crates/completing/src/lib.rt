@@ -1,10 +1,11 @@
 // Completing a partial orientation: the gates from a reach on are decided one after the other, each as drawn where that loses nothing, else turned.
 // These functions are for the planner; what they require it has checked.
 ghost use mathlib.Core.Path.{_≡_};
+ghost use Prim.Native.Nat.{_≤_};
+ghost use lib.ListN.{length};
 ghost use Rattle.tables.specs.Rows.{netOf};
-ghost use Rattle.orientations.specs.Partials.{Bridgeless};
 ghost use Rattle.orienting.specs.Ready.{Ready};
-ghost use Rattle.completing.specs.Greedy.{Completable, Greedy, Completed};
+ghost use Rattle.completing.specs.Greedy.{Completable, Greedy, CompletedFrom};
 
 // Orients the gates from reach `from` on, one after the other. Returns the number of reaches, or the first gate that can get neither way: then seen
 // holds a side of it, and the ways are free. What else it leaves in seen, and the queue, is free.
@@ -21,7 +22,7 @@ pub fn greedy(
     queue: &mut [u16],
 ) -> usize
     requires { ⌜ Ready n (now a) (now b) (now ways) (now head) (now next) (now seen) (now queue) ⌝ }
-    requires { ⌜ Completable n (now kinds) (now a) (now b) (now ways) from ⌝ }
+    requires { ⌜ Completable n (now kinds) (now kinds) (now a) (now b) (now ways) from ⌝ }
     ensures { λ r. ⌜ Greedy (netOf n (now (kinds .entry)) (now (a .entry)) (now (b .entry))) (now (ways .entry)) from
         (now (ways .exit)) (now (seen .exit)) r ⌝ }
 {
@@ -35,10 +36,11 @@ pub fn greedy(
     i
 }
 
-// The same as `greedy` where no reach is a bridge: one search for each gate, and every gate gets a way. What it leaves in seen and in the queue is free.
+// The same as `greedy` where no reach is a bridge, of the gates that are tried: one search for each, and every one gets a way. A gate that has its way
+// already is not tried if `tried` has another kind in its place. What it leaves in seen and in the queue is free.
 pub fn complete(
     n: usize,
-    kinds: &[u8],
+    tried: &[u8],
     a: &[u16],
     b: &[u16],
     ways: &mut [u8],
@@ -49,13 +51,13 @@ pub fn complete(
     queue: &mut [u16],
 )
     requires { ⌜ Ready n (now a) (now b) (now ways) (now head) (now next) (now seen) (now queue) ⌝ }
-    requires { ⌜ Completable n (now kinds) (now a) (now b) (now ways) from ⌝ }
-    requires { ⌜ Bridgeless (netOf n (now kinds) (now a) (now b)) ⌝ }
-    ensures { λ _. ⌜ Completed (netOf n (now (kinds .entry)) (now (a .entry)) (now (b .entry))) (now (ways .entry)) (now (ways .exit)) ⌝ }
+    requires { ⌜ length (now tried) ≡ length (now a) ⌝ }
+    requires { ⌜ from ≤ length (now a) ⌝ }
+    ensures { λ _. ⌜ CompletedFrom n (now (tried .entry)) (now (a .entry)) (now (b .entry)) (now (ways .entry)) from (now (ways .exit)) ⌝ }
 {
     let mut i = from;
     while i < a.len() {
-        deciding::settle(n, kinds, a, b, ways, head, next, i, seen, queue);
+        deciding::settle(n, tried, a, b, ways, head, next, i, seen, queue);
         i += 1;
     }
 }

@@ -19,9 +19,9 @@ use Rattle.network.proofs.Theorem.{plan-passable}
 use Rattle.half_edges.specs.Ends.{arcsOf}
 use Rattle.tables.specs.Rows.{netOf, waysRow}
 use Rattle.tables.specs.Bytes.{bytesOf}
-use Rattle.orientations.specs.Partials.{StronglyConnected, NotStronglyConnected, upTo}
+use Rattle.orientations.specs.Partials.{StronglyConnected, NotStronglyConnected, Binds, upTo}
 use Rattle.orientations.proofs.Nexts.{oriented-none, none-stopped}
-use Rattle.orientations.proofs.Parts.{up-more, connected-lower}
+use Rattle.orientations.proofs.Parts.{all-tried, up-more, connected-lower}
 use Rattle.orienting.specs.Ready.{ShutInBasin}
 use Rattle.branching.specs.Follows.{Following, Followed, through, stopped}
 use Rattle.branching.proofs.Follows.{under-length}
@@ -33,15 +33,15 @@ use Rattle.seeking.specs.declared.Sought.the-variants.{CameTo}
 use Rattle.seeking.specs.Found.{FirstFound, found-closed, found-bridge, found-plan, NextFound, next-is}
 use Rattle.seeking.specs.Seeks.{SomePlan, Partable, AtPlan, NextFrom}
 use Rattle.following.specs.Nexts.{OtherThanPlan, Followable, AtSetting, NextAfter}
-use Rattle.seeking.proofs.Levels.{passable-open, level-length, under-row, row-under}
+use Rattle.seeking.proofs.Levels.{passable-open, level-length, under-row, row-under, kinds-full, kinds-tried, kinds-bind}
 use Rattle.seeking.proofs.Firsts.{under-basin}
 
 -- Following the setting stopped at r: r cannot be oriented so.
-record Stop (N : Network) (us ws : List ℕ) (r : ℕ) : Type 0 where
+record Stop (N : Network) (fs us ws : List ℕ) (r : ℕ) : Type 0 where
   pub below : r < length (N .reaches)
-  pub is : ws ≡ upTo N us r
-  pub connected : StronglyConnected N (upTo N us r)
-  pub lost : NotStronglyConnected N (upTo N us (suc r))
+  pub is : ws ≡ upTo fs us r
+  pub connected : StronglyConnected N (upTo fs us r)
+  pub lost : NotStronglyConnected N (upTo fs us (suc r))
 
 module _ (N : Network) where
   -- ---- a finding is one whatever is asked for
@@ -73,7 +73,7 @@ module _ (N : Network) where
   open-connected p = sym (passable-open N) ∙ plan-passable N (p .plan) (p .is-plan)
 
   -- it stops at a reach if it is no plan
-  stops : {us ws : List ℕ} {r : ℕ} → NotStronglyConnected N us → Followed N us ws r → Stop N us ws r
+  stops : {fs us ws : List ℕ} {r : ℕ} → NotStronglyConnected N us → Followed N fs us ws r → Stop N fs us ws r
   stops b (through e q w) = clash w b
   stops b (stopped l e w q) = record { below = l; is = e; connected = subst (λ (v : List ℕ). StronglyConnected N v) e w; lost = q }
 
@@ -88,15 +88,16 @@ module _ (n : ℕ) (ks xs ys : List ℕ) where
     opened : ws₀ ≡ ways (N .reaches) []
     opened = under-row (p .other .seeking .level) [] o
 
-    pub follow-start : Following n ks xs ys us ws₀ 0
+    pub follow-start : Following n ks ks xs ys us ws₀ 0
     follow-start =
         let k = p .other .seeking in
         record {
           kinds-full = sym (k .level .ends-a);
           accepted = k .level .accepted;
+          tries = all-tried N ks (kinds-full (k .level)) (kinds-tried (k .level));
           under = k .under;
           bound = omega arith;
-          begun = opened ∙ sym (subst⁻¹ (λ (v : List ℕ). upTo N v 0 ≡ ways (N .reaches) []) (k .under .is) (oriented-none N (k .under .setting)));
+          begun = opened ∙ sym (subst⁻¹ (λ (v : List ℕ). upTo ks v 0 ≡ ways (N .reaches) []) (k .under .is) (oriented-none N (k .under .setting) ks (all-tried N ks (kinds-full (k .level)) (kinds-tried (k .level))) (kinds-tried (k .level))));
         }
 
     pub follow-connected : StronglyConnected N ws₀
@@ -105,24 +106,25 @@ module _ (n : ℕ) (ks xs ys : List ℕ) where
     pub follow-length : length us ≡ length xs
     follow-length = let v = p .other .seeking .level in under-length n ks xs ys (v .ends-a) (v .ends-b) us (p .other .seeking .under) ∙ sym (v .ends-a)
 
-    module _ {ws₁ : List ℕ} {r : ℕ} (f : Followed N us ws₁ r) where
-      stop : Stop N us ws₁ r
+    module _ {ws₁ : List ℕ} {r : ℕ} (f : Followed N ks us ws₁ r) where
+      stop : Stop N ks us ws₁ r
       stop = stops N (p .other .lost) f
 
       pub follow-below : r < length xs
       follow-below = omega (arith, stop .below, level-length (p .other .seeking .level))
 
       -- with the way of the setting where it stopped
-      pub follow-partable : Partable n ks xs ys us (set ws₁ r (getD us r 0)) (r + 1)
+      pub follow-partable : Partable n ks ks xs ys us (set ws₁ r (getD us r 0)) (r + 1)
       follow-partable =
           let u = p .other .seeking .under in
           rw add-one
           record {
             seeking = p .other .seeking;
+            binds = kinds-bind (p .other .seeking .level) u;
             some-plan = p .some-plan;
             bound = follow-below;
-            begun = ap (λ (v : List ℕ). set v r (getD us r 0)) (stop .is) ∙ up-more N (u .setting) us (u .is) r (getD us r 0) (stop .below) (getD-any us r 3 0 (omega (arith, follow-length, follow-below)));
-            connected-below = λ j l. connected-lower N (u .setting) us (u .is) r j (stop .connected) (omega arith) (omega (arith, stop .below));
+            begun = ap (λ (v : List ℕ). set v r (getD us r 0)) (stop .is) ∙ up-more N (u .setting) us (u .is) ks (kinds-bind (p .other .seeking .level) u .tries) r (getD us r 0) (stop .below) (getD-any us r 3 0 (omega (arith, follow-length, follow-below)));
+            connected-below = λ j l. connected-lower N (u .setting) us (u .is) ks (kinds-bind (p .other .seeking .level) u .tries) r j (stop .connected) (omega arith) (omega (arith, stop .below));
           }
 
       pub follow-found : {ws′ seen : List ℕ} {q : Sought} → NextFrom N us (r + 1) ws′ seen q → NextAfter N us ws′ seen q
@@ -130,7 +132,7 @@ module _ (n : ℕ) (ks xs ys : List ℕ) where
           record {
             found = λ s fit is.
                 d .found s fit is
-                (rw add-one (none-stopped N s fit r (stop .below) (subst (λ (v : List ℕ). NotStronglyConnected N (upTo N v (suc r))) is (stop .lost))));
+                (rw add-one (none-stopped N s fit ks (subst (λ (v : List ℕ). Binds N ks v) is (kinds-bind (p .other .seeking .level) (p .other .seeking .under))) r (stop .below) (subst (λ (v : List ℕ). NotStronglyConnected N (upTo ks v (suc r))) is (stop .lost))));
           }
 
   -- a first plan was found

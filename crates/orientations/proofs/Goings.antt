@@ -5,7 +5,7 @@ use native.Mathlib.Omega.{arith}
 use native.Mathlib.Decide.{ℕ-discrete, decLt}
 use mathlib.Core.Path.{_≡_, sym, ap, subst, subst⁻¹, _∙_}
 use mathlib.Core.Bool.{true, false, not}
-use mathlib.Core.Logic.{_⊎_, ⊎-elim}
+use mathlib.Core.Logic.{_⊎_, inl, inr, ⊎-elim}
 use mathlib.Core.List.{List, []}
 use lib.ListN.{length, getD, set, length-set}
 use lib.Seq.{getD-set-same, getD-set-other, set-getD}
@@ -23,59 +23,62 @@ use Rattle.lists.proofs.Bools.{decide, clash}
 use Rattle.lists.proofs.Searches.{keep-same}
 use Rattle.network.proofs.Ways.{plain-small, gated-in-service, shut-plain, shut-way, ShutOut}
 use Rattle.network.proofs.Networks.{basin-below}
-use Rattle.network.proofs.Bridges.{Alone, alone-rest, alone-same, cut-of, bridge-gated, bridge-parts}
+use Rattle.network.proofs.Bridges.{Alone, alone-rest, alone-same, cut-of, bridge-parts}
 use Rattle.network.proofs.Steps.{orient-drawn, orient-turned, stuck-alone, stuck-other, stuck-bridge}
 use Rattle.tables.specs.Bytes.{bytesOf}
-use Rattle.orientations.specs.Least.{LeastPlan, Decided, Open, Shaped}
+use Rattle.orientations.specs.Least.{LeastPlan, Decided, isTried, Open, Shaped}
 use Rattle.orientations.specs.Partials.{Begun}
 use Rattle.orientations.proofs.Least.{least-drawn, least-turned, least-end}
 
 -- the gates below i are decided, from the ways ws₀ on, of which those from `from` on were not
-pub record Going (N : Network) (ws₀ : List ℕ) (from : ℕ) (ws : List ℕ) (i : ℕ) : Type 0 where
-  pub begun : Begun N ws i
+pub record Going (N : Network) (fs ws₀ : List ℕ) (from : ℕ) (ws : List ℕ) (i : ℕ) : Type 0 where
+  pub begun : Begun N fs ws i
   pub onward : (s : List ℕ) → LeastPlan N ws s → LeastPlan N ws₀ s
   pub clear : (j : ℕ) → from ≤ j → j < i → isBridge N j ≡ false
 
-pub starts : {N : Network} {ws : List ℕ} {i : ℕ} → Begun N ws i → Going N ws i ws i
+pub starts : {N : Network} {fs ws : List ℕ} {i : ℕ} → Begun N fs ws i → Going N fs ws i ws i
 starts b = record { begun = b; onward = λ s m. m; clear = λ j l k. absurd (omega arith) }
 
-module _ (N : Network) (ok : Accepted N) (ws : List ℕ) (i : ℕ) (below : i < length (N .reaches)) (b : Begun N ws i) where
+module _ (N : Network) (ok : Accepted N) (fs ws : List ℕ) (i : ℕ) (below : i < length (N .reaches)) (b : Begun N fs ws i) where
   room : i < length ws
   room = omega (arith, b .full)
 
-  -- ---- a reach that is no gate
+  -- ---- a reach that is not tried
 
-  plain-decided : isGated ((reachAt N i) .state) ≡ false → Decided N ws (suc i)
-  plain-decided n j l g = go (ℕ-discrete j i)
+  held-decided : isTried fs i ≡ false → Decided N ws (suc i)
+  held-decided n j l g = go (ℕ-discrete j i)
     where
       go : Dec (j ≡ i) → getD ws j 3 ≤ 1
-      go (yes e) = clash (subst (λ (k : ℕ). isGated ((reachAt N k) .state) ≡ true) e g) n
+      go (yes e) = b .held j (omega arith) g (rw e n)
       go (no m) = b .decided j (omega arith) g
 
-  begun-plain : isGated ((reachAt N i) .state) ≡ false → Begun N ws (suc i)
-  begun-plain n = record { full = b .full; shaped = b .shaped; decided = plain-decided n; undecided = λ j l. b .undecided j (omega arith); connected = b .connected }
+  begun-held : isTried fs i ≡ false → Begun N fs ws (suc i)
+  begun-held n = record { tries = b .tries; full = b .full; shaped = b .shaped; decided = held-decided n; held = b .held; undecided = λ j l. b .undecided j (omega arith); connected = b .connected }
 
-  -- ---- a gate
+  -- ---- a gate that is tried
 
-  module _ (g : isGated ((reachAt N i) .state) ≡ true) where
+  module _ (t : isTried fs i ≡ true) where
+    gate : isGated ((reachAt N i) .state) ≡ true
+    gate = b .tries .only-gates i below t
+
     serves : inService ((reachAt N i) .state) ≡ true
-    serves = gated-in-service ((reachAt N i) .state) g
+    serves = gated-in-service ((reachAt N i) .state) gate
 
     free : getD ws i 3 ≡ 2
-    free = b .undecided i (omega arith) below g
+    free = b .undecided i (omega arith) (omega (arith, b .tries .row-full)) t
 
     -- it is usable either way so far
     either : stronglyConnected (basinsOf N) (arcs (N .reaches) (set ws i 2)) ≡ true
     either = subst⁻¹ (λ (v : List ℕ). stronglyConnected (basinsOf N) (arcs (N .reaches) v) ≡ true) (ap (λ (x : ℕ). set ws i x) (sym free) ∙ set-getD ws i 3) (b .connected)
 
-    pub begun-oriented : (x : ℕ) → x ≤ 1 → stronglyConnected (basinsOf N) (arcs (N .reaches) (set ws i x)) ≡ true → Begun N (set ws i x) (suc i)
-    begun-oriented x small str = record { full = length-set ws i x ∙ b .full; shaped = shaped; decided = decided; undecided = undecided; connected = str }
+    pub begun-oriented : (x : ℕ) → x ≤ 1 → stronglyConnected (basinsOf N) (arcs (N .reaches) (set ws i x)) ≡ true → Begun N fs (set ws i x) (suc i)
+    begun-oriented x small str = record { tries = b .tries; full = length-set ws i x ∙ b .full; shaped = shaped; decided = decided; held = held; undecided = undecided; connected = str }
       where
         shaped : Shaped (N .reaches) (set ws i x)
         shaped j l n = go (ℕ-discrete j i)
           where
             go : Dec (j ≡ i) → getD (set ws i x) j 3 ≡ way ((reachAt N j) .state) []
-            go (yes e) = clash g (subst (λ (k : ℕ). isGated ((reachAt N k) .state) ≡ false) e n)
+            go (yes e) = clash gate (subst (λ (k : ℕ). isGated ((reachAt N k) .state) ≡ false) e n)
             go (no m) = getD-set-other ws i j x 3 m ∙ b .shaped j l n
 
         decided : Decided N (set ws i x) (suc i)
@@ -85,7 +88,14 @@ module _ (N : Network) (ok : Accepted N) (ws : List ℕ) (i : ℕ) (below : i < 
             go (yes e) = rw (e, getD-set-same ws i x 3 room) small
             go (no m) = rw (getD-set-other ws i j x 3 m) (b .decided j (omega arith) h)
 
-        undecided : Open N (set ws i x) (suc i)
+        held : (j : ℕ) → j < length (N .reaches) → isGated ((reachAt N j) .state) ≡ true → isTried fs j ≡ false → getD (set ws i x) j 3 ≤ 1
+        held j l h n = go (ℕ-discrete j i)
+          where
+            go : Dec (j ≡ i) → getD (set ws i x) j 3 ≤ 1
+            go (yes e) = clash t (subst (λ (k : ℕ). isTried fs k ≡ false) e n)
+            go (no m) = rw (getD-set-other ws i j x 3 m) (b .held j l h n)
+
+        undecided : Open fs (set ws i x) (suc i)
         undecided j l k h = getD-set-other ws i j x 3 (omega arith) ∙ b .undecided j (omega arith) k h
 
     -- oriented without loss, it is no bridge
@@ -105,11 +115,12 @@ module _ (N : Network) (ok : Accepted N) (ws : List ℕ) (i : ℕ) (below : i < 
         plain n = rw (b .shaped j l n) (plain-small ((reachAt N j) .state) n s)
 
         gated : isGated ((reachAt N j) .state) ≡ true → getD ws j 3 ≤ 2
-        gated y = go (decLt j i)
+        gated y = go (decLt j i) (decide (isTried fs j))
           where
-            go : Dec (j < i) → getD ws j 3 ≤ 2
-            go (yes k) = omega (arith, b .decided j k y)
-            go (no k) = omega (arith, b .undecided j (omega arith) l y)
+            go : Dec (j < i) → (isTried fs j ≡ true) ⊎ (isTried fs j ≡ false) → getD ws j 3 ≤ 2
+            go (yes k) d = omega (arith, b .decided j k y)
+            go (no k) (inl d) = omega (arith, b .undecided j (omega arith) (omega (arith, b .tries .row-full)) d)
+            go (no k) (inr d) = omega (arith, b .held j l y d)
 
     module _ (ba : reached (arcs (N .reaches) (set ws i 3)) ((reachAt N i) .b) ((reachAt N i) .a) ≡ false) (ab : reached (arcs (N .reaches) (set ws i 3)) ((reachAt N i) .a) ((reachAt N i) .b) ≡ false) where
       -- the reach alone crosses the side that A leads to
@@ -127,11 +138,11 @@ module _ (N : Network) (ok : Accepted N) (ws : List ℕ) (i : ℕ) (below : i < 
           ((cut-of N ok i below (reached (arcs (N .reaches) (set ws i 3)) ((reachAt N i) .a)) alone-on) .alone)
 
       pub is-bridge : isBridge N i ≡ true
-      is-bridge = stuck-bridge N ok ws i below (b .full) serves all-small either ba ab g
+      is-bridge = stuck-bridge N ok ws i below (b .full) serves all-small either ba ab gate
 
 -- ---- one step of the loop
 
-module _ (N : Network) (ok : Accepted N) (ws₀ : List ℕ) (from : ℕ) (ws : List ℕ) (i : ℕ) (below : i < length (N .reaches)) (w : Going N ws₀ from ws i) where
+module _ (N : Network) (ok : Accepted N) (fs ws₀ : List ℕ) (from : ℕ) (ws : List ℕ) (i : ℕ) (below : i < length (N .reaches)) (w : Going N fs ws₀ from ws i) where
   clear-more : isBridge N i ≡ false → (j : ℕ) → from ≤ j → j < suc i → isBridge N j ≡ false
   clear-more n j l k = go (ℕ-discrete j i)
     where
@@ -139,37 +150,34 @@ module _ (N : Network) (ok : Accepted N) (ws₀ : List ℕ) (from : ℕ) (ws : L
       go (yes e) = rw e n
       go (no m) = w .clear j l (omega arith)
 
-  plain-not-bridge : isGated ((reachAt N i) .state) ≡ false → isBridge N i ≡ false
-  plain-not-bridge n = bool-eq-false {b = isBridge N i} (λ e. clash (bridge-gated N i e) n)
+  pub going-held : isTried fs i ≡ false → isBridge N i ≡ false → Going N fs ws₀ from ws (suc i)
+  going-held n c = record { begun = begun-held N ok fs ws i below (w .begun) n; onward = w .onward; clear = clear-more c }
 
-  pub going-plain : isGated ((reachAt N i) .state) ≡ false → Going N ws₀ from ws (suc i)
-  going-plain n = record { begun = begun-plain N ok ws i below (w .begun) n; onward = w .onward; clear = clear-more (plain-not-bridge n) }
-
-  module _ (g : isGated ((reachAt N i) .state) ≡ true) where
+  module _ (t : isTried fs i ≡ true) where
     as-drawn : stronglyConnected (basinsOf N) (arcs (N .reaches) (set ws i 0)) ≡ reached (arcs (N .reaches) (set ws i 3)) ((reachAt N i) .b) ((reachAt N i) .a)
-    as-drawn = orient-drawn N ok ws i below (w .begun .full) (either N ok ws i below (w .begun) g)
+    as-drawn = orient-drawn N ok ws i below (w .begun .full) (either N ok fs ws i below (w .begun) t)
 
     as-turned : stronglyConnected (basinsOf N) (arcs (N .reaches) (set ws i 1)) ≡ reached (arcs (N .reaches) (set ws i 3)) ((reachAt N i) .a) ((reachAt N i) .b)
-    as-turned = orient-turned N ok ws i below (w .begun .full) (either N ok ws i below (w .begun) g)
+    as-turned = orient-turned N ok ws i below (w .begun .full) (either N ok fs ws i below (w .begun) t)
 
-    pub going-drawn : reached (arcs (N .reaches) (set ws i 3)) ((reachAt N i) .b) ((reachAt N i) .a) ≡ true → Going N ws₀ from (set ws i 0) (suc i)
+    pub going-drawn : reached (arcs (N .reaches) (set ws i 3)) ((reachAt N i) .b) ((reachAt N i) .a) ≡ true → Going N fs ws₀ from (set ws i 0) (suc i)
     going-drawn e =
         let str = as-drawn ∙ e in
         record {
-          begun = begun-oriented N ok ws i below (w .begun) g 0 (omega arith) str;
-          onward = λ s m. w .onward s (least-drawn N ws i below (w .begun .full) g (free N ok ws i below (w .begun) g) (w .begun .decided) s m);
-          clear = clear-more (not-bridge N ok ws i below (w .begun) g 0 (omega arith) str);
+          begun = begun-oriented N ok fs ws i below (w .begun) t 0 (omega arith) str;
+          onward = λ s m. w .onward s (least-drawn N ws i below (w .begun .full) (gate N ok fs ws i below (w .begun) t) (free N ok fs ws i below (w .begun) t) (w .begun .decided) s m);
+          clear = clear-more (not-bridge N ok fs ws i below (w .begun) t 0 (omega arith) str);
         }
 
-    pub going-turned : reached (arcs (N .reaches) (set ws i 3)) ((reachAt N i) .b) ((reachAt N i) .a) ≡ false → reached (arcs (N .reaches) (set ws i 3)) ((reachAt N i) .a) ((reachAt N i) .b) ≡ true → Going N ws₀ from (set ws i 1) (suc i)
+    pub going-turned : reached (arcs (N .reaches) (set ws i 3)) ((reachAt N i) .b) ((reachAt N i) .a) ≡ false → reached (arcs (N .reaches) (set ws i 3)) ((reachAt N i) .a) ((reachAt N i) .b) ≡ true → Going N fs ws₀ from (set ws i 1) (suc i)
     going-turned n e =
         let str = as-turned ∙ e in
         record {
-          begun = begun-oriented N ok ws i below (w .begun) g 1 (omega arith) str;
-          onward = λ s m. w .onward s (least-turned N ws i below (w .begun .full) g (free N ok ws i below (w .begun) g) (as-drawn ∙ n) s m);
-          clear = clear-more (not-bridge N ok ws i below (w .begun) g 1 (omega arith) str);
+          begun = begun-oriented N ok fs ws i below (w .begun) t 1 (omega arith) str;
+          onward = λ s m. w .onward s (least-turned N ws i below (w .begun .full) (gate N ok fs ws i below (w .begun) t) (free N ok fs ws i below (w .begun) t) (as-drawn ∙ n) s m);
+          clear = clear-more (not-bridge N ok fs ws i below (w .begun) t 1 (omega arith) str);
         }
 
 -- all gates are decided
-pub going-end : (N : Network) (ws₀ : List ℕ) (from : ℕ) (ws : List ℕ) → Going N ws₀ from ws (length (N .reaches)) → LeastPlan N ws₀ (bytesOf (N .reaches) ws)
-going-end N ws₀ from ws w = w .onward (bytesOf (N .reaches) ws) (least-end N ws (w .begun .full) (w .begun .shaped) (w .begun .decided) (w .begun .connected))
+pub going-end : (N : Network) (fs ws₀ : List ℕ) (from : ℕ) (ws : List ℕ) → Going N fs ws₀ from ws (length (N .reaches)) → LeastPlan N ws₀ (bytesOf (N .reaches) ws)
+going-end N fs ws₀ from ws w = w .onward (bytesOf (N .reaches) ws) (least-end N ws (w .begun .full) (w .begun .shaped) (w .begun .decided) (w .begun .connected))

@@ -2,12 +2,13 @@
 -- Assumes nothing.
 use Prim.Native.Nat.{ℕ, _≤_, _<_}
 use mathlib.Core.Path.{_≡_}
-use mathlib.Core.Bool.{true, false}
+use mathlib.Core.Bool.{Bool, true, false}
 use mathlib.Core.Logic.{_⊎_}
 use mathlib.Core.List.{List, []}
 use lib.ListN.{length, getD}
 use Rattle.network.specs.declared.Reach.{Reach}
 use Rattle.network.specs.Networks.{Network}
+use Rattle.network.specs.Tables.{stateOf}
 use Rattle.network.specs.Settings.{isGated, before}
 use Rattle.network.specs.Orientations.{way, ways}
 use Rattle.network.specs.Plans.{isPlan}
@@ -27,9 +28,13 @@ pub record LeastPlan (N : Network) (ws s : List ℕ) : Type 0 where
 abbrev pub Decided : Network → List ℕ → ℕ → Type 0
 Decided N ws i = (j : ℕ) → j < i → isGated ((reachAt N j) .state) ≡ true → getD ws j 3 ≤ 1
 
--- The gates from i on are not.
-abbrev pub Open : Network → List ℕ → ℕ → Type 0
-Open N ws i = (j : ℕ) → i ≤ j → j < length (N .reaches) → isGated ((reachAt N j) .state) ≡ true → getD ws j 3 ≡ 2
+-- The gates that are tried are those of a row fs: the kinds of the reaches, in which a gate that need not be tried may have the number of another kind.
+abbrev pub isTried : List ℕ → ℕ → Bool
+isTried fs j = isGated (stateOf (getD fs j 0))
+
+-- The gates from i on that are tried are not decided.
+abbrev pub Open : List ℕ → List ℕ → ℕ → Type 0
+Open fs ws i = (j : ℕ) → i ≤ j → j < length fs → isTried fs j ≡ true → getD ws j 3 ≡ 2
 
 -- The reaches that are no gates have the ways of their states; a shut reach passes neither way.
 abbrev pub Shaped : List Reach → List ℕ → Type 0

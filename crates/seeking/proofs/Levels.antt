@@ -8,15 +8,18 @@ use mathlib.Core.List.{List, []}
 use lib.ListN.{length}
 use Rattle.network.specs.Networks.{Network, basinsOf}
 use Rattle.network.specs.Tables.{tableOf}
-use Rattle.network.specs.Settings.{gateCount, isSetting}
+use Rattle.network.specs.Settings.{isGated, gateCount, isSetting}
 use Rattle.network.specs.Orientations.{ways, arcs}
 use Rattle.network.specs.Plans.{stronglyConnected, stronglyConnectedUnder, passable}
+use Rattle.network.specs.Bridges.{reachAt}
 use Rattle.network.proofs.Networks.{accepted}
 use Rattle.half_edges.specs.Ends.{arcsOf}
 use Rattle.half_edges.specs.Chains.{Table}
 use Rattle.tables.specs.Rows.{netOf, waysRow}
-use Rattle.tables.proofs.Laws.{row-length, row-a, row-b, row-ways, ways-unoriented}
-use Rattle.orientations.specs.Partials.{Under}
+use Rattle.tables.proofs.Laws.{row-length, row-a, row-b, row-state, row-ways, ways-unoriented}
+use Rattle.orientations.specs.Least.{isTried}
+use Rattle.orientations.specs.Partials.{Under, Binds}
+use Rattle.orientations.proofs.Parts.{all-bind}
 use Rattle.orienting.proofs.Rows.{row-arcs, row-below}
 use Rattle.seeking.specs.Levels.{Level}
 
@@ -57,3 +60,13 @@ module _ {n : ℕ} {ks xs ys : List ℕ} (v : Level n ks xs ys) where
 
   pub row-under : {us : List ℕ} (s : List ℕ) → isSetting (netOf n ks xs ys) s ≡ true → us ≡ waysRow ks s → Under (netOf n ks xs ys) us
   row-under s fit e = record { setting = s; fits = fit; is = under-row s e }
+
+  -- the row of kinds tries all gates
+  pub kinds-full : length ks ≡ length ((netOf n ks xs ys) .reaches)
+  kinds-full = sym (row-length ks xs ys (v .ends-a) (v .ends-b))
+
+  pub kinds-tried : (j : ℕ) → j < length ((netOf n ks xs ys) .reaches) → isTried ks j ≡ isGated ((reachAt (netOf n ks xs ys) j) .state)
+  kinds-tried j l = sym (ap isGated (row-state ks xs ys (v .ends-a) (v .ends-b) j (omega (arith, kinds-full))))
+
+  pub kinds-bind : {us : List ℕ} → Under (netOf n ks xs ys) us → Binds (netOf n ks xs ys) ks us
+  kinds-bind {us} u = all-bind (netOf n ks xs ys) ks (u .setting) us (u .is) kinds-full kinds-tried

@@ -17,7 +17,7 @@ use Rattle.completing.specs.Greedy.{Completable, Greedy}
 use Rattle.seeking.specs.declared.Found.the-variants.{Closed, Bridge, Oriented}
 use Rattle.seeking.specs.Levels.{Level, NoneOriented, Passable}
 use Rattle.seeking.specs.Found.{FirstFound}
-use Rattle.seeking.proofs.Levels.{passable-open, level-length, under-row}
+use Rattle.seeking.proofs.Levels.{passable-open, level-length, under-row, kinds-full, kinds-tried}
 use Rattle.seeking.proofs.Firsts.{closed-first, passed-basin, bridge-first, plan-first}
 
 module _ (n : ℕ) (ks xs ys : List ℕ) where
@@ -43,13 +43,13 @@ module _ (n : ℕ) (ks xs ys : List ℕ) where
     opened : ws ≡ ways (N .reaches) []
     opened = under-row (p .level) [] (p .unoriented)
 
-    pub open-completable : Completable n ks xs ys ws 0
+    pub open-completable : Completable n ks ks xs ys ws 0
     open-completable =
         record {
           kinds-full = sym (p .level .ends-a);
           accepted = p .level .accepted;
           bound = omega arith;
-          begun = subst⁻¹ (λ (v : List ℕ). Begun N v 0) opened (open-none N (sym (passable-open N) ∙ p .passable-net));
+          begun = subst⁻¹ (λ (v : List ℕ). Begun N ks v 0) opened (open-none N ks (kinds-full (p .level)) (kinds-tried (p .level)) (sym (passable-open N) ∙ p .passable-net));
         }
 
     module _ {ws′ seen : List ℕ} {r : ℕ} (g : Greedy N ws 0 ws′ seen r) where

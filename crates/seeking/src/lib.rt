@@ -2,11 +2,13 @@
 // These functions are for the planner; what they require it has checked. What the searches leave in working memory is free but for two things: the
 // ways, where a plan is found, and what is noted for each basin in seen, where a finding is.
 ghost use mathlib.Core.Path.{_≡_};
+ghost use Prim.Native.Nat.{_≤_};
+ghost use lib.ListN.{length};
 ghost use Rattle.tables.specs.Rows.{netOf};
 ghost use Rattle.orienting.specs.Ready.{Ready};
 ghost use Rattle.seeking.specs.Levels.{NoneOriented, Passable};
 ghost use Rattle.seeking.specs.Found.{FirstFound};
-ghost use Rattle.seeking.specs.Seeks.{Partable, StepTaken, NextFrom};
+ghost use Rattle.seeking.specs.Seeks.{Partable, StepFrom, NextFrom};
 
 // What the search for a plan came to: a closed set of basins that are not all (document 01: shut in), a bridge (a lone reach), or a plan, with all
 // gates oriented.
@@ -71,10 +73,11 @@ pub fn first_from(
 }
 
 // One step: from ways that `under` has up to reach `to`, parts from them upwards at the last gate before it at which a plan can, and decides the
-// gates after it. Returns the number of that gate, or the number of reaches if there is none. There is a plan.
+// gates after it. Returns the number of that gate, or the number of reaches if there is none. There is a plan. A gate that has one way in all plans is not
+// tried if `tried` has another kind in its place: it keeps the way that it has.
 pub fn step(
     n: usize,
-    kinds: &[u8],
+    tried: &[u8],
     a: &[u16],
     b: &[u16],
     under: &[u8],
@@ -86,12 +89,14 @@ pub fn step(
     queue: &mut [u16],
 ) -> usize
     requires { ⌜ Ready n (now a) (now b) (now ways) (now head) (now next) (now seen) (now queue) ⌝ }
-    requires { ⌜ Partable n (now kinds) (now a) (now b) (now under) (now ways) to ⌝ }
-    ensures { λ r. ⌜ StepTaken (netOf n (now (kinds .entry)) (now (a .entry)) (now (b .entry))) (now (under .entry)) to (now (ways .exit)) r ⌝ }
+    requires { ⌜ length (now tried) ≡ length (now a) ⌝ }
+    requires { ⌜ length (now under) ≡ length (now a) ⌝ }
+    requires { ⌜ to ≤ length (now a) ⌝ }
+    ensures { λ r. ⌜ StepFrom n (now (tried .entry)) (now (a .entry)) (now (b .entry)) (now (under .entry)) (now (ways .entry)) to (now (ways .exit)) r ⌝ }
 {
-    let at = branching::turn_back(n, kinds, a, b, under, ways, head, next, to, seen, queue);
+    let at = branching::turn_back(n, tried, a, b, under, ways, head, next, to, seen, queue);
     if at < a.len() {
-        completing::complete(n, kinds, a, b, ways, head, next, at + 1, seen, queue);
+        completing::complete(n, tried, a, b, ways, head, next, at + 1, seen, queue);
         return at;
     }
     at
@@ -112,7 +117,7 @@ pub fn part_from(
     queue: &mut [u16],
 ) -> Sought
     requires { ⌜ Ready n (now a) (now b) (now ways) (now head) (now next) (now seen) (now queue) ⌝ }
-    requires { ⌜ Partable n (now kinds) (now a) (now b) (now under) (now ways) to ⌝ }
+    requires { ⌜ Partable n (now kinds) (now kinds) (now a) (now b) (now under) (now ways) to ⌝ }
     ensures { λ r. ⌜ NextFrom (netOf n (now (kinds .entry)) (now (a .entry)) (now (b .entry))) (now (under .entry)) to
         (now (ways .exit)) (now (seen .exit)) r ⌝ }
 {

@@ -21,7 +21,7 @@ use Rattle.tables.specs.Rows.{netOf, gatesIn, waysRow, bytesRow}
 use Rattle.tables.specs.Bytes.{bytesOf}
 use Rattle.tables.proofs.Laws.{row-length, row-bytes, row-ways, row-gates, row-state}
 use Rattle.orientations.specs.Least.{Fits}
-use Rattle.orientations.specs.Partials.{upTo}
+use Rattle.orientations.specs.Partials.{Tries, Binds, upTo}
 use Rattle.orientations.proofs.Least.{same-plain, has-decided, fits-at}
 use Rattle.orientations.proofs.Nexts.{gate-byte, oriented-length, oriented-below}
 use Rattle.completing.specs.Greedy.{Completed}
@@ -48,12 +48,12 @@ module _ (n : ℕ) (ks xs ys : List ℕ) (v : Level n ks xs ys) where
 
   -- a setting that fits the ways of s before the gate r, and r turned, parts from s there
   module _ (s q : List ℕ) (r : ℕ) (fit : isSetting N s ≡ true) (fit′ : isSetting N q ≡ true) (l : r < length (N .reaches)) (g : isGated ((reachAt N r) .state) ≡ true) (z : getD (ways (N .reaches) s) r 3 ≡ 0)
-      (f : Fits N q (set (upTo N (ways (N .reaches) s) r) r 1)) where
+      (fs : List ℕ) (tries : Tries N fs) (f : Fits N q (set (upTo fs (ways (N .reaches) s) r) r 1)) where
     abbrev held : List ℕ
-    held = upTo N (ways (N .reaches) s) r
+    held = upTo fs (ways (N .reaches) s) r
 
     before-r : (j : ℕ) → j < r → getD (set held r 1) j 3 ≡ getD (ways (N .reaches) s) j 3
-    before-r j k = getD-set-other held r j 1 3 (omega arith) ∙ oriented-below N s r j (omega arith) k
+    before-r j k = getD-set-other held r j 1 3 (omega arith) ∙ oriented-below N s fs tries r j (omega arith) k
 
     alike : (j : ℕ) → j < r → getD (ways (N .reaches) q) j 3 ≡ getD (ways (N .reaches) s) j 3
     alike j k =
@@ -63,7 +63,7 @@ module _ (n : ℕ) (ks xs ys : List ℕ) (v : Level n ks xs ys) where
         (decide (isGated ((reachAt N j) .state)))
 
     turns : getD (ways (N .reaches) q) r 3 ≡ 1
-    turns = fits-at N q held r 1 (omega (arith, oriented-length N s r (omega arith))) l (omega arith) f
+    turns = fits-at N q held r 1 (omega (arith, oriented-length N s fs tries r (omega arith))) l (omega arith) f
 
     in-row : r < length ks
     in-row = omega (arith, many)
@@ -85,22 +85,22 @@ module _ (n : ℕ) (ks xs ys : List ℕ) (v : Level n ks xs ys) where
         }
 
   -- so it is with the next plan
-  parted : {s us ws : List ℕ} {r : ℕ} → AtPlan n ks xs ys s us → r < length (N .reaches) → isGated ((reachAt N r) .state) ≡ true → getD us r 3 ≡ 0 → Completed N (set (upTo N us r) r 1) ws → PartsAt ks s (bytesRow ks ws) r
-  parted {s} {us} {ws} {r} p l g z c =
+  parted : {s us ws fs : List ℕ} {r : ℕ} → AtPlan n ks xs ys s us → Tries N fs → r < length (N .reaches) → isGated ((reachAt N r) .state) ≡ true → getD us r 3 ≡ 0 → Completed N (set (upTo fs us r) r 1) ws → PartsAt ks s (bytesRow ks ws) r
+  parted {s} {us} {ws} {fs} {r} p t l g z c =
       let is : us ≡ ways (N .reaches) s = p .oriented ∙ sym (row-ways ks xs ys (v .ends-a) (v .ends-b) s) in
-      let fits : Fits N (bytesRow ks ws) (set (upTo N (ways (N .reaches) s) r) r 1) =
-      subst (λ (h : List ℕ). Fits N h (set (upTo N (ways (N .reaches) s) r) r 1)) (bytes ws)
-      (subst (λ (u : List ℕ). Fits N (bytesOf (N .reaches) ws) (set (upTo N u r) r 1)) is (c .least .fits)) in
+      let fits : Fits N (bytesRow ks ws) (set (upTo fs (ways (N .reaches) s) r) r 1) =
+      subst (λ (h : List ℕ). Fits N h (set (upTo fs (ways (N .reaches) s) r) r 1)) (bytes ws)
+      (subst (λ (u : List ℕ). Fits N (bytesOf (N .reaches) ws) (set (upTo fs u r) r 1)) is (c .least .fits)) in
       parts s (bytesRow ks ws) r (plan-setting N s (p .is-plan)) (subst (λ (h : List ℕ). isSetting N h ≡ true) (bytes ws) (plan-setting N (bytesOf (N .reaches) ws) (c .least .is-plan)))
-      l g (ap (λ (u : List ℕ). getD u r 3) (sym is) ∙ z) fits
+      l g (ap (λ (u : List ℕ). getD u r 3) (sym is) ∙ z) fs t fits
 
   -- what a step from a plan came to
-  pub advanced : {s us ws₀ ws : List ℕ} {r : ℕ} → AtPlan n ks xs ys s us → ws₀ ≡ waysRow ks s → StepTaken N us (length xs) ws r → Advanced N ks s ws r
-  advanced {s} {us} {ws₀} {ws} {r} p e d = go d
+  pub advanced : {s us ws₀ ws fs : List ℕ} {r : ℕ} → AtPlan n ks xs ys s us → ws₀ ≡ waysRow ks s → Binds N fs us → StepTaken N fs us (length xs) ws r → Advanced N ks s ws r
+  advanced {s} {us} {ws₀} {ws} {fs} {r} p e t d = go d
     where
-      go : StepTaken N us (length xs) ws r → Advanced N ks s ws r
+      go : StepTaken N fs us (length xs) ws r → Advanced N ks s ws r
       go (stepped-at l g z f c) =
           let below : r < length (N .reaches) = omega (arith, many, v .ends-a) in
-          moved (parted p below g z c) (plan-next n ks xs ys p e d l ∙ ap plan (bytes ws)) (subst (λ p. isPlan N p ≡ true) (bytes ws) (c .least .is-plan))
+          moved (parted p (t .tries) below g z c) (plan-next n ks xs ys p e t d l ∙ ap plan (bytes ws)) (subst (λ p. isPlan N p ≡ true) (bytes ws) (c .least .is-plan))
           (c .oriented ∙ ap (ways (N .reaches)) (bytes ws) ∙ row-ways ks xs ys (v .ends-a) (v .ends-b) (bytesRow ks ws))
-      go (no-step m f) = at-last (m ∙ many) (plan-last n ks xs ys p e d (λ l. omega (arith, many, v .ends-a)))
+      go (no-step m f) = at-last (m ∙ many) (plan-last n ks xs ys p e t d (λ l. omega (arith, many, v .ends-a)))

@@ -12,6 +12,7 @@ use Rattle.network.specs.Settings.{isGated}
 use Rattle.network.specs.Plans.{isPlan}
 use Rattle.network.specs.Replies.{plan, refused, nextAnswer}
 use Rattle.tables.specs.Rows.{netOf, gatesIn, waysRow, bytesRow}
+use Rattle.orientations.specs.Partials.{Binds}
 use Rattle.seeking.specs.Seeks.{AtPlan}
 
 -- The number of gated reaches before reach r, by their kinds: the place of a gate's byte in a setting.
@@ -32,11 +33,7 @@ pub data Advanced (N : Network) (ks s : List ℕ) : List ℕ → ℕ → Type 0 
       → ws′ ≡ waysRow ks (bytesRow ks ws′) → Advanced N ks s ws′ r
   at-last : {ws′ : List ℕ} {r : ℕ} → r ≡ length ks → nextAnswer N s ≡ refused LastPlan → Advanced N ks s ws′ r
 
--- The ways us are those of a plan.
-pub record PlanWays (n : ℕ) (ks xs ys us : List ℕ) : Type 0 where
-  pub its-plan : List ℕ
-  pub stands : AtPlan n ks xs ys its-plan us
-
--- A step from the ways us, which are those of one plan: to the next of it.
-pub record AdvancedFrom (n : ℕ) (ks xs ys us ws′ : List ℕ) (r : ℕ) : Type 0 where
-  pub from : (s : List ℕ) → AtPlan n ks xs ys s us → Advanced (netOf n ks xs ys) ks s ws′ r
+-- A step from the ways us, which are those of one plan, to the next of it: so it is in the table of all kinds ks of which fs tries gates, where what fs
+-- does not try has one way in all plans.
+pub record AdvancedFrom (n : ℕ) (fs xs ys us ws′ : List ℕ) (r : ℕ) : Type 0 where
+  pub from : (ks s : List ℕ) → AtPlan n ks xs ys s us → Binds (netOf n ks xs ys) fs us → Advanced (netOf n ks xs ys) ks s ws′ r

@@ -7,7 +7,7 @@ ghost use Prim.Native.Nat.{_≤_};
 ghost use lib.ListN.{length, take, drop};
 ghost use Rattle.tables.specs.Rows.{gatesIn, bytesRow};
 ghost use Rattle.orienting.specs.Ready.{Ready};
-ghost use Rattle.stepping.specs.Advances.{gatesBefore, PlanWays, AdvancedFrom};
+ghost use Rattle.stepping.specs.Advances.{gatesBefore, AdvancedFrom};
 
 // Copies a row over one of the same length.
 fn copy_row(from: &[u8], to: &mut [u8])
@@ -17,12 +17,13 @@ fn copy_row(from: &[u8], to: &mut [u8])
     bytes::copy(from, to);
 }
 
-// From a plan, whose ways stand in `ways`, to the next: its ways stand there then.
+// From a plan, whose ways stand in `ways`, to the next: its ways stand there then. A gate that has one way in all plans is not tried if `tried` has another
+// kind in its place.
 // Returns the number of the gate at which the next parts from the plan, or the number of reaches if no plan is later: the ways are then free. What it
 // leaves in `under`, in seen and in the queue is free.
 pub fn advance(
     n: usize,
-    kinds: &[u8],
+    tried: &[u8],
     a: &[u16],
     b: &[u16],
     under: &mut [u8],
@@ -33,13 +34,13 @@ pub fn advance(
     queue: &mut [u16],
 ) -> usize
     requires { ⌜ Ready n (now a) (now b) (now ways) (now head) (now next) (now seen) (now queue) ⌝ }
-    requires { ⌜ PlanWays n (now kinds) (now a) (now b) (now ways) ⌝ }
+    requires { ⌜ length (now tried) ≡ length (now a) ⌝ }
     requires { ⌜ length (now under) ≡ length (now ways) ⌝ }
-    ensures { λ r. ⌜ AdvancedFrom n (now (kinds .entry)) (now (a .entry)) (now (b .entry)) (now (ways .entry)) (now (ways .exit)) r ⌝ }
+    ensures { λ r. ⌜ AdvancedFrom n (now (tried .entry)) (now (a .entry)) (now (b .entry)) (now (ways .entry)) (now (ways .exit)) r ⌝ }
 {
     copy_row(ways, under);
     let m = a.len();
-    seeking::step(n, kinds, a, b, under, ways, head, next, m, seen, queue)
+    seeking::step(n, tried, a, b, under, ways, head, next, m, seen, queue)
 }
 
 // Puts the bytes of the gates from reach r on into a plan in which those of the gates before it stand. The reaches have g gates.

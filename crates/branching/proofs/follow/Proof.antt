@@ -16,7 +16,7 @@ use Rattle.branching.proofs.follow.Lts as lts
 
 abbrev Inv-loop : tie.InvT-loop
 Inv-loop n kinds a b under ways₀ head next seen₀ queue₀ i₀ ways seen queue i =
-    (i ≤ length a) × Ready n a b ways head next seen queue × Along (netOf n kinds a b) under ways i
+    (i ≤ length a) × Ready n a b ways head next seen queue × Along (netOf n kinds a b) kinds under ways i
     × (length ways ≡ length ways₀) × (length seen ≡ length seen₀) × (length queue ≡ length queue₀)
 
 abbrev μ-loop : tie.MeasureT-loop
@@ -45,7 +45,7 @@ returns : tie.Need-returns Inv-loop μ-loop
 returns c =
     let s = c .before .before .before .before .before .before .before .before .before .before .before .before .before .before .before .before .before .before .before .before .before .before in
     let l = (c .before .before .before .before .before .before .before .before .before .before .before .before) .loop in
-    follow-off (s .args .n) (s .args .kinds .now) (s .args .a .now) (s .args .b .now) (sym (s .pre .1 .0 .kinds-full)) (s .pre .0 .table .paired ∙ sym (s .pre .1 .0 .kinds-full)) (s .args .under .now) (s .pre .1 .0 .under) (s .pre .1 .0 .accepted) (l .i) (omega (arith, (c .before .before .before .before .before .before .before .before .before .before .before) .loop-test .taken, s .pre .1 .0 .kinds-full)) (l .ways) (l .inv .2) ((c .before .before .before .before .before .before .before) .orient-as .ensures) (not-true _ (c .if1 .taken))
+    follow-off (s .args .n) (s .args .kinds .now) (s .args .a .now) (s .args .b .now) (sym (s .pre .1 .0 .kinds-full)) (s .pre .0 .table .paired ∙ sym (s .pre .1 .0 .kinds-full)) (s .args .under .now) (s .pre .1 .0 .under) (s .args .kinds .now) (s .pre .1 .0 .tries) (s .pre .1 .0 .accepted) (l .i) (omega (arith, (c .before .before .before .before .before .before .before .before .before .before .before) .loop-test .taken, s .pre .1 .0 .kinds-full)) (l .ways) (l .inv .2) ((c .before .before .before .before .before .before .before) .orient-as .ensures) (not-true _ (c .if1 .taken))
 
 add-i : tie.Need-add-i Inv-loop μ-loop
 add-i c = omega arith
@@ -60,7 +60,7 @@ loop-again c =
     let k = (c .before .before .before .before .before .before .before) .orient-as .kept in (
       omega arith,
       ready-notes _ _ (ready-ways _ (l .inv .1) (k .1 .1 .1 .1 .1 .0)) (k .1 .1 .1 .1 .1 .1 .1 .1 .1 .0) (k .1 .1 .1 .1 .1 .1 .1 .1 .1 .1 .0),
-      rw add-one (follow-on (s .args .n) (s .args .kinds .now) (s .args .a .now) (s .args .b .now) (sym (s .pre .1 .0 .kinds-full)) (s .pre .0 .table .paired ∙ sym (s .pre .1 .0 .kinds-full)) (s .args .under .now) (s .pre .1 .0 .under) (s .pre .1 .0 .accepted) (l .i) (omega (arith, (c .before .before .before .before .before .before .before .before .before .before .before) .loop-test .taken, s .pre .1 .0 .kinds-full)) (l .ways) (l .inv .2) ((c .before .before .before .before .before .before .before) .orient-as .ensures) (not-false _ (c .if1 .left))),
+      rw add-one (follow-on (s .args .n) (s .args .kinds .now) (s .args .a .now) (s .args .b .now) (sym (s .pre .1 .0 .kinds-full)) (s .pre .0 .table .paired ∙ sym (s .pre .1 .0 .kinds-full)) (s .args .under .now) (s .pre .1 .0 .under) (s .args .kinds .now) (s .pre .1 .0 .tries) (s .pre .1 .0 .accepted) (l .i) (omega (arith, (c .before .before .before .before .before .before .before .before .before .before .before) .loop-test .taken, s .pre .1 .0 .kinds-full)) (l .ways) (l .inv .2) ((c .before .before .before .before .before .before .before) .orient-as .ensures) (not-false _ (c .if1 .left))),
       k .1 .1 .1 .1 .1 .0 ∙ l .inv .3,
       k .1 .1 .1 .1 .1 .1 .1 .1 .1 .0 ∙ l .inv .4,
       k .1 .1 .1 .1 .1 .1 .1 .1 .1 .1 .0 ∙ l .inv .5,
@@ -79,7 +79,7 @@ returns-2 : tie.Need-returns-2 Inv-loop μ-loop
 returns-2 c =
     let s = c .before .before .before .before .before .before .before .before .before .before .before in
     let l = (c .before) .loop in
-    follow-done (s .args .n) (s .args .kinds .now) (s .args .a .now) (s .args .b .now) (sym (s .pre .1 .0 .kinds-full)) (s .pre .0 .table .paired ∙ sym (s .pre .1 .0 .kinds-full)) (s .args .under .now) (s .pre .1 .0 .under) (l .ways) (l .i) (omega (arith, l .inv .0, c .loop-test .left, s .pre .1 .0 .kinds-full)) (l .inv .2)
+    follow-done (s .args .n) (s .args .kinds .now) (s .args .a .now) (s .args .b .now) (sym (s .pre .1 .0 .kinds-full)) (s .pre .0 .table .paired ∙ sym (s .pre .1 .0 .kinds-full)) (s .args .under .now) (s .pre .1 .0 .under) (s .args .kinds .now) (s .pre .1 .0 .tries) (l .ways) (l .i) (omega (arith, l .inv .0, c .loop-test .left, s .pre .1 .0 .kinds-full)) (l .inv .2)
 
 pub follow-spec : {M : Type 1} → statement M
 follow-spec =

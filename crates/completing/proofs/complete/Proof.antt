@@ -1,12 +1,15 @@
 -- `completing::complete` meets its contract: as for `greedy`, and no gate is stuck, since none is a bridge.
 -- Assumes nothing.
-use Prim.Native.Nat.{_≤_, _-_}
+use Prim.Native.Nat.{ℕ, _≤_, _-_}
 use native.Mathlib.Omega.{arith}
 use native.Mathlib.Numerals.{add-one}
 use mathlib.Core.Path.{_≡_, refl, sym, _∙_}
+use mathlib.Core.List.{List}
 use lib.ListN.{length}
 use Rattle.tables.specs.Rows.{netOf}
+use Rattle.orientations.specs.Partials.{Bridgeless}
 use Rattle.orienting.specs.Ready.{Ready}
+use Rattle.completing.specs.Greedy.{Completable}
 use Rattle.orientations.proofs.Goings.{Going, starts}
 use Rattle.completing.proofs.Goings.{going-settled, going-complete}
 use Rattle.orienting.proofs.Readies.{ready-ways, ready-notes}
@@ -14,18 +17,19 @@ use Rattle.completing.proofs.complete.Statement.{statement}
 use Rattle.completing.proofs.complete.Tie as tie
 
 abbrev Inv-loop : tie.InvT-loop
-Inv-loop n kinds a b ways₀ head next from seen₀ queue₀ i₀ ways seen queue i =
-    (i ≤ length a) × Ready n a b ways head next seen queue × Going (netOf n kinds a b) ways₀ from ways i
+Inv-loop n tried a b ways₀ head next from seen₀ queue₀ i₀ ways seen queue i =
+    (i ≤ length a) × Ready n a b ways head next seen queue
+    × ((ks : List ℕ) → Completable n ks tried a b ways₀ from → Bridgeless (netOf n ks a b) → Going (netOf n ks a b) tried ways₀ from ways i)
     × (length ways ≡ length ways₀) × (length seen ≡ length seen₀) × (length queue ≡ length queue₀)
 
 abbrev μ-loop : tie.MeasureT-loop
-μ-loop n kinds a b ways₀ head next from seen₀ queue₀ i₀ ways seen queue i = length a - i
+μ-loop n tried a b ways₀ head next from seen₀ queue₀ i₀ ways seen queue i = length a - i
 
 loop-holds : tie.Need-loop-holds Inv-loop μ-loop
-loop-holds c = let s = c .before .before .before .before .before .before .before .before in (s .pre .1 .0 .bound, s .pre .0, starts (s .pre .1 .0 .begun), refl, refl, refl)
+loop-holds c = let s = c .before .before .before .before .before .before .before .before in (s .pre .1 .1, s .pre .0, (λ ks p b. starts (p .begun)), refl, refl, refl)
 
 settle-requires : tie.Need-settle-requires Inv-loop μ-loop
-settle-requires c κs = let l = (c .before .before .before .before) .loop .inv in record { ready = l .1; kinds-full = (c .before .before .before .before .before .before .before .before .before .before .before .before .before) .pre .1 .0 .kinds-full; below = (c .before .before .before) .loop-test .taken }
+settle-requires c κs = let l = (c .before .before .before .before) .loop .inv in record { ready = l .1; kinds-full = (c .before .before .before .before .before .before .before .before .before .before .before .before .before) .pre .1 .0; below = (c .before .before .before) .loop-test .taken }
 
 add-i : tie.Need-add-i Inv-loop μ-loop
 add-i c = omega arith
@@ -41,9 +45,9 @@ loop-again c =
     let k = t .kept in (
       omega (arith, (c .before .before .before .before .before .before .before .before .before .before) .loop-test .taken),
       ready-notes _ _ (ready-ways _ (l .inv .1) (k .1 .1 .1 .1 .0)) (k .1 .1 .1 .1 .1 .1 .1 .1 .0) (k .1 .1 .1 .1 .1 .1 .1 .1 .1 .0),
-      rw add-one
-          (going-settled (s .args .n) (s .args .kinds .now) (s .args .a .now) (s .args .b .now) (sym (s .pre .1 .0 .kinds-full)) (s .pre .0 .table .paired ∙ sym (s .pre .1 .0 .kinds-full)) (s .pre .1 .0 .accepted)
-          (s .args .ways .now) (s .args .from) (l .ways) (l .i) (omega (arith, (c .before .before .before .before .before .before .before .before .before .before) .loop-test .taken, s .pre .1 .0 .kinds-full)) (l .inv .2) (s .pre .1 .1 (l .i)) (t .ensures)),
+      (λ ks p b. rw add-one
+          (going-settled (s .args .n) ks (s .args .a .now) (s .args .b .now) (sym (p .kinds-full)) (s .pre .0 .table .paired ∙ sym (p .kinds-full)) (p .accepted) (s .args .tried .now)
+          (s .args .ways .now) (s .args .from) (l .ways) (l .i) (omega (arith, (c .before .before .before .before .before .before .before .before .before .before) .loop-test .taken, p .kinds-full)) (l .inv .2 ks p b) (b (l .i)) (t .ensures))),
       k .1 .1 .1 .1 .0 ∙ l .inv .3,
       k .1 .1 .1 .1 .1 .1 .1 .1 .0 ∙ l .inv .4,
       k .1 .1 .1 .1 .1 .1 .1 .1 .1 .0 ∙ l .inv .5,
@@ -62,8 +66,8 @@ returns : tie.Need-returns Inv-loop μ-loop
 returns c =
     let s = c .before .before .before .before .before .before .before .before .before .before in
     let l = (c .before) .loop in
-    going-complete (s .args .n) (s .args .kinds .now) (s .args .a .now) (s .args .b .now) (sym (s .pre .1 .0 .kinds-full)) (s .pre .0 .table .paired ∙ sym (s .pre .1 .0 .kinds-full))
-    (s .args .ways .now) (s .args .from) (l .ways) (l .i) (omega (arith, l .inv .0, c .loop-test .left, s .pre .1 .0 .kinds-full)) (l .inv .2)
+    record { from = λ ks p b. going-complete (s .args .n) ks (s .args .a .now) (s .args .b .now) (sym (p .kinds-full)) (s .pre .0 .table .paired ∙ sym (p .kinds-full)) (s .args .tried .now)
+    (s .args .ways .now) (s .args .from) (l .ways) (l .i) (omega (arith, l .inv .0, c .loop-test .left, p .kinds-full)) (l .inv .2 ks p b) }
 
 pub complete-spec : {M : Type 1} → statement M
 complete-spec = tie.close (tie.spec Inv-loop μ-loop loop-holds settle-requires add-i loop-less loop-again same-length same-length-2 same-length-3 returns)

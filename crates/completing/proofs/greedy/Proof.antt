@@ -9,7 +9,7 @@ use borrow.Author.Tests.{not-true, not-false}
 use Rattle.tables.specs.Rows.{netOf}
 use Rattle.orienting.specs.Ready.{Ready}
 use Rattle.orientations.proofs.Goings.{Going, starts}
-use Rattle.completing.proofs.Goings.{going-on, going-bridge, going-done}
+use Rattle.completing.proofs.Goings.{going-on, going-bridge, plain-clear, going-done}
 use Rattle.orienting.proofs.Readies.{ready-ways, ready-notes}
 use Rattle.completing.proofs.greedy.Statement.{statement}
 use Rattle.completing.proofs.greedy.Tie as tie
@@ -17,7 +17,7 @@ use Rattle.completing.proofs.greedy.Lts as lts
 
 abbrev Inv-loop : tie.InvT-loop
 Inv-loop n kinds a b ways₀ head next from seen₀ queue₀ i₀ ways seen queue i =
-    (i ≤ length a) × Ready n a b ways head next seen queue × Going (netOf n kinds a b) ways₀ from ways i
+    (i ≤ length a) × Ready n a b ways head next seen queue × Going (netOf n kinds a b) kinds ways₀ from ways i
     × (length ways ≡ length ways₀) × (length seen ≡ length seen₀) × (length queue ≡ length queue₀)
 
 abbrev μ-loop : tie.MeasureT-loop
@@ -42,7 +42,7 @@ returns : tie.Need-returns Inv-loop μ-loop
 returns c =
     let s = c .before .before .before .before .before .before .before .before .before .before .before .before .before .before .before .before .before .before .before .before .before in
     let l = (c .before .before .before .before .before .before .before .before .before .before .before .before) .loop in
-    going-bridge (s .args .n) (s .args .kinds .now) (s .args .a .now) (s .args .b .now) (sym (s .pre .1 .kinds-full)) (s .pre .0 .table .paired ∙ sym (s .pre .1 .kinds-full)) (s .pre .1 .accepted)
+    going-bridge (s .args .n) (s .args .kinds .now) (s .args .a .now) (s .args .b .now) (sym (s .pre .1 .kinds-full)) (s .pre .0 .table .paired ∙ sym (s .pre .1 .kinds-full)) (s .pre .1 .accepted) (s .args .kinds .now)
     (s .args .ways .now) (s .args .from) (l .ways) (l .i) (omega (arith, (c .before .before .before .before .before .before .before .before .before .before .before) .loop-test .taken, s .pre .1 .kinds-full)) (l .inv .2) _ ((c .before .before .before .before .before .before .before) .orient-gate .ensures) (not-true _ (c .if1 .taken))
 
 add-i : tie.Need-add-i Inv-loop μ-loop
@@ -59,8 +59,8 @@ loop-again c =
       omega arith,
       ready-notes _ _ (ready-ways _ (l .inv .1) (k .1 .1 .1 .1 .0)) (k .1 .1 .1 .1 .1 .1 .1 .1 .0) (k .1 .1 .1 .1 .1 .1 .1 .1 .1 .0),
       rw add-one
-          (going-on (s .args .n) (s .args .kinds .now) (s .args .a .now) (s .args .b .now) (sym (s .pre .1 .kinds-full)) (s .pre .0 .table .paired ∙ sym (s .pre .1 .kinds-full)) (s .pre .1 .accepted)
-          (s .args .ways .now) (s .args .from) (l .ways) (l .i) (omega (arith, (c .before .before .before .before .before .before .before .before .before .before .before) .loop-test .taken, s .pre .1 .kinds-full)) (l .inv .2) ((c .before .before .before .before .before .before .before) .orient-gate .ensures) (not-false _ (c .if1 .left))),
+          (going-on (s .args .n) (s .args .kinds .now) (s .args .a .now) (s .args .b .now) (sym (s .pre .1 .kinds-full)) (s .pre .0 .table .paired ∙ sym (s .pre .1 .kinds-full)) (s .pre .1 .accepted) (s .args .kinds .now)
+          (s .args .ways .now) (s .args .from) (l .ways) (l .i) (omega (arith, (c .before .before .before .before .before .before .before .before .before .before .before) .loop-test .taken, s .pre .1 .kinds-full)) (l .inv .2) (plain-clear (s .args .n) (s .args .kinds .now) (s .args .a .now) (s .args .b .now) (sym (s .pre .1 .kinds-full)) (s .pre .0 .table .paired ∙ sym (s .pre .1 .kinds-full)) (l .i) (omega (arith, (c .before .before .before .before .before .before .before .before .before .before .before) .loop-test .taken, s .pre .1 .kinds-full))) ((c .before .before .before .before .before .before .before) .orient-gate .ensures) (not-false _ (c .if1 .left))),
       k .1 .1 .1 .1 .0 ∙ l .inv .3,
       k .1 .1 .1 .1 .1 .1 .1 .1 .0 ∙ l .inv .4,
       k .1 .1 .1 .1 .1 .1 .1 .1 .1 .0 ∙ l .inv .5,
@@ -79,7 +79,7 @@ returns-2 : tie.Need-returns-2 Inv-loop μ-loop
 returns-2 c =
     let s = c .before .before .before .before .before .before .before .before .before .before in
     let l = (c .before) .loop in
-    going-done (s .args .n) (s .args .kinds .now) (s .args .a .now) (s .args .b .now) (sym (s .pre .1 .kinds-full)) (s .pre .0 .table .paired ∙ sym (s .pre .1 .kinds-full))
+    going-done (s .args .n) (s .args .kinds .now) (s .args .a .now) (s .args .b .now) (sym (s .pre .1 .kinds-full)) (s .pre .0 .table .paired ∙ sym (s .pre .1 .kinds-full)) (s .args .kinds .now)
     (s .args .ways .now) (s .args .from) (l .ways) (l .seen) (l .i) (omega (arith, l .inv .0, c .loop-test .left, s .pre .1 .kinds-full)) (l .inv .2)
 
 pub greedy-spec : {M : Type 1} → statement M

@@ -9,7 +9,7 @@ use Rattle.seeking.proofs.step.Statement.{statement}
 use Rattle.seeking.proofs.step.Tie as tie
 
 turn-back-requires : tie.Need-turn-back-requires
-turn-back-requires c κs = let s = c .before .before .before .before .before .before .before .before .before .before .before .before in (s .pre .0, (part-following (s .args .n) (s .args .kinds .now) (s .args .a .now) (s .args .b .now) (s .pre .1), s .pre .1 .connected-below))
+turn-back-requires c κs = c .before .before .before .before .before .before .before .before .before .before .before .before .pre
 
 add-complete : tie.Need-add-complete
 add-complete c = search needs
@@ -19,7 +19,7 @@ complete-requires c κs =
     let s = c .before .before .before .before .before .before .before .before .before .before .before .before .before .before .before .before .before .before .before .before .before .before .before in
     let t = c .before .before .before .before .before .before .before .before .before .before .turn-back in (
       ready-ways _ (ready-notes _ _ (s .pre .0) (t .kept .1 .1 .1 .1 .1 .1 .1 .1 .1 .0) (t .kept .1 .1 .1 .1 .1 .1 .1 .1 .1 .1 .0)) (t .kept .1 .1 .1 .1 .1 .0),
-      (step-completable (s .args .n) (s .args .kinds .now) (s .args .a .now) (s .args .b .now) (s .pre .1) (t .ensures) (c .before .before .before .if1 .taken), bridgeless _ (s .pre .1 .some-plan)),
+      (s .pre .1 .0, omega (arith, c .before .before .before .if1 .taken)),
     )
 
 same-length : tie.Need-same-length
@@ -32,7 +32,16 @@ same-length-3 : tie.Need-same-length-3
 same-length-3 c = c .before .before .before .before .before .before .complete .kept .1 .1 .1 .1 .1 .1 .1 .1 .1 .0 ∙ c .before .before .before .before .before .before .before .before .before .before .before .before .before .before .before .before .before .turn-back .kept .1 .1 .1 .1 .1 .1 .1 .1 .1 .1 .0
 
 returns : tie.Need-returns
-returns c = let s = c .before .before .before .before .before .before .before .before .before .before .before .before .before .before .before .before .before .before .before .before .before .before .before .before .before .before .before .before .before .before in step-made (s .args .n) (s .args .kinds .now) (s .args .a .now) (s .args .b .now) (s .pre .1) (c .before .before .before .before .before .before .before .before .before .before .before .before .before .before .before .before .before .turn-back .ensures) (c .before .before .before .before .before .before .before .before .before .before .if1 .taken) (c .before .before .before .before .before .before .complete .ensures)
+returns c =
+    let s = c .before .before .before .before .before .before .before .before .before .before .before .before .before .before .before .before .before .before .before .before .before .before .before .before .before .before .before .before .before .before in
+    let t = c .before .before .before .before .before .before .before .before .before .before .before .before .before .before .before .before .before .turn-back .ensures in
+    let l = c .before .before .before .before .before .before .before .before .before .before .if1 .taken in
+    record {
+      from = λ ks p.
+          let d = t .from ks (part-following (s .args .n) ks (s .args .a .now) (s .args .b .now) p) (p .connected-below) in
+          step-made (s .args .n) ks (s .args .a .now) (s .args .b .now) p d l
+          (c .before .before .before .before .before .before .complete .ensures .from ks (step-completable (s .args .n) ks (s .args .a .now) (s .args .b .now) p d l) (bridgeless _ (p .some-plan)));
+    }
 
 same-length-4 : tie.Need-same-length-4
 same-length-4 c = c .before .before .before .before .before .before .before .turn-back .kept .1 .1 .1 .1 .1 .0
@@ -44,7 +53,14 @@ same-length-6 : tie.Need-same-length-6
 same-length-6 c = c .before .before .before .before .before .before .before .turn-back .kept .1 .1 .1 .1 .1 .1 .1 .1 .1 .1 .0
 
 returns-2 : tie.Need-returns-2
-returns-2 c = let s = c .before .before .before .before .before .before .before .before .before .before .before .before .before .before .before .before .before .before .before .before in step-none (s .args .n) (s .args .kinds .now) (s .args .a .now) (s .args .b .now) (s .pre .1) (c .before .before .before .before .before .before .before .turn-back .ensures) _ (λ l. omega (arith, c .if1 .left))
+returns-2 c =
+    let s = c .before .before .before .before .before .before .before .before .before .before .before .before .before .before .before .before .before .before .before .before in
+    let t = c .before .before .before .before .before .before .before .turn-back .ensures in
+    record {
+      from = λ ks p.
+          step-none (s .args .n) ks (s .args .a .now) (s .args .b .now) p (t .from ks (part-following (s .args .n) ks (s .args .a .now) (s .args .b .now) p) (p .connected-below)) _
+          (λ l. omega (arith, c .if1 .left));
+    }
 
 pub step-spec : {M : Type 1} → statement M
 step-spec = tie.close (tie.spec turn-back-requires add-complete complete-requires same-length same-length-2 same-length-3 returns same-length-4 same-length-5 same-length-6 returns-2)

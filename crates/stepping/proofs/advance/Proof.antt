@@ -1,8 +1,12 @@
 -- `stepping::advance` meets its contract: a step from the plan's end.
 -- Assumes nothing.
 use Prim.Native.Nat.{ℕ}
-use mathlib.Core.Path.{sym, subst}
+use native.Mathlib.Omega.{arith}
+use mathlib.Core.Path.{sym, ap, subst, _∙_}
 use mathlib.Core.List.{List}
+use lib.ListN.{length}
+use Rattle.tables.specs.Rows.{netOf}
+use Rattle.orientations.specs.Partials.{Binds}
 use borrow.Author.Needs.{needs}
 use Rattle.seeking.specs.Seeks.{AtPlan}
 use Rattle.seeking.proofs.Seeks.{plan-partable}
@@ -10,11 +14,11 @@ use Rattle.stepping.proofs.Advances.{advanced}
 use Rattle.stepping.proofs.advance.Statement.{statement}
 use Rattle.stepping.proofs.advance.Tie as tie
 
--- a plan's ways are copied, and stand in both rows
+-- the ways are copied, and stand in both rows
 copied :
-    (c : tie.After-copy-row) (p : List ℕ) → let s = c .before .before .before .before .before .before .before .before .before .before .before .before .args in
-    AtPlan (s .n) (s .kinds .now) (s .a .now) (s .b .now) p (s .ways .now) → AtPlan (s .n) (s .kinds .now) (s .a .now) (s .b .now) p (c .copy-row .last .1 .0)
-copied c p h = let s = c .before .before .before .before .before .before .before .before .before .before .before .before .args in subst (λ u. AtPlan (s .n) (s .kinds .now) (s .a .now) (s .b .now) p u) (sym (c .copy-row .ensures)) h
+    (c : tie.After-copy-row) (ks p : List ℕ) → let s = c .before .before .before .before .before .before .before .before .before .before .before .before .args in
+    AtPlan (s .n) ks (s .a .now) (s .b .now) p (s .ways .now) → AtPlan (s .n) ks (s .a .now) (s .b .now) p (c .copy-row .last .1 .0)
+copied c ks p h = let s = c .before .before .before .before .before .before .before .before .before .before .before .before .args in subst (λ u. AtPlan (s .n) ks (s .a .now) (s .b .now) p u) (sym (c .copy-row .ensures)) h
 
 copy-row-requires : tie.Need-copy-row-requires
 copy-row-requires c κs = search needs
@@ -22,8 +26,7 @@ copy-row-requires c κs = search needs
 step-requires : tie.Need-step-requires
 step-requires c κs =
     let s = c .before .before .before .before .before .before .before .before .before .before .before .before .before .before .before .before .before .before in
-    let h = s .pre .1 .0 in
-    (s .pre .0, plan-partable (s .args .n) (s .args .kinds .now) (s .args .a .now) (s .args .b .now) (copied (c .before .before .before .before .before .before) (h .its-plan) (h .stands)) (h .stands .oriented))
+    (s .pre .0, (s .pre .1 .0, (ap length (c .before .before .before .before .before .before .copy-row .ensures) ∙ s .pre .0 .ways-full, omega arith)))
 
 same-length : tie.Need-same-length
 same-length c = search needs
@@ -40,7 +43,14 @@ same-length-4 c = search needs
 returns : tie.Need-returns
 returns c =
     let s = c .before .before .before .before .before .before .before .before .before .before .before .before .before .before .before .before .before .before .before .before .before .before .before .before .before .args in
-    record { from = λ p h. advanced (s .n) (s .kinds .now) (s .a .now) (s .b .now) (h .level) (copied (c .before .before .before .before .before .before .before .before .before .before .before .before .before) p h) (h .oriented) (c .before .before .before .before .before .before .step .ensures) }
+    let t = c .before .before .before .before .before .before .before .before .before .before .before .before .before in
+    record {
+      from = λ ks p h f.
+          let h′ = copied t ks p h in
+          let f′ = subst (λ u. Binds (netOf (s .n) ks (s .a .now) (s .b .now)) (s .tried .now) u) (sym (t .copy-row .ensures)) f in
+          advanced (s .n) ks (s .a .now) (s .b .now) (h .level) h′ (h .oriented) f′
+          (c .before .before .before .before .before .before .step .ensures .from ks (plan-partable (s .n) ks (s .a .now) (s .b .now) h′ (h .oriented) f′));
+    }
 
 pub advance-spec : {M : Type 1} → statement M
 advance-spec = tie.close (tie.spec copy-row-requires step-requires same-length same-length-2 same-length-3 same-length-4 returns)
