@@ -10,7 +10,7 @@ ghost use Rattle.orienting.specs.Ready.{Ready};
 ghost use Rattle.stepping.specs.Advances.{gatesBefore, AdvancedFrom};
 
 // Copies a row over one of the same length.
-fn copy_row(from: &[u8], to: &mut [u8])
+pub fn copy_row(from: &[u8], to: &mut [u8])
     requires { ⌜ length (now to) ≡ length (now from) ⌝ }
     ensures { λ _. ⌜ now (to .exit) ≡ now (from .entry) ⌝ }
 {

@@ -1,0 +1,2 @@
+-- The laws of trying bound gates no more.
+pub mod Skips

@@ -1,0 +1,2 @@
+-- What the contracts of the functions that look for bound gates say.
+pub mod Skips
