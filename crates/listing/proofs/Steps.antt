@@ -6,8 +6,8 @@ use mathlib.Core.Path.{_≡_, refl, sym, ap, subst, subst⁻¹, _∙_}
 use mathlib.Core.Logic.{⊎-elim}
 use mathlib.Core.Bool.{Bool, true, false, true≢false}
 use mathlib.Core.List.{List, _++_}
-use lib.ListN.{length, take, drop}
-use lib.Seq.{take-take}
+use lib.ListN.{length, getD, take, drop}
+use lib.Seq.{take-take, take-all}
 use Rattle.network.specs.declared.Refusal.the-variants.{LastPlan}
 use Rattle.network.specs.Networks.{Network, maxBasins, maxReaches}
 use Rattle.network.specs.Settings.{settingFault}
@@ -19,12 +19,16 @@ use Rattle.network.proofs.Networks.{accepted, gates-fit}
 use Rattle.network.proofs.Order.{setting-length, plan-setting}
 use Rattle.tables.specs.Rows.{netOf, gatesIn, waysRow, bytesRow, gatesHeld}
 use Rattle.tables.proofs.Laws.{row-gates}
+use Rattle.orientations.specs.Partials.{Binds}
 use Rattle.orienting.specs.Ready.{Ready}
 use Rattle.seeking.specs.Seeks.{AtPlan}
+use Rattle.seeking.proofs.Levels.{under-row}
+use Rattle.seeking.proofs.Seeks.{plan-binds}
+use Rattle.skipping.specs.Skips.{BindsStill}
 use Rattle.stepping.specs.Advances.{gatesBefore, PartsAt, Advanced, moved, at-last}
 use Rattle.priming.specs.Priming.{Spare, Primed}
 use Rattle.stepping.proofs.Rewrites.{gates-split}
-use Rattle.priming.proofs.Priming.{spare-ready}
+use Rattle.priming.proofs.Priming.{spare-ways, spare-ready}
 use Rattle.lines.specs.declared.Due.{Due}
 use Rattle.lines.specs.declared.Due.the-variants as D
 use Rattle.listing_state.specs.declared.Lister.{Lister}
@@ -32,7 +36,7 @@ use Rattle.lines.specs.Listings.{replyLines}
 use Rattle.lines.specs.Dues.{planDue}
 use Rattle.listing_state.specs.Pending.{pendingOf, stateNet}
 use Rattle.listing_state.specs.Parts.{LineAfter}
-use Rattle.listing.specs.Keeping.{Standing, Kept, unknown, kept}
+use Rattle.listing.specs.Keeping.{Placed, Standing, Kept, unknown, kept}
 use Rattle.line_steps.specs.Steps.{afterStep, FrontStands}
 use Rattle.line_steps.proofs.Steps.{after-last, after-next}
 use Rattle.listing_state.proofs.States.{GivenPlan, roomy, plan-held, reply-pending}
@@ -101,12 +105,23 @@ module _ (l : Lister) (ks xs ys ws : List ℕ) (left g : ℕ) (held : g ≡ gate
     in-hand : take g bytes ≡ q
     in-hand = ap (take g) put ∙ ap (λ (k : ℕ). take k (q ++ drop g (l .setting))) held ∙ plan-held N q given (drop g (l .setting))
 
-    next-stands : Standing (l .basins) ks xs ys d (take g bytes) ws′
-    next-stands = subst⁻¹ (λ (x : Due). Standing (l .basins) ks xs ys x (take g bytes) ws′) due (stands left)
+    at-next : AtPlan (l .basins) ks xs ys q ws′
+    at-next = record { level = p .level; is-plan = is; oriented = oriented }
+
+    next-stands : {fs fs′ : List ℕ} → Binds N fs ws → BindsStill (l .basins) ks xs ys ws′ fs fs′ → Standing (l .basins) ks fs′ xs ys d (take g bytes) ws′
+    next-stands {fs} {fs′} h b = subst⁻¹ (λ (x : Due). Standing (l .basins) ks fs′ xs ys x (take g bytes) ws′) due (stands left)
       where
-        stands : (k : ℕ) → Standing (l .basins) ks xs ys (planDue k) (take g bytes) ws′
+        -- what is not tried has its way in the next plan too
+        moved-on : Binds N fs ws′
+        moved-on =
+            record {
+              tries = h .tries;
+              bound = λ j jl n o e. h .bound j jl n o e ∙ sym (ap (λ (v : List ℕ). getD v j 3) (under-row (p .level) q oriented) ∙ h .bound j jl n q is);
+            }
+
+        stands : (k : ℕ) → Standing (l .basins) ks fs′ xs ys (planDue k) (take g bytes) ws′
         stands zero = tt
-        stands (suc k) = subst⁻¹ (λ (v : List ℕ). AtPlan (l .basins) ks xs ys v ws′) in-hand (record { level = p .level; is-plan = is; oriented = oriented })
+        stands (suc k) = record { at-plan = subst⁻¹ (λ (v : List ℕ). AtPlan (l .basins) ks xs ys v ws′) in-hand at-next; binds = b .still q at-next moved-on }
 
   -- a step that was taken: the bytes before the next plan's gate stand, and the state after it
   module _ {ws′ : List ℕ} {r : ℕ} (a : Advanced N ks s ws′ r) where
@@ -125,37 +140,44 @@ module _ (l : Lister) (ks xs ys ws : List ℕ) (left g : ℕ) (held : g ≡ gate
           go (moved d e p′ oriented) = subst (LineAfter N l left) (after-next ks ws′ r l left g (d .below) refl refl) (step-next refl e p′ oriented refl)
           go (at-last y e) = subst (LineAfter N l left) (after-last ks ws′ r l left g (omega (arith, y))) (step-last e)
 
-      pub step-stands : Standing (l .basins) ks xs ys (o .due) (take g (o .setting)) ws′
-      step-stands = subst⁻¹ (λ (x : Lister). Standing (l .basins) ks xs ys (x .due) (take g (x .setting)) ws′) is (go a)
+      pub step-stands : {fs fs′ : List ℕ} → Binds N fs ws → BindsStill (l .basins) ks xs ys ws′ fs fs′ → Standing (l .basins) ks fs′ xs ys (o .due) (take g (o .setting)) ws′
+      step-stands {fs} {fs′} h b = subst⁻¹ at is (go a)
         where
-          go : Advanced N ks s ws′ r → Standing (l .basins) ks xs ys (afterStep ks ws′ r l left g .due) (take g (afterStep ks ws′ r l left g .setting)) ws′
-          go (moved d e p′ oriented) = subst (λ (x : Lister). Standing (l .basins) ks xs ys (x .due) (take g (x .setting)) ws′) (after-next ks ws′ r l left g (d .below) refl refl) (next-stands refl e p′ oriented refl)
-          go (at-last y e) = subst (λ (x : Lister). Standing (l .basins) ks xs ys (x .due) (take g (x .setting)) ws′) (after-last ks ws′ r l left g (omega (arith, y))) tt
+          at : Lister → Type 0
+          at x = Standing (l .basins) ks fs′ xs ys (x .due) (take g (x .setting)) ws′
+
+          go : Advanced N ks s ws′ r → at (afterStep ks ws′ r l left g)
+          go (moved d e p′ oriented) = subst at (after-next ks ws′ r l left g (d .below) refl refl) (next-stands refl e p′ oriented refl h b)
+          go (at-last y e) = subst at (after-last ks ws′ r l left g (omega (arith, y))) tt
 
 -- ---- working memory that is kept
 
-pub record Known (n : ℕ) (ks xs ys : List ℕ) (d : Due) (s us ws head next seen queue : List ℕ) : Type 0 where
+pub record Known (n : ℕ) (ks fs xs ys : List ℕ) (d : Due) (s us ws head next seen queue : List ℕ) : Type 0 where
   pub ready : Ready n xs ys ws head next seen queue
+  pub tried-row : length fs ≡ length xs
   pub spare : length us ≡ length ws
-  pub stands : Standing n ks xs ys d s ws
+  pub stands : Standing n ks fs xs ys d s ws
 
-pub known : {n : ℕ} {ks xs ys : List ℕ} {d : Due} {s us ws head next seen queue : List ℕ} {r : Bool} → Kept n ks xs ys d s us ws head next seen queue r → r ≡ true
-    → Known n ks xs ys d s us ws head next seen queue
+pub known : {n : ℕ} {ks fs xs ys : List ℕ} {d : Due} {s us ws head next seen queue : List ℕ} {r : Bool} → Kept n ks fs xs ys d s us ws head next seen queue r → r ≡ true
+    → Known n ks fs xs ys d s us ws head next seen queue
 known (unknown y) t = clash t y
-known (kept y ready spare stands) t = record { ready = ready; spare = spare; stands = stands }
+known (kept y ready full spare stands) t = record { ready = ready; tried-row = full; spare = spare; stands = stands }
 
--- working memory that was prepared
-pub primed-kept : {n : ℕ} {ks xs ys s us ws ws₀ head head₀ next next₀ seen queue : List ℕ} {r : Bool} (d : Due) → Spare ks ws₀ head₀ next₀ → length ws ≡ length ws₀ → length us ≡ length ws
-    → length seen ≡ maxBasins → length queue ≡ maxBasins → Primed n ks xs ys s ws head next r → Kept n ks xs ys d s us ws head next seen queue r
-primed-kept {n} {ks} {xs} {ys} {s} {us} {ws} {ws₀} {head} {head₀} {next} {next₀} {seen} {queue} {r} d z e f seen-long queue-long p = ⊎-elim stood unknown (decide r)
+-- working memory that was prepared, with all gates tried
+pub primed-kept : {n : ℕ} {ks fs xs ys s us ws ws₀ head head₀ next next₀ seen queue : List ℕ} {r : Bool} (d : Due) → Spare ks ws₀ head₀ next₀ → length ws ≡ length ws₀ → length us ≡ length ws
+    → length seen ≡ maxBasins → length queue ≡ maxBasins → fs ≡ take (length ws₀) ks → Primed n ks xs ys s ws head next r → Kept n ks fs xs ys d s us ws head next seen queue r
+primed-kept {n} {ks} {fs} {xs} {ys} {s} {us} {ws} {ws₀} {head} {head₀} {next} {next₀} {seen} {queue} {r} d z e f seen-long queue-long all p = ⊎-elim stood unknown (decide r)
   where
-    stands : (c : Due) → AtPlan n ks xs ys s ws → Standing n ks xs ys c s ws
+    stands : (c : Due) → Placed n ks fs xs ys s ws → Standing n ks fs xs ys c s ws
     stands (D.Plan left) h = h
     stands D.More h = tt
     stands D.End h = tt
     stands (D.Refused k) h = tt
 
-    stood : r ≡ true → Kept n ks xs ys d s us ws head next seen queue r
+    stood : r ≡ true → Kept n ks fs xs ys d s us ws head next seen queue r
     stood y =
         let v = p .at-plan y .level in
-        kept y (spare-ready v z e (p .indexed y) (omega (arith, seen-long, accepted (netOf n ks xs ys) (v .accepted) .few-basins)) (omega (arith, seen-long, queue-long))) f (stands d (p .at-plan y))
+        let whole : fs ≡ ks = all ∙ ap (λ (k : ℕ). take k ks) (spare-ways v z) ∙ take-all (length ks) ks (omega arith) in
+        kept y (spare-ready v z e (p .indexed y) (omega (arith, seen-long, accepted (netOf n ks xs ys) (v .accepted) .few-basins)) (omega (arith, seen-long, queue-long)))
+        (ap length whole ∙ sym (v .ends-a)) f
+        (stands d (record { at-plan = p .at-plan y; binds = subst⁻¹ (λ (w : List ℕ). Binds (netOf n ks xs ys) w ws) whole (plan-binds n ks xs ys (p .at-plan y)) }))

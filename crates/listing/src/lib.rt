@@ -17,6 +17,7 @@ use listing_state::Lister;
 use network::MAX_BASINS;
 use network::MAX_REACHES;
 use priming::prime;
+use stepping::copy_row;
 use tables::gates_held;
 use tables::least;
 ghost use mathlib.Core.Path.{_≡_};
@@ -29,6 +30,12 @@ ghost use Rattle.listing.specs.Keeping.{Kept};
 ghost use Rattle.listing_state.specs.Pending.{lineOf, stateNet, Filling};
 ghost use Rattle.tables.specs.Rows.{gatesHeld};
 ghost use Rattle.listing_state.specs.Parts.{LineAfter, Turned};
+
+// A state of the lister; and, of its working memory, the first reach of those that were looked at for bound gates (no promise rests on it).
+struct Turn {
+    lister: Lister,
+    known: usize,
+}
 
 // Puts what is left of a state's line, as much as the buffer holds. The plan in hand has g bytes.
 fn put_line(l: Lister, g: usize, out: &mut [u8]) -> usize
@@ -49,46 +56,58 @@ fn put_line(l: Lister, g: usize, out: &mut [u8]) -> usize
 }
 
 // The state after the line of a plan: by a step where the working memory stands at the plan in hand, which it then does again, and else by asking: the
-// working memory is then free, as it was.
+// working memory is then free, as it was. Gates that are found bound are tried no more.
 fn line_after(
     l: Lister,
     left: usize,
     g: usize,
     standing: bool,
+    known: usize,
     kinds: &[u8],
     a: &[u16],
     b: &[u16],
+    tried: &mut [u8],
     under: &mut [u8],
     ways: &mut [u8],
     head: &[u16; MAX_BASINS],
     next: &[u16; HALF_EDGES],
     seen: &mut [u8; MAX_BASINS],
     queue: &mut [u16; MAX_BASINS],
-) -> Lister
+) -> Turn
     requires { ⌜ g ≡ gatesHeld (stateNet l (now kinds) (now a) (now b)) ⌝ }
-    requires { ⌜ Kept (l .basins) (now kinds) (now a) (now b) (Due.Plan left) (take g (l .setting)) (now under) (now ways) (now head) (now next)
+    requires { ⌜ Kept (l .basins) (now kinds) (now tried) (now a) (now b) (Due.Plan left) (take g (l .setting)) (now under) (now ways) (now head) (now next)
         (now seen) (now queue) standing ⌝ }
-    ensures { λ r. ⌜ LineAfter (stateNet l (now (kinds .entry)) (now (a .entry)) (now (b .entry))) l left r ⌝ }
-    ensures { λ r. ⌜ Kept (l .basins) (now (kinds .entry)) (now (a .entry)) (now (b .entry)) (r .due) (take g (r .setting)) (now (under .exit))
-        (now (ways .exit)) (now (head .entry)) (now (next .entry)) (now (seen .exit)) (now (queue .exit)) standing ⌝ }
+    ensures { λ r. ⌜ LineAfter (stateNet l (now (kinds .entry)) (now (a .entry)) (now (b .entry))) l left (r .lister) ⌝ }
+    ensures { λ r. ⌜ Kept (l .basins) (now (kinds .entry)) (now (tried .exit)) (now (a .entry)) (now (b .entry)) (r .lister .due) (take g (r .lister .setting))
+        (now (under .exit)) (now (ways .exit)) (now (head .entry)) (now (next .entry)) (now (seen .exit)) (now (queue .exit)) standing ⌝ }
 {
     if standing {
         let basins = l.basins;
-        let r = stepping::advance(
-            basins as usize,
+        let n = basins as usize;
+        let r = stepping::advance(n, tried, a, b, under, ways, head, next, seen, queue);
+        let noted = skipping::note_bound(
+            n,
             kinds,
             a,
             b,
+            tried,
             under,
             ways,
             head,
             next,
+            r,
+            known,
             seen,
             queue,
         );
-        return after_step(l, left, g, r, kinds, ways);
+        let lister = after_step(l, left, g, r, kinds, ways);
+        return Turn {
+            lister,
+            known: noted,
+        };
     }
-    asked(l, left, g, kinds, a, b)
+    let lister = asked(l, left, g, kinds, a, b);
+    Turn { lister, known }
 }
 
 // The state with something left of its line, if anything is left: where the line of a plan is printed, the state after it. What it leaves in working memory
@@ -97,36 +116,40 @@ fn turned(
     l: Lister,
     g: usize,
     standing: bool,
+    known: usize,
     kinds: &[u8],
     a: &[u16],
     b: &[u16],
+    tried: &mut [u8],
     under: &mut [u8],
     ways: &mut [u8],
     head: &[u16; MAX_BASINS],
     next: &[u16; HALF_EDGES],
     seen: &mut [u8; MAX_BASINS],
     queue: &mut [u16; MAX_BASINS],
-) -> Lister
+) -> Turn
     requires { ⌜ g ≡ gatesHeld (stateNet l (now kinds) (now a) (now b)) ⌝ }
-    requires { ⌜ Kept (l .basins) (now kinds) (now a) (now b) (l .due) (take g (l .setting)) (now under) (now ways) (now head) (now next)
+    requires { ⌜ Kept (l .basins) (now kinds) (now tried) (now a) (now b) (l .due) (take g (l .setting)) (now under) (now ways) (now head) (now next)
         (now seen) (now queue) standing ⌝ }
-    ensures { λ r. ⌜ Turned (stateNet l (now (kinds .entry)) (now (a .entry)) (now (b .entry))) l r ⌝ }
-    ensures { λ r. ⌜ Kept (l .basins) (now (kinds .entry)) (now (a .entry)) (now (b .entry)) (r .due) (take g (r .setting)) (now (under .exit))
-        (now (ways .exit)) (now (head .entry)) (now (next .entry)) (now (seen .exit)) (now (queue .exit)) standing ⌝ }
+    ensures { λ r. ⌜ Turned (stateNet l (now (kinds .entry)) (now (a .entry)) (now (b .entry))) l (r .lister) ⌝ }
+    ensures { λ r. ⌜ Kept (l .basins) (now (kinds .entry)) (now (tried .exit)) (now (a .entry)) (now (b .entry)) (r .lister .due) (take g (r .lister .setting))
+        (now (under .exit)) (now (ways .exit)) (now (head .entry)) (now (next .entry)) (now (seen .exit)) (now (queue .exit)) standing ⌝ }
 {
     let due = l.due;
     match due {
         Due::Plan(left) => if l.at < plan_length(g) {
-            l
+            Turn { lister: l, known }
         } else {
             line_after(
                 l,
                 left,
                 g,
                 standing,
+                known,
                 kinds,
                 a,
                 b,
+                tried,
                 under,
                 ways,
                 head,
@@ -135,9 +158,9 @@ fn turned(
                 queue,
             )
         },
-        Due::More => l,
-        Due::End => l,
-        Due::Refused(_) => l,
+        Due::More => Turn { lister: l, known },
+        Due::End => Turn { lister: l, known },
+        Due::Refused(_) => Turn { lister: l, known },
     }
 }
 
@@ -150,6 +173,7 @@ fn print_lines(
     a: &[u16],
     b: &[u16],
     out: &mut [u8],
+    tried: &mut [u8],
     under: &mut [u8],
     ways: &mut [u8],
     head: &[u16; MAX_BASINS],
@@ -158,20 +182,23 @@ fn print_lines(
     queue: &mut [u16; MAX_BASINS],
 ) -> Filled
     requires { ⌜ g ≡ gatesHeld (stateNet l (now kinds) (now a) (now b)) ⌝ }
-    requires { ⌜ Kept (l .basins) (now kinds) (now a) (now b) (l .due) (take g (l .setting)) (now under) (now ways) (now head) (now next)
+    requires { ⌜ Kept (l .basins) (now kinds) (now tried) (now a) (now b) (l .due) (take g (l .setting)) (now under) (now ways) (now head) (now next)
         (now seen) (now queue) standing ⌝ }
     ensures { λ r. ⌜ Filling l (now (kinds .entry)) (now (a .entry)) (now (b .entry)) (now (out .entry)) (now (out .exit)) r ⌝ }
 {
     let mut state = l;
+    let mut known = kinds.len();
     let mut n = 0;
     while n < out.len() {
-        state = turned(
+        let turn = turned(
             state,
             g,
             standing,
+            known,
             kinds,
             a,
             b,
+            tried,
             under,
             ways,
             head,
@@ -179,6 +206,8 @@ fn print_lines(
             seen,
             queue,
         );
+        state = turn.lister;
+        known = turn.known;
         let k = put_line(state, g, &mut out[n..]);
         if k == 0 {
             return Filled {
@@ -202,6 +231,7 @@ fn fill_in(
     a: &[u16],
     b: &[u16],
     out: &mut [u8],
+    tried: &mut [u8],
     under: &mut [u8],
     ways: &mut [u8],
     head: &mut [u16; MAX_BASINS],
@@ -210,6 +240,7 @@ fn fill_in(
     queue: &mut [u16; MAX_BASINS],
 ) -> Filled
     requires { ⌜ Space (now ways) (now head) (now next) (now seen) (now queue) ⌝ }
+    requires { ⌜ length (now tried) ≡ maxReaches ⌝ }
     requires { ⌜ length (now under) ≡ maxReaches ⌝ }
     ensures { λ r. ⌜ Filling l (now (kinds .entry)) (now (a .entry)) (now (b .entry)) (now (out .entry)) (now (out .exit)) r ⌝ }
 {
@@ -219,6 +250,8 @@ fn fill_in(
     let setting = l.setting;
     let oriented = &mut ways[..m];
     let standing = prime(basins, kinds, a, b, &setting[..g], oriented, head, next);
+    let all = &mut tried[..m];
+    copy_row(&kinds[..m], all);
     print_lines(
         l,
         g,
@@ -227,6 +260,7 @@ fn fill_in(
         a,
         b,
         out,
+        all,
         &mut under[..m],
         oriented,
         head,
@@ -240,6 +274,7 @@ fn fill_in(
 pub fn fill(l: Lister, kinds: &[u8], a: &[u16], b: &[u16], out: &mut [u8]) -> Filled
     ensures { λ r. ⌜ Filling l (now (kinds .entry)) (now (a .entry)) (now (b .entry)) (now (out .entry)) (now (out .exit)) r ⌝ }
 {
+    let mut tried = [0u8; MAX_REACHES];
     let mut under = [0u8; MAX_REACHES];
     let mut ways = [0u8; MAX_REACHES];
     let mut head = [0u16; MAX_BASINS];
@@ -252,6 +287,7 @@ pub fn fill(l: Lister, kinds: &[u8], a: &[u16], b: &[u16], out: &mut [u8]) -> Fi
         a,
         b,
         out,
+        &mut tried,
         &mut under,
         &mut ways,
         &mut head,

@@ -2,7 +2,7 @@
 -- Assumes nothing.
 use Prim.Native.Nat.{ℕ, _≤_}
 use native.Mathlib.Omega.{arith}
-use mathlib.Core.Path.{_≡_, sym, _∙_}
+use mathlib.Core.Path.{_≡_, sym, ap, _∙_}
 use mathlib.Core.List.{List}
 use lib.ListN.{length, take}
 use lib.Seq.{length-take-le}
@@ -20,7 +20,7 @@ cut m xs e h = length-take-le m xs (omega arith)
 
 -- the working memory where the ways are cut
 abbrev start : tie.After-oriented → tie.Start
-start c = c .before .before .before .before .before .before .before .before .before .before
+start c = c .before .before .before .before .before .before .before .before .before .before .before
 
 few : (c : tie.After-oriented) → c .before .before .least .result ≤ maxReaches
 few c = omega (arith, c .before .before .least .ensures)
@@ -34,6 +34,10 @@ spare c =
       next-spare = s .pre .0 .next-space;
     }
 
+-- the kinds that are copied are as many
+kinds-cut : (c : tie.After-oriented) → c .before .before .least .result ≡ length (take (c .before .before .least .result) (start c .args .kinds .now))
+kinds-cut c = sym (length-take-le _ (start c .args .kinds .now) (omega (arith, c .before .before .least .ensures)))
+
 gates-held-requires : tie.Need-gates-held-requires
 gates-held-requires c κs = search needs
 
@@ -41,7 +45,7 @@ least-requires : tie.Need-least-requires
 least-requires c κs = search needs
 
 slice-relend-prefix-oriented : tie.Need-slice-relend-prefix-oriented
-slice-relend-prefix-oriented c = omega (arith, c .before .least .ensures, c .before .before .before .before .before .before .before .before .before .pre .0 .ways-space)
+slice-relend-prefix-oriented c = omega (arith, c .before .least .ensures, c .before .before .before .before .before .before .before .before .before .before .pre .0 .ways-space)
 
 slice-aggregate-oriented : tie.Need-slice-aggregate-oriented
 slice-aggregate-oriented c = let s = start c in sym (cut (c .before .before .least .result) (s .args .ways .now) (s .pre .0 .ways-space) (few c))
@@ -55,21 +59,35 @@ slice-aggregate-prime c = let s = start (c .before) in sym (length-take-le _ (s 
 prime-requires : tie.Need-prime-requires
 prime-requires c κs = spare (c .before .before .before .before)
 
+slice-relend-prefix-all : tie.Need-slice-relend-prefix-all
+slice-relend-prefix-all c = let h = c .before .before .before .before .before .before .before in omega (arith, few h, start h .pre .1 .0)
+
+slice-aggregate-all : tie.Need-slice-aggregate-all
+slice-aggregate-all c = let h = c .before .before .before .before .before .before .before .before in let s = start h in sym (cut (h .before .before .least .result) (s .args .tried .now) (s .pre .1 .0) (few h))
+
+slice-aggregate-copy-row : tie.Need-slice-aggregate-copy-row
+slice-aggregate-copy-row c = kinds-cut (c .before .before .before .before .before .before .before .before .before)
+
+copy-row-requires : tie.Need-copy-row-requires
+copy-row-requires c κs = let h = c .before .before .before .before .before .before .before .before .before .before in let s = start h in cut (h .before .before .least .result) (s .args .tried .now) (s .pre .1 .0) (few h) ∙ kinds-cut h
+
 slice-relend-prefix-print-lines : tie.Need-slice-relend-prefix-print-lines
-slice-relend-prefix-print-lines c = let h = c .before .before .before .before .before .before .before .before in omega (arith, few h, start h .pre .1)
+slice-relend-prefix-print-lines c = let h = c .before .before .before .before .before .before .before .before .before .before .before .before .before .before in omega (arith, few h, start h .pre .1 .1)
 
 slice-aggregate-print-lines : tie.Need-slice-aggregate-print-lines
-slice-aggregate-print-lines c = let h = c .before .before .before .before .before .before .before .before .before in let s = start h in sym (cut (h .before .before .least .result) (s .args .under .now) (s .pre .1) (few h))
+slice-aggregate-print-lines c = let h = c .before .before .before .before .before .before .before .before .before .before .before .before .before .before .before in let s = start h in sym (cut (h .before .before .least .result) (s .args .under .now) (s .pre .1 .1) (few h))
 
 print-lines-requires : tie.Need-print-lines-requires
 print-lines-requires c κs =
-    let h = c .before .before .before .before .before .before .before .before .before .before .before .before .before in
+    let h = c .before .before .before .before .before .before .before .before .before .before .before .before .before .before .before .before .before .before .before in
     let s = start h in
     let m = h .before .before .least .result in
-    let t = c .before .before .before .before .before .before .before .before .prime in
-    let long = t .kept .1 .1 .1 .1 .1 .0 in (
-      c .before .before .before .before .before .before .before .before .before .before .before .before .before .before .before .before .gates-held .ensures,
-      primed-kept (s .args .l .due) (spare h) long (cut m (s .args .under .now) (s .pre .1) (few h) ∙ sym (long ∙ cut m (s .args .ways .now) (s .pre .0 .ways-space) (few h))) (s .pre .0 .seen-space) (s .pre .0 .queue-space) (t .ensures),
+    let t = c .before .before .before .before .before .before .before .before .before .before .before .before .before .before .prime in
+    let long = t .kept .1 .1 .1 .1 .1 .0 in
+    let ways-cut = cut m (s .args .ways .now) (s .pre .0 .ways-space) (few h) in (
+      c .before .before .before .before .before .before .before .before .before .before .before .before .before .before .before .before .before .before .before .before .before .before .gates-held .ensures,
+      primed-kept (s .args .l .due) (spare h) long (cut m (s .args .under .now) (s .pre .1 .1) (few h) ∙ sym (long ∙ ways-cut)) (s .pre .0 .seen-space) (s .pre .0 .queue-space)
+          (c .before .before .before .before .before .before .before .before .copy-row .ensures ∙ ap (λ (k : ℕ). take k (s .args .kinds .now)) (sym ways-cut)) (t .ensures),
     )
 
 same-length : tie.Need-same-length
@@ -81,8 +99,11 @@ same-length-2 c = search needs
 same-length-3 : tie.Need-same-length-3
 same-length-3 c = search needs
 
+same-length-4 : tie.Need-same-length-4
+same-length-4 c = search needs
+
 returns : tie.Need-returns
-returns c = c .before .before .before .before .before .before .print-lines .ensures
+returns c = c .before .before .before .before .before .before .before .before .print-lines .ensures
 
 pub fill-in-spec : {M : Type 1} → statement M
 fill-in-spec =
@@ -95,10 +116,15 @@ fill-in-spec =
     array-share-prefix-setting
     slice-aggregate-prime
     prime-requires
+    slice-relend-prefix-all
+    slice-aggregate-all
+    slice-aggregate-copy-row
+    copy-row-requires
     slice-relend-prefix-print-lines
     slice-aggregate-print-lines
     print-lines-requires
     same-length
     same-length-2
     same-length-3
+    same-length-4
     returns)
