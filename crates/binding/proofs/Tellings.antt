@@ -29,9 +29,11 @@ use Rattle.orienting.proofs.Rows.{row-below, row-led, row-led-turned, row-gated
 use Rattle.binding.specs.Tellings.{Tellable}
 
 -- what a try of a gate's other way shows
-pub bound-tried : {xs ys ws ws₁ ws′ : List ℕ} {i way : ℕ} {r₁ r : Bool} → Tried xs ys ws i way ws₁ r₁ → ws′ ≡ set ws₁ i 2 → r ≡ not r₁ → (ws′ ≡ set ws i 2) × (r ≡ not (ledRound (leftOut xs ys ws i) xs ys i way))
-bound-tried {ws = ws} {i} {way} (oriented led e q) f g = (f ∙ ap (λ (l : List ℕ). set l i 2) e ∙ set-set ws i way 2, g ∙ ap not (q ∙ sym led))
-bound-tried {ws = ws} {i} (undecided lost e q) f g = (f ∙ ap (λ (l : List ℕ). set l i 2) e ∙ set-set ws i 2 2, g ∙ ap not (q ∙ sym lost))
+pub bound-tried :
+    {xs ys ws ws₁ ws′ : List ℕ} {i x : ℕ} (other : ℕ) {r₁ r : Bool} → x ≡ other → Tried xs ys ws i x ws₁ r₁ → ws′ ≡ set ws₁ i 2 → r ≡ not r₁
+    → (ws′ ≡ set ws i 2) × (r ≡ not (ledRound (leftOut xs ys ws i) xs ys i other))
+bound-tried {xs} {ys} {ws = ws} {i = i} {x} other same (oriented led e q) f g = (f ∙ ap (λ (l : List ℕ). set l i 2) e ∙ set-set ws i x 2, g ∙ ap not (q ∙ sym led) ∙ ap (λ (w : ℕ). not (ledRound (leftOut xs ys ws i) xs ys i w)) same)
+bound-tried {xs} {ys} {ws = ws} {i = i} {x} other same (undecided lost e q) f g = (f ∙ ap (λ (l : List ℕ). set l i 2) e ∙ set-set ws i 2 2, g ∙ ap not (q ∙ sym lost) ∙ ap (λ (w : ℕ). not (ledRound (leftOut xs ys ws i) xs ys i w)) same)
 
 -- The bytes of the gates among the first i reaches stand in the first k places, and the others are as they were.
 pub record Telling (n : ℕ) (ks xs ys bytes₀ bytes : List ℕ) (k i : ℕ) : Type 0 where

@@ -38,8 +38,8 @@ fn gives_plan(answer: Answer) -> bool
     }
 }
 
-// Puts the bytes of the gates where those of a plan stand, in lent working memory. What it leaves there is free. None of the plan's bytes is taken for the ways, so that
-// no gate is oriented in them.
+// Puts the bytes of the gates where those of a plan stand, in lent working memory. What it leaves there is free. None of the plan's bytes is taken for the ways,
+// so that no gate is oriented in them.
 fn tell_in(
     n: usize,
     kinds: &[u8],
@@ -88,8 +88,8 @@ fn tell(n: usize, kinds: &[u8], a: &[u16], b: &[u16], bytes: &mut [u8])
     );
 }
 
-// Which gates of a network have no choice. Where the network has a plan, the answer is `Plan` and the bytes stand in the first of their buffer; else it is that of
-// the first plan. Refuses: 1, 2, 3, 7.
+// Which gates of a network have no choice. Where the network has a plan, the answer is `Plan` and the bytes stand in the first of their buffer; else it is that
+// of the first plan. Refuses: 1, 2, 3, 7.
 pub fn bound_gates_rows(
     basins: u16,
     kinds: &[u8],

@@ -2,7 +2,7 @@
 -- Assumes nothing.
 use Prim.Native.Nat.{ℕ, _≤_, _<_}
 use native.Mathlib.Omega.{arith}
-use mathlib.Core.Path.{_≡_, sym, ap, subst⁻¹, _∙_}
+use mathlib.Core.Path.{_≡_, sym, ap, subst, subst⁻¹, _∙_}
 use mathlib.Core.Bool.{true, cond}
 use mathlib.Core.Logic.{_↔_}
 use mathlib.Core.Option.{none}
@@ -49,6 +49,27 @@ told N {bytes} {marks} {bytes′} c y =
       byte = λ k l. sym (getD-take (gateCount N) bytes′ k 2 l) ∙ ap (λ (b : List ℕ). getD b k 2) front ∙ bound-getD N k l;
     }
 
+-- ---- every plan given hangs a bound gate so
+
+-- the plan is read in the first bytes of its buffer
+over :
+    (N : Network) {bytes marks bytes′ marks′ : List ℕ} {r₁ r₂ : Answer} (plan′ : List ℕ) → BoundCall N bytes marks r₁ bytes′ marks′ → (r₂ ≡ given Plan → isPlan N (take (gateCount N) plan′) ≡ true)
+    → PlanOver N bytes′ plan′ r₁ r₂
+over N plan′ c d k l y z small =
+    let byte = (told N c y) .byte k l in
+    sym (getD-take (gateCount N) plan′ k 2 l) ∙ bound-plan N k (take (gateCount N) plan′) (d z) (omega (arith, byte)) ∙ sym byte
+
+module _ (N : Network) {bytes₁ marks₁ plan₂ marks₂ bytes₁′ marks₁′ plan₂′ marks₂′ : List ℕ} {r₁ r₂ : Answer} where
+  pub first-over : BoundCall N bytes₁ marks₁ r₁ bytes₁′ marks₁′ → FirstCall N plan₂ marks₂ r₂ plan₂′ marks₂′ → PlanOver N bytes₁′ plan₂′ r₁ r₂
+  first-over c d = over N plan₂′ c (λ z. replied-plan N (length plan₂) (length marks₂) (sym (first-read N d) ∙ ap (λ (r : Answer). readReply N r plan₂′ marks₂′) z) .1)
+
+  module _ (s : List ℕ) where
+    pub next-over : BoundCall N bytes₁ marks₁ r₁ bytes₁′ marks₁′ → NextCall N s plan₂ marks₂ r₂ plan₂′ marks₂′ → PlanOver N bytes₁′ plan₂′ r₁ r₂
+    next-over c d = over N plan₂′ c (λ z. next-is-plan N s (plan-replied N s (length plan₂) (length marks₂) (sym (next-read N s d) ∙ ap (λ (r : Answer). readReply N r plan₂′ marks₂′) z)))
+
+    pub next-of-bound : BoundCall N bytes₁ marks₁ r₁ bytes₁′ marks₁′ → NextCall N s plan₂ marks₂ r₂ plan₂′ marks₂′ → NextOfBound N s bytes₁ marks₁ plan₂ marks₂ bytes₁′ marks₁′ plan₂′ marks₂′ r₁ r₂
+    next-of-bound c d = record { first-call = c; second-call = d; hung = next-over c d }
+
 -- ---- a reach made a flap
 
 -- first answers a plan exactly if the definition does
@@ -83,25 +104,4 @@ module _ (N M : Network) {bytes₁ marks₁ plan₂ marks₂ bytes₁′ marks�
       law = bound-flap N (t .accepted) (t .setting) (t .is-plan) k (f .gate) turned
 
   pub flap-of-bound : BoundCall N bytes₁ marks₁ r₁ bytes₁′ marks₁′ → FirstCall M plan₂ marks₂ r₂ plan₂′ marks₂′ → FlapOfBound N M bytes₁ marks₁ plan₂ marks₂ bytes₁′ marks₁′ plan₂′ marks₂′ r₁ r₂
-  flap-of-bound c d = record { first-call = c; second-call = d; flaps = flap-over c d }
-
--- ---- every plan given hangs a bound gate so
-
--- the plan is read in the first bytes of its buffer
-over :
-    (N : Network) {bytes marks bytes′ marks′ : List ℕ} {r₁ r₂ : Answer} (plan′ : List ℕ) → BoundCall N bytes marks r₁ bytes′ marks′ → (r₂ ≡ given Plan → isPlan N (take (gateCount N) plan′) ≡ true)
-    → PlanOver N bytes′ plan′ r₁ r₂
-over N plan′ c d k l y z small =
-    let byte = (told N c y) .byte k l in
-    sym (getD-take (gateCount N) plan′ k 2 l) ∙ bound-plan N k (take (gateCount N) plan′) (d z) (omega (arith, byte)) ∙ sym byte
-
-module _ (N : Network) {bytes₁ marks₁ plan₂ marks₂ bytes₁′ marks₁′ plan₂′ marks₂′ : List ℕ} {r₁ r₂ : Answer} where
-  pub first-over : BoundCall N bytes₁ marks₁ r₁ bytes₁′ marks₁′ → FirstCall N plan₂ marks₂ r₂ plan₂′ marks₂′ → PlanOver N bytes₁′ plan₂′ r₁ r₂
-  first-over c d = over N plan₂′ c (λ z. replied-plan N (length plan₂) (length marks₂) (sym (first-read N d) ∙ ap (λ (r : Answer). readReply N r plan₂′ marks₂′) z) .1)
-
-  module _ (s : List ℕ) where
-    pub next-over : BoundCall N bytes₁ marks₁ r₁ bytes₁′ marks₁′ → NextCall N s plan₂ marks₂ r₂ plan₂′ marks₂′ → PlanOver N bytes₁′ plan₂′ r₁ r₂
-    next-over c d = over N plan₂′ c (λ z. next-is-plan N s (plan-replied N s (length plan₂) (length marks₂) (sym (next-read N s d) ∙ ap (λ (r : Answer). readReply N r plan₂′ marks₂′) z)))
-
-    pub next-of-bound : BoundCall N bytes₁ marks₁ r₁ bytes₁′ marks₁′ → NextCall N s plan₂ marks₂ r₂ plan₂′ marks₂′ → NextOfBound N s bytes₁ marks₁ plan₂ marks₂ bytes₁′ marks₁′ plan₂′ marks₂′ r₁ r₂
-    next-of-bound c d = record { first-call = c; second-call = d; hung = next-over c d }
+  flap-of-bound c d = record { first-call = c; second-call = d; flaps = flap-over c d; hung = λ e. first-over N c (subst (λ (L : Network). FirstCall L plan₂ marks₂ r₂ plan₂′ marks₂′) e d) }

@@ -32,13 +32,15 @@ FlapOver N M bytes′ plan₂ marks₂ r₁ r₂ =
 abbrev pub PlanOver : Network → List ℕ → List ℕ → Answer → Answer → Type 0
 PlanOver N bytes′ plan′ r₁ r₂ = (k : ℕ) → k < gateCount N → r₁ ≡ given Plan → r₂ ≡ given Plan → getD bytes′ k 2 ≤ 1 → getD plan′ k 2 ≡ getD bytes′ k 2
 
--- What telling the bound gates of N and asking for the first plan of M promises: of either what the call promises of any input, and the law on flaps.
+-- What telling the bound gates of N and asking for the first plan of M promises: of either what the call promises of any input, the law on flaps and, where M is N
+-- itself, that its first plan hangs the bound gates so.
 pub record FlapOfBound (N M : Network) (bytes₁ marks₁ plan₂ marks₂ bytes₁′ marks₁′ plan₂′ marks₂′ : List ℕ) (r₁ r₂ : Answer) : Type 0 where
   pub first-call : BoundCall N bytes₁ marks₁ r₁ bytes₁′ marks₁′
   pub second-call : FirstCall M plan₂ marks₂ r₂ plan₂′ marks₂′
   pub flaps : FlapOver N M bytes₁′ plan₂ marks₂ r₁ r₂
+  pub hung : M ≡ N → PlanOver N bytes₁′ plan₂′ r₁ r₂
 
--- The same of the next plan of a setting s of N, and that it hangs the bound gates so.
+-- The same of the next plan of a setting s of N: it hangs the bound gates so.
 pub record NextOfBound (N : Network) (s bytes₁ marks₁ plan₂ marks₂ bytes₁′ marks₁′ plan₂′ marks₂′ : List ℕ) (r₁ r₂ : Answer) : Type 0 where
   pub first-call : BoundCall N bytes₁ marks₁ r₁ bytes₁′ marks₁′
   pub second-call : NextCall N s plan₂ marks₂ r₂ plan₂′ marks₂′

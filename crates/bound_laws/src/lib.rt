@@ -1,4 +1,5 @@
-// Document 02, item 2, over the running calls: what the bytes of bound gates say of the plans that first and next give. The proofs cite only what these calls promise.
+// Document 02, item 2, over the running calls: what the bytes of bound gates say of the plans that first and next give. The proofs cite only what these calls
+// promise.
 use bound_gates::bound_gates_rows;
 use planner_laws::Both;
 use planner_rows::first_plan;
@@ -6,8 +7,9 @@ use planner_rows::next_plan;
 ghost use Rattle.tables.specs.Rows.{netOf};
 ghost use Rattle.bound_laws.specs.Bounds.{FlapOfBound, NextOfBound};
 
-// Tells the bound gates of one network and asks for the first plan of another, each with lent buffers of its own: what the two calls promise and, where the second is the first
-// with a gated reach made a flap, that it has a plan exactly as the byte of that reach says.
+// Tells the bound gates of one network and asks for the first plan of another, each with lent buffers of its own: what the two calls promise and, where the second is
+// the first with a gated reach made a flap, that it has a plan exactly as the byte of that reach says; where it is the first itself, that the plan hangs the bound
+// gates so.
 pub fn flap_of_bound(
     basins: u16,
     kinds: &[u8],
@@ -32,8 +34,8 @@ pub fn flap_of_bound(
     Both { first, second }
 }
 
-// Tells the bound gates of a network and asks for the next plan of a setting of it, each with lent buffers of its own: what the two calls promise, and that the plan hangs the
-// bound gates so.
+// Tells the bound gates of a network and asks for the next plan of a setting of it, each with lent buffers of its own: what the two calls promise, and that the
+// plan hangs the bound gates so.
 pub fn next_of_bound(
     basins: u16,
     kinds: &[u8],

@@ -1,5 +1,7 @@
 -- `binding::bound_at` meets its contract: the gate is bound if its other way cannot be had.
 -- Assumes nothing.
+use Prim.Native.Nat.{_-_}
+use native.Mathlib.Omega.{arith}
 use mathlib.Core.Path.{refl}
 use borrow.Author.Needs.{needs}
 use Rattle.binding.proofs.Tellings.{bound-tried}
@@ -25,7 +27,7 @@ same-length-3 : tie.Need-same-length-3
 same-length-3 c = search needs
 
 returns : tie.Need-returns
-returns c = bound-tried (c .before .before .before .before .before .before .try-way .ensures) refl refl
+returns c = bound-tried (1 - c .before .before .before .before .before .before .before .before .before .before .before .before .before .before .before .before .before .args .way) (omega arith) (c .before .before .before .before .before .before .try-way .ensures) refl refl
 
 pub bound-at-spec : {M : Type 1} → statement M
 bound-at-spec =
