@@ -100,6 +100,19 @@ pub fn note_bound(
     }
     tables::orient(kinds, &[], loose);
     let end = tables::least(to, a.len());
-    note_from(n, a, b, tried, loose, ways, head, next, from, end, seen, queue);
+    note_from(
+        n,
+        a,
+        b,
+        tried,
+        loose,
+        ways,
+        head,
+        next,
+        from,
+        end,
+        seen,
+        queue,
+    );
     from
 }

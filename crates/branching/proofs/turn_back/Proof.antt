@@ -17,7 +17,7 @@ use Rattle.branching.proofs.turn_back.Lts as lts
 
 abbrev Inv-loop : tie.InvT-loop
 Inv-loop n tried a b under ways₀ head next to seen₀ queue₀ i₀ ways seen queue i =
-    (i ≤ to) × Ready n a b ways head next seen queue 
+    (i ≤ to) × Ready n a b ways head next seen queue
     × ((ks : List ℕ) → Following n ks tried a b under ways₀ to → StronglyConnectedBelow (netOf n ks a b) tried under to → Back (netOf n ks a b) tried under to ways i)
     × (length ways ≡ length ways₀) × (length seen ≡ length seen₀) × (length queue ≡ length queue₀)
 

@@ -66,8 +66,10 @@ returns : tie.Need-returns Inv-loop μ-loop
 returns c =
     let s = c .before .before .before .before .before .before .before .before .before .before in
     let l = (c .before) .loop in
-    record { from = λ ks p b. going-complete (s .args .n) ks (s .args .a .now) (s .args .b .now) (sym (p .kinds-full)) (s .pre .0 .table .paired ∙ sym (p .kinds-full)) (s .args .tried .now)
-    (s .args .ways .now) (s .args .from) (l .ways) (l .i) (omega (arith, l .inv .0, c .loop-test .left, p .kinds-full)) (l .inv .2 ks p b) }
+    record {
+      from = λ ks p b. going-complete (s .args .n) ks (s .args .a .now) (s .args .b .now) (sym (p .kinds-full)) (s .pre .0 .table .paired ∙ sym (p .kinds-full)) (s .args .tried .now)
+          (s .args .ways .now) (s .args .from) (l .ways) (l .i) (omega (arith, l .inv .0, c .loop-test .left, p .kinds-full)) (l .inv .2 ks p b);
+    }
 
 pub complete-spec : {M : Type 1} → statement M
 complete-spec = tie.close (tie.spec Inv-loop μ-loop loop-holds settle-requires add-i loop-less loop-again same-length same-length-2 same-length-3 returns)

@@ -49,8 +49,8 @@ loop-again c =
     let t = c .before .before .before .before .before .before .before .before .note-at in (
       ready-notes _ _ (ready-ways _ (l .inv .0) (t .kept .1 .1 .1 .1 .0)) (t .kept .1 .1 .1 .1 .1 .1 .1 .1 .1 .0) (t .kept .1 .1 .1 .1 .1 .1 .1 .1 .1 .1 .0),
       (λ ks p o h f.
-      noted-on (l .i) _ h (omega (arith, c .before .before .before .before .before .before .before .before .before .before .before .before .before .before .loop-test .taken, s .pre .1 .1 .1))
-      (getD-any (s .args .ways .now) (l .i) 0 3 (omega (arith, c .before .before .before .before .before .before .before .before .before .before .before .before .before .before .loop-test .taken, s .pre .1 .1 .0, s .pre .1 .1 .1))) (l .inv .1 ks p o h f) (t .ensures)),
+          noted-on (l .i) _ h (omega (arith, c .before .before .before .before .before .before .before .before .before .before .before .before .before .before .loop-test .taken, s .pre .1 .1 .1))
+          (getD-any (s .args .ways .now) (l .i) 0 3 (omega (arith, c .before .before .before .before .before .before .before .before .before .before .before .before .before .before .loop-test .taken, s .pre .1 .1 .0, s .pre .1 .1 .1))) (l .inv .1 ks p o h f) (t .ensures)),
       t .kept .1 .1 .1 .0 ∙ l .inv .2,
       t .kept .1 .1 .1 .1 .0 ∙ l .inv .3,
       t .kept .1 .1 .1 .1 .1 .1 .1 .1 .1 .0 ∙ l .inv .4,
