@@ -8,14 +8,14 @@ use lib.ListN.{length}
 use Rattle.network.specs.Networks.{Network}
 use Rattle.network.specs.Orientations.{Arc, ways, arcs}
 use Rattle.half_edges.specs.Ends.{arcsOf}
-use Rattle.tables.specs.Rows.{netOf, waysRow}
+use Rattle.tables.specs.Rows.{netOf}
 use Rattle.orientations.specs.Partials.{Begun}
 use Rattle.orientations.proofs.Parts.{open-none}
 use Rattle.orienting.specs.Ready.{ShutInBasin, FirstUnreached}
 use Rattle.orienting.proofs.Rows.{row-arcs}
 use Rattle.completing.specs.Greedy.{Completable, Greedy}
 use Rattle.seeking.specs.declared.Found.the-variants.{Closed, Bridge, Oriented}
-use Rattle.seeking.specs.Levels.{Level, NoneOriented, Passable}
+use Rattle.seeking.specs.Levels.{NoneOriented, Passable}
 use Rattle.seeking.specs.Found.{FirstFound}
 use Rattle.seeking.proofs.Levels.{passable-open, level-length, under-row, kinds-full, kinds-tried}
 use Rattle.seeking.proofs.Firsts.{closed-first, passed-basin, bridge-first, plan-first}

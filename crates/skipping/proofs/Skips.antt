@@ -3,7 +3,7 @@
 use Prim.Native.Nat.{ℕ, zero, suc, _-_, _≤_, _<_}
 use native.Mathlib.Omega.{arith}
 use native.Mathlib.Decide.{ℕ-discrete}
-use mathlib.Core.Path.{_≡_, refl, sym, ap, subst, subst⁻¹, _∙_}
+use mathlib.Core.Path.{_≡_, sym, ap, subst, subst⁻¹, _∙_}
 use mathlib.Core.Bool.{true, false}
 use mathlib.Core.List.{List, []}
 use lib.ListN.{length, getD, set, length-set}
@@ -11,25 +11,23 @@ use lib.Seq.{getD-set-same, getD-set-other, set-getD}
 use Rattle.network.specs.Networks.{Network}
 use Rattle.network.specs.Tables.{stateOf}
 use Rattle.network.specs.Settings.{isGated}
-use Rattle.network.specs.Orientations.{ways, arcs}
+use Rattle.network.specs.Orientations.{ways}
 use Rattle.network.specs.Plans.{isPlan}
 use Rattle.network.specs.Bridges.{reachAt}
 use Rattle.lists.proofs.Bools.{clash}
-use Rattle.lists.proofs.Lists.{getD-any}
 use Rattle.network.proofs.Ways.{length-ways, gate-way}
 use Rattle.network.proofs.Bridges.{plan-gate-small}
 use Rattle.network.proofs.Steps.{orient-drawn, orient-turned}
 use Rattle.tables.specs.Rows.{netOf, waysRow}
-use Rattle.tables.proofs.Laws.{row-length, row-ways}
+use Rattle.tables.proofs.Laws.{row-length}
 use Rattle.orientations.specs.Least.{isTried}
 use Rattle.orientations.specs.Partials.{StronglyConnected, Tries, Binds}
 use Rattle.orientations.proofs.Least.{fits-unoriented, fits-set, fits-strong}
 use Rattle.orienting.specs.Tries.{leftOut, ledRound}
 use Rattle.orienting.proofs.Rows.{row-led, row-led-turned}
-use Rattle.seeking.specs.Levels.{Level}
 use Rattle.seeking.specs.Seeks.{AtPlan}
 use Rattle.seeking.proofs.Levels.{under-row, level-length}
-use Rattle.skipping.specs.Skips.{NotedAt, as-it-was, still-tried, tried-no-more, BindsStill}
+use Rattle.skipping.specs.Skips.{NotedAt, as-it-was, still-tried, tried-no-more}
 
 module _ {n : ℕ} {ks xs ys s ws : List ℕ} (p : AtPlan n ks xs ys s ws) where
   abbrev N : Network

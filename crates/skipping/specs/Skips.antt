@@ -4,7 +4,7 @@ use Prim.Native.Nat.{ℕ, _-_, _≤_}
 use mathlib.Core.Path.{_≡_}
 use mathlib.Core.Bool.{true, false}
 use mathlib.Core.List.{List, []}
-use lib.ListN.{length, set}
+use lib.ListN.{set}
 use Rattle.tables.specs.Rows.{netOf, waysRow}
 use Rattle.orientations.specs.Least.{isTried}
 use Rattle.orientations.specs.Partials.{Binds}
