@@ -1081,6 +1081,20 @@ listed('1,001 plans', 6, one_more)
 listed('1,024 plans', 1, [(G, 0, 0)] * 10)
 listed('a 16 by 16 grid', 256, grid)
 listed('a line of 256 basins, and 769 loops', 256, [(G, v, v + 1) for v in range(255)] + [(G, 0, 0)] * 769)
+
+
+def ditch(length, first=1):
+    """A ditch of gates from basin 0 over as many basins, every third gate drawn the other way, and a flap from its end back: its gates are bound."""
+    basins = [0] + list(range(first, first + length))
+    return [(F, basins[-1], 0)] + [(G, b, a) if i % 3 == 0 else (G, a, b) for i, (a, b) in enumerate(zip(basins, basins[1:]))]
+
+
+# The lister tries bound gates no more where a step went back over 32 reaches.
+for title, basins, reaches in [
+        ('40 bound gates last', 41, [(G, 0, 0)] * 8 + ditch(40)), ('40 bound gates among free ones', 41, [(G, 0, 0)] * 3 + ditch(40) + [(G, 5, 5), (G, 0, 0)]),
+        ('40 bound gates, then a ring of 36', 76, [(G, 0, 0)] * 3 + ditch(40) + [(G, a, b) for a, b in zip([0, *range(41, 76)], [*range(41, 76), 0])])]:
+    assert sorted(set(network(basins, tuple(reaches)).bound())) == [0, 1, 2]
+    listed(title, basins, reaches)
 gr.case('list', 0, SMALL + [7], p=11, vary=[(2, 2, 0), (4, 2, 2), (18, 2, 8), ('n', 4, 17)], name='list, refused 1, 3, 4, 5, 6')
 gr.case('list', 0, file, p=20, name='list, 1,025 reaches')
 
