@@ -13,19 +13,17 @@ use bounds::rest;
 use bounds::sum;
 use bounds::word_at;
 use files::Lengths;
+use plans::BOUND;
+use plans::NEXT;
 use plans::Room;
 use show::Out;
 
-// The calls, by the bytes of the case file; those of files stand there.
+// The calls, by the bytes of the case file; those of files stand there, bound gates and the next plan in plans.
 const TABLE: u8 = 0;
 
 const CHECK: u8 = 1;
 
 const WALK: u8 = 2;
-
-const BOUND: u8 = 3;
-
-const NEXT: u8 = 4;
 
 const MAKE: u8 = 5;
 

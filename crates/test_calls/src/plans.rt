@@ -79,8 +79,8 @@ pub struct Got {
     marks: [u8; 40],
 }
 
-// The calls that fill a row of bytes for the gates, or marks, by the bytes of the case file; the next plan has all others.
-pub const FIRST: u8 = 2;
+// The calls that are lent a buffer with a byte for each gate and one for marks, by the bytes of the case file.
+const FIRST: u8 = 2;
 
 pub const BOUND: u8 = 3;
 
