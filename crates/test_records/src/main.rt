@@ -4,7 +4,6 @@ mod relays;
 mod sums;
 mod table;
 
-use file_records::WriteAnswer;
 use network::Reach;
 use relays::ROOM;
 use sums::mix;
