@@ -1089,7 +1089,7 @@ def ditch(length, first=1):
     return [(F, basins[-1], 0)] + [(G, b, a) if i % 3 == 0 else (G, a, b) for i, (a, b) in enumerate(zip(basins, basins[1:]))]
 
 
-# The lister tries bound gates no more where a step went back over eight reaches or more.
+# The lister tries bound gates no more where a step went back over 32 reaches or more.
 for title, basins, reaches in [
         ('40 bound gates last', 41, [(G, 0, 0)] * 8 + ditch(40)), ('40 bound gates among free ones', 41, [(G, 0, 0)] * 3 + ditch(40) + [(G, 5, 5), (G, 0, 0)]),
         ('40 bound gates, then a ring of 36', 76, [(G, 0, 0)] * 3 + ditch(40) + [(G, a, b) for a, b in zip([0, *range(41, 76)], [*range(41, 76), 0])])]:

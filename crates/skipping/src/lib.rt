@@ -8,7 +8,7 @@ ghost use Rattle.orienting.specs.Ready.{Ready};
 ghost use Rattle.skipping.specs.Skips.{NotedAt, NotedFrom, BindsStill};
 
 // The fewest reaches for which it pays to look which of them are bound. No promise rests on it.
-const WORTH: usize = 8;
+const WORTH: usize = 32;
 
 // Tries reach i no more if it is a gate that is bound, being hung in the way by a plan. No gate is oriented in the ways `loose`. What it leaves in seen and in
 // the queue is free.
