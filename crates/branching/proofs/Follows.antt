@@ -13,7 +13,6 @@ use Rattle.network.specs.Orientations.{arcs}
 use Rattle.network.specs.Plans.{stronglyConnected}
 use Rattle.lists.proofs.Bools.{clash}
 use Rattle.network.proofs.Ways.{length-ways}
-use Rattle.network.proofs.Steps.{orient-drawn, orient-turned}
 use Rattle.tables.specs.Rows.{netOf}
 use Rattle.tables.proofs.Laws.{row-length}
 use Rattle.orientations.specs.Least.{isTried}
@@ -21,7 +20,7 @@ use Rattle.orientations.specs.Partials.{StronglyConnected, NotStronglyConnected
 use Rattle.orientations.proofs.Parts.{up-length, up-all, up-more, up-plain, up-again, up-either, byte-under}
 use Rattle.orienting.specs.Tries.{leftOut, ledRound, Tried}
 use Rattle.orienting.proofs.Readies.{tried-same, tried-led, tried-lost}
-use Rattle.orienting.proofs.Rows.{row-below, row-led, row-led-turned}
+use Rattle.orienting.proofs.Rows.{row-below, row-way}
 use Rattle.parting.specs.Parts.{OrientedAs, no-gate, as-under, PartedAt, passed, freed, tried}
 use Rattle.branching.specs.Follows.{Followed, through, stopped, TurnedBack, turned-at, nowhere}
 
@@ -80,9 +79,7 @@ module _ (n : ℕ) (ks xs ys : List ℕ) (ea : length xs ≡ length ks) (eb : le
 
         -- what a search decides, for each way
         way-law : (x : ℕ) → x ≤ 1 → stronglyConnected (basinsOf N) (arcs (N .reaches) (set (upTo fs us i) i x)) ≡ ledRound (leftOut xs ys (upTo fs us i) i) xs ys i x
-        way-law zero small = orient-drawn N ok (upTo fs us i) i below full either ∙ row-led n ks xs ys ea eb (upTo fs us i) i l
-        way-law (suc zero) small = orient-turned N ok (upTo fs us i) i below full either ∙ row-led-turned n ks xs ys ea eb (upTo fs us i) i l
-        way-law (suc (suc x)) small = absurd (omega arith)
+        way-law = row-way n ks xs ys ea eb ok (upTo fs us i) i l full either
 
         module _ (x : ℕ) (small : x ≤ 1) {ws′ : List ℕ} {r : Bool} (t : Tried xs ys (upTo fs us i) i x ws′ r) where
           tried-on : r ≡ true → (ws′ ≡ set (upTo fs us i) i x) × StronglyConnected N (set (upTo fs us i) i x)

@@ -1,6 +1,6 @@
 -- A gate that cannot be hung the other way than that of a plan, all others usable either way, is bound, and need not be tried.
 -- Assumes nothing.
-use Prim.Native.Nat.{ℕ, zero, suc, _-_, _≤_, _<_}
+use Prim.Native.Nat.{ℕ, _-_, _<_}
 use native.Mathlib.Omega.{arith}
 use native.Mathlib.Decide.{ℕ-discrete}
 use mathlib.Core.Path.{_≡_, sym, ap, subst, subst⁻¹, _∙_}
@@ -17,14 +17,13 @@ use Rattle.network.specs.Bridges.{reachAt}
 use Rattle.lists.proofs.Bools.{clash}
 use Rattle.network.proofs.Ways.{length-ways, gate-way}
 use Rattle.network.proofs.Bridges.{plan-gate-small}
-use Rattle.network.proofs.Steps.{orient-drawn, orient-turned}
 use Rattle.tables.specs.Rows.{netOf, waysRow}
 use Rattle.tables.proofs.Laws.{row-length}
 use Rattle.orientations.specs.Least.{isTried}
 use Rattle.orientations.specs.Partials.{StronglyConnected, Tries, Binds}
 use Rattle.orientations.proofs.Least.{fits-unoriented, fits-set, fits-strong}
 use Rattle.orienting.specs.Tries.{leftOut, ledRound}
-use Rattle.orienting.proofs.Rows.{row-led, row-led-turned}
+use Rattle.orienting.proofs.Rows.{row-way}
 use Rattle.seeking.specs.Seeks.{AtPlan}
 use Rattle.seeking.proofs.Levels.{under-row, level-length}
 use Rattle.skipping.specs.Skips.{NotedAt, as-it-was, still-tried, tried-no-more}
@@ -48,12 +47,6 @@ module _ {n : ℕ} {ks xs ys s ws : List ℕ} (p : AtPlan n ks xs ys s ws) where
     in-row : i < length ks
     in-row = omega (arith, row-length ks xs ys (p .level .ends-a) (p .level .ends-b))
 
-    -- what a search decides, for each way
-    way-law : (x : ℕ) → x ≤ 1 → ledRound (leftOut xs ys open-ways i) xs ys i x ≡ false → StronglyConnected N (set open-ways i x) → ⊥
-    way-law zero small lost str = clash (sym (orient-drawn N (p .level .accepted) open-ways i l (length-ways (N .reaches) []) either) ∙ str) (row-led n ks xs ys (p .level .ends-a) (p .level .ends-b) open-ways i in-row ∙ lost)
-    way-law (suc zero) small lost str = clash (sym (orient-turned N (p .level .accepted) open-ways i l (length-ways (N .reaches) []) either) ∙ str) (row-led-turned n ks xs ys (p .level .ends-a) (p .level .ends-b) open-ways i in-row ∙ lost)
-    way-law (suc (suc x)) small lost str = absurd (omega arith)
-
     -- the gate is hung so in every plan
     bound-way : (way : ℕ) → way ≡ getD ws i 3 → ledRound (leftOut xs ys open-ways i) xs ys i (1 - way) ≡ false → (q : List ℕ) → isPlan N q ≡ true → getD (ways (N .reaches) q) i 3 ≡ getD ws i 3
     bound-way way e lost q y = go (ℕ-discrete (getD (ways (N .reaches) q) i 3) (1 - way))
@@ -62,7 +55,9 @@ module _ {n : ℕ} {ks xs ys s ws : List ℕ} (p : AtPlan n ks xs ys s ws) where
         at-plan = ap (λ (v : List ℕ). getD v i 3) (under-row (p .level) s (p .oriented))
 
         go : Dec (getD (ways (N .reaches) q) i 3 ≡ 1 - way) → getD (ways (N .reaches) q) i 3 ≡ getD ws i 3
-        go (yes other) = absurd (way-law (1 - way) (omega arith) lost (fits-strong N q (set open-ways i (1 - way)) y (fits-set N q open-ways i (1 - way) (omega (arith, length-ways (N .reaches) [])) (fits-unoriented N q) other)))
+        go (yes other) =
+            clash (fits-strong N q (set open-ways i (1 - way)) y (fits-set N q open-ways i (1 - way) (omega (arith, length-ways (N .reaches) [])) (fits-unoriented N q) other))
+            (row-way n ks xs ys (p .level .ends-a) (p .level .ends-b) (p .level .accepted) open-ways i in-row (length-ways (N .reaches) []) either (1 - way) (omega arith) ∙ lost)
         go (no differ) = omega (arith, plan-gate-small N q i y l g, plan-gate-small N s i (p .is-plan) l g, at-plan, e)
 
   -- so it need not be tried
