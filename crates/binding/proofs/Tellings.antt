@@ -14,12 +14,12 @@ use Rattle.network.specs.Tables.{tableOf}
 use Rattle.network.specs.Settings.{gatesFrom, gates, gateCount}
 use Rattle.network.specs.Orientations.{arcs, unoriented}
 use Rattle.network.specs.Bridges.{noReach}
-use Rattle.network.specs.Bound.{boundByte, boundBytes}
+use Rattle.network.specs.Choices.{boundByte, boundBytes}
 use Rattle.network.proofs.Networks.{not-gated, gates-below}
 use Rattle.network.proofs.Order.{setting-length, plan-setting}
 use Rattle.network.proofs.Theorem.{setting-byte, without}
 use Rattle.network.proofs.Ways.{gate-way}
-use Rattle.network.proofs.Bound.{bound-length, bound-getD, bound-drawn, bound-turned}
+use Rattle.network.proofs.Choices.{bound-length, bound-getD, bound-drawn, bound-turned}
 use Rattle.tables.specs.Rows.{netOf, gatesIn}
 use Rattle.tables.proofs.Laws.{row-length, row-gates, row-ways, ways-unoriented}
 use Rattle.tables.proofs.Turns.{gates-gate, gates-other, gates-done}

@@ -6,7 +6,7 @@ ghost use mathlib.Core.Bool.{cond, not};
 ghost use mathlib.Core.List.{_++_};
 ghost use Prim.Native.Nat.{_-_, _≤_, _<_};
 ghost use lib.ListN.{length, set, drop};
-ghost use Rattle.network.specs.Bound.{boundBytes};
+ghost use Rattle.network.specs.Choices.{boundBytes};
 ghost use Rattle.tables.specs.Rows.{netOf, gatesIn};
 ghost use Rattle.orienting.specs.Ready.{Ready};
 ghost use Rattle.orienting.specs.Tries.{leftOut, ledRound};

@@ -10,10 +10,10 @@ use Rattle.network.specs.Networks.{Network, tableFault, Accepted}
 use Rattle.network.specs.Tables.{tableOf}
 use Rattle.network.specs.Plans.{isPlan}
 use Rattle.network.specs.Replies.{Outcome, plan, shutIn, lone, refused, unless, firstAnswer, roomFault, firstReply, planAfter}
-use Rattle.network.specs.Bound.{boundBytes, boundAfter}
+use Rattle.network.specs.Choices.{boundBytes, boundAfter}
 use Rattle.network.proofs.Order.{setting-length, plan-setting, first-is-plan}
 use Rattle.network.proofs.Replies.{unless-plan, first-given}
-use Rattle.network.proofs.Bound.{bound-length}
+use Rattle.network.proofs.Choices.{bound-length}
 use Rattle.lists.proofs.Bools.{clash}
 use Rattle.tables.specs.Rows.{netOf, gatesIn}
 use Rattle.tables.proofs.Cuts.{cut-ends-a, cut-ends-b, cut-net, cut-gates}

@@ -7,7 +7,7 @@ use mathlib.Core.List.{List}
 use lib.ListN.{length}
 use Rattle.network.specs.Networks.{Network}
 use Rattle.network.specs.Replies.{Outcome, number, reachIn, countIn, marksAfter, firstReply}
-use Rattle.network.specs.Bound.{boundAfter}
+use Rattle.network.specs.Choices.{boundAfter}
 use Rattle.replies.specs.declared.Verdict.{Verdict}
 use Rattle.replies.specs.declared.Verdict.the-variants.{Plan, ShutIn, Lone}
 use Rattle.replies.specs.declared.Answer.{Answer}

@@ -14,7 +14,7 @@ ghost use mathlib.Core.Path.{_≡_};
 ghost use mathlib.Core.List.{_++_};
 ghost use lib.ListN.{drop};
 ghost use Rattle.network.specs.Networks.{net};
-ghost use Rattle.network.specs.Bound.{boundBytes};
+ghost use Rattle.network.specs.Choices.{boundBytes};
 ghost use Rattle.tables.specs.Rows.{netOf, gatesIn};
 ghost use Rattle.packing.specs.Tables.{OfTable};
 ghost use Rattle.binding.specs.Tellings.{Planned};

@@ -14,10 +14,10 @@ use Rattle.network.specs.Settings.{gates, gateCount}
 use Rattle.network.specs.Plans.{isPlan}
 use Rattle.network.specs.Marks.{markBytes}
 use Rattle.network.specs.Replies.{Outcome, plan, firstAnswer, firstOf, roomFault, firstReply}
-use Rattle.network.specs.Bound.{boundByte, boundBytes, boundAfter, flapAt}
+use Rattle.network.specs.Choices.{boundByte, boundBytes, boundAfter, flapAt}
 use Rattle.network.proofs.Ways.{gate-at}
 use Rattle.network.proofs.Order.{next-is-plan}
-use Rattle.network.proofs.Bound.{bound-plan, bound-length, bound-getD, flap-accepted, bound-flap}
+use Rattle.network.proofs.Choices.{bound-plan, bound-length, bound-getD, flap-accepted, bound-flap}
 use Rattle.refusals.proofs.Dues.{long-enough}
 use Rattle.replies.specs.declared.Verdict.the-variants.{Plan}
 use Rattle.replies.specs.declared.Answer.{Answer}

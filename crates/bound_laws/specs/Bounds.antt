@@ -9,7 +9,7 @@ use lib.ListN.{length, getD}
 use Rattle.network.specs.Networks.{Network}
 use Rattle.network.specs.Settings.{gates, gateCount}
 use Rattle.network.specs.Marks.{markBytes}
-use Rattle.network.specs.Bound.{flapAt}
+use Rattle.network.specs.Choices.{flapAt}
 use Rattle.replies.specs.declared.Verdict.the-variants.{Plan}
 use Rattle.replies.specs.declared.Answer.{Answer}
 use Rattle.replies.specs.Answers.{given, FirstCall, NextCall}

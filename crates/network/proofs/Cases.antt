@@ -8,7 +8,7 @@ use Rattle.network.specs.Plans.{stronglyConnectedUnder, isPlan, passable
 use Rattle.network.specs.Bridges.{crossesAlone, isBridge, lowestBridge}
 use Rattle.network.specs.Marks.{marksOf}
 use Rattle.network.specs.Replies.{shutInBasin, shutInSide, bridgeSide, shutInFinding, loneFinding, answer, firstAnswer, nextAnswer, roomFault, firstReply, nextReply}
-use Rattle.network.specs.Bound.{plans, boundByte, boundBytes}
+use Rattle.network.specs.Choices.{plans, boundByte, boundBytes}
 use Rattle.network.specs.Cases.{cases, shutCases, boundCases, CasesHold, BytesHold}
 
 pub marked-cases : CasesHold cases × CasesHold shutCases × BytesHold boundCases

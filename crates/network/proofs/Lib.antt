@@ -12,4 +12,4 @@ pub mod Certificates
 pub mod Marks
 pub mod Order
 pub mod Services
-pub mod Bound
+pub mod Choices

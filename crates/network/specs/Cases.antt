@@ -14,7 +14,7 @@ use Rattle.network.specs.Settings.{gateCount}
 use Rattle.network.specs.Marks.{markBytes}
 use Rattle.network.specs.Services.{shutReach}
 use Rattle.network.specs.Replies.{Outcome, plan, shutIn, lone, refused, firstReply, nextReply}
-use Rattle.network.specs.Bound.{boundIn}
+use Rattle.network.specs.Choices.{boundIn}
 
 -- "G gated, F flap, T two-way."
 abbrev pub G : ℕ → ℕ → Reach

@@ -8,5 +8,5 @@ pub mod Bridges
 pub mod Marks
 pub mod Replies
 pub mod Services
-pub mod Bound
+pub mod Choices
 pub mod Cases

@@ -27,7 +27,7 @@ use Rattle.network.specs.Orientations.{Arc, way, ways, passing, arcs, re
 use Rattle.network.specs.Plans.{stronglyConnectedUnder, isPlan, passable, firstPlan, nextPlan}
 use Rattle.network.specs.Bridges.{noReach, reachAt}
 use Rattle.network.specs.Replies.{plan, firstAnswer}
-use Rattle.network.specs.Bound.{plans, hungAlike, boundByte, boundBytes, flapReach, flapAt}
+use Rattle.network.specs.Choices.{plans, hungAlike, boundByte, boundBytes, flapReach, flapAt}
 use Rattle.network.proofs.Networks.{endsBelow, fault-none, tests-passed}
 use Rattle.network.proofs.Bridges.{bridge-blocks}
 use Rattle.network.proofs.Ways.{gate-at, plain-here, plain-after, reachOf, Looser}

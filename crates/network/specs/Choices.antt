@@ -1,4 +1,4 @@
--- Document 02, item 2, "Which gates have no choice": bound gates, what the call that tells them leaves, and a gated reach made a flap. proofs/Bound.antt: what
+-- Document 02, item 2, "Which gates have no choice": bound gates, what the call that tells them leaves, and a gated reach made a flap. proofs/Choices.antt: what
 -- the bytes say of all plans, and that "a reach made a flap as drawn leaves a plan exactly if its byte isn't 1, made a flap turned exactly if it isn't 0".
 -- Assumes nothing.
 use Prim.Native.Nat.{ℕ}
@@ -20,7 +20,7 @@ use Rattle.network.specs.Replies.{Outcome, plan, shutIn, lone, refused}
 unfoldable pub plans : Network → List (List ℕ)
 plans N = keep (isPlan N) (settings (gateCount N))
 
--- The k-th gated reach is "hung alike in all plans": as drawn if x is 0, turned if it is 1.
+-- A bound gate: the k-th gated reach is "hung alike in all plans (source document 000)", as drawn if x is 0, turned if it is 1.
 abbrev pub hungAlike : Network → ℕ → ℕ → Bool
 hungAlike N k x = every (λ p. eqb (getD p k 2) x) (plans N)
 
