@@ -14,7 +14,7 @@ use lib.Seq.{split-at, take-take, getD-take, getD-append-seam}
 use lib.Dec.{eqb}
 use borrow.Author.Tests.{eqb-true, eqb-false, eq-eqb}
 use Rattle.lists.specs.Lists.{range, every, some?, find, keep, elem}
-use Rattle.lists.proofs.Bools.{decide, clash, same-test}
+use Rattle.lists.proofs.Bools.{or-cases, decide, clash, same-test}
 use Rattle.lists.proofs.Lists.{drop-one, length-cond, length-cond-le}
 
 module _ {A : Type 0} (p : A → Bool) where
@@ -57,6 +57,20 @@ module _ {A : Type 0} (p : A → Bool) where
       (λ e. (x, List·Memᴰ·head refl, e))
       (λ e. let r = some-has xs (rw e at h) in (r .0, List·Memᴰ·tail (r .1), r .2))
       (decide (p x))
+
+  -- the same by number
+  pub some-getD : (xs : List A) (i : ℕ) (d : A) → i < length xs → p (getD xs i d) ≡ true → some? p xs ≡ true
+  some-getD [] i d l e = absurd (omega arith)
+  some-getD (x ∷ xs) zero d l e = or-inl _ _ e
+  some-getD (x ∷ xs) (suc i) d l e = or-inr (p x) _ (some-getD xs i d (omega arith) e)
+
+  pub some-at : (xs : List A) (d : A) → some? p xs ≡ true → (i : ℕ) × (i < length xs) × (p (getD xs i d) ≡ true)
+  some-at [] d e = absurd (false≢true e)
+  some-at (x ∷ xs) d e =
+      ⊎-elim
+      (λ here. (0, omega arith, here))
+      (λ more. let k = some-at xs d more in (suc (k .0), omega (arith, k .1), k .2))
+      (or-cases (p x) _ e)
 
   pub some-none : {x : A} {xs : List A} → some? p xs ≡ false → List·Memᴰ x xs → p x ≡ false
   some-none {x} h m = bool-eq-false {b = p x} (λ e. clash (some-make m e) h)

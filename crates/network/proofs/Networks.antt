@@ -8,17 +8,18 @@ use mathlib.Core.Logic.{_⊎_, inl, inr, ⊎-elim}
 use mathlib.Core.Option.{Option, none, some, Option·some-ne-none}
 use mathlib.Core.List.{List, [], _∷_, List·Memᴰ, List·Memᴰ·not-nil, List·Memᴰ·cases-cons}
 use lib.ListN.{length, getD}
-use lib.Dec.{leb, ltb}
-use borrow.Author.Tests.{leb-true, ltb-true}
-use mathlib.Mathlib.Data.Bool.Basic.{and-elim-left, and-elim-right}
+use lib.Dec.{leb, ltb, eqb}
+use borrow.Author.Tests.{leb-true, ltb-true, eqb-true, eq-eqb}
+use mathlib.Mathlib.Data.Bool.Basic.{and-elim-left, and-elim-right, and-intro, or-inl, or-inr}
+use Rattle.lists.proofs.Bools.{or-cases}
 use Rattle.lists.proofs.Lists.{length-cond-le}
-use Rattle.lists.proofs.Searches.{every-getD}
+use Rattle.lists.proofs.Searches.{every-getD, some-getD, some-at}
 use Rattle.network.specs.declared.Kind.the-variants.{TwoWay}
 use Rattle.network.specs.declared.State.the-variants.{Shut}
 use Rattle.network.specs.declared.Reach.{Reach}
 use Rattle.network.specs.declared.Refusal.{Refusal}
 use Rattle.network.specs.declared.Refusal.the-variants.{BasinCount, TooManyReaches, EndOutOfRange}
-use Rattle.network.specs.Networks.{Network, inService, maxBasins, maxReaches, basinsOf, lowestBasin, goodCount, goodLength, goodEnds, tableFault, Accepted}
+use Rattle.network.specs.Networks.{Network, inService, endsAt, isWet, maxBasins, maxReaches, basinsOf, lowestBasin, goodCount, goodLength, goodEnds, tableFault, Accepted}
 use Rattle.network.specs.Tables.{stateOf}
 use Rattle.network.specs.Settings.{isGated, gatesFrom, gateCount}
 use Rattle.network.specs.Orientations.{arc, passing, arcs}
@@ -108,6 +109,34 @@ gates-below o (r ∷ t) = length-cond-le (isGated (r .state)) o (gatesFrom (suc 
 
 pub gates-fit : (N : Network) → Accepted N → gateCount N ≤ maxReaches
 gates-fit N ok = omega (arith, gates-below 0 (N .reaches), accepted N ok .few-reaches)
+
+-- ---- wet basins
+
+-- a basin is wet exactly if a reach in service has an end there
+pub record WetBy (N : Network) (b : ℕ) : Type 0 where
+  pub reach : ℕ
+  pub below : reach < length (N .reaches)
+  pub serves : inService ((reachAt N reach) .state) ≡ true
+  pub ends : ((reachAt N reach) .a ≡ b) ⊎ ((reachAt N reach) .b ≡ b)
+
+pub wet-by : (N : Network) (b : ℕ) → isWet N b ≡ true → WetBy N b
+unfolding isWet
+wet-by N b e =
+    let k = some-at (endsAt b) (N .reaches) noReach e in
+    let r = reachAt N (k .0) in
+    record {
+      reach = k .0;
+      below = k .1;
+      serves = and-elim-left (inService (r .state)) _ (k .2);
+      ends = ⊎-elim (λ f. inl (eqb-true (r .a) b f)) (λ f. inr (eqb-true (r .b) b f)) (or-cases (eqb (r .a) b) _ (and-elim-right (inService (r .state)) _ (k .2)));
+    }
+
+pub wet-make : (N : Network) (b : ℕ) → WetBy N b → isWet N b ≡ true
+unfolding isWet
+wet-make N b w =
+    let r = reachAt N (w .reach) in
+    some-getD (endsAt b) (N .reaches) (w .reach) noReach (w .below)
+    (and-intro (w .serves) (⊎-elim (λ e. or-inl _ _ (eq-eqb (r .a) b e)) (λ e. or-inr (eqb (r .a) b) _ (eq-eqb (r .b) b e)) (w .ends)))
 
 -- ---- basins
 

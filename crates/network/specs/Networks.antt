@@ -2,18 +2,18 @@
 -- Assumes nothing.
 use Prim.Native.Nat.{ℕ}
 use mathlib.Core.Path.{_≡_}
-use mathlib.Core.Bool.{Bool, true, false, cond, not, _&&_}
+use mathlib.Core.Bool.{Bool, true, false, cond, not, _&&_, _||_}
 use mathlib.Core.List.{List}
 use mathlib.Core.Option.{Option, none, some}
 use lib.ListN.{length, getD}
-use lib.Dec.{leb, ltb}
+use lib.Dec.{leb, ltb, eqb}
 use Rattle.network.specs.declared.Kind.{Kind}
 use Rattle.network.specs.declared.State.{State}
 use Rattle.network.specs.declared.State.the-variants.{InService, Shut}
 use Rattle.network.specs.declared.Reach.{Reach}
 use Rattle.network.specs.declared.Refusal.{Refusal}
 use Rattle.network.specs.declared.Refusal.the-variants.{BasinCount, TooManyReaches, EndOutOfRange}
-use Rattle.lists.specs.Lists.{range, every}
+use Rattle.lists.specs.Lists.{range, every, some?}
 
 -- "A network has 1 to 256 basins, numbered from 0, and 0 to 1,024 reaches, numbered from 0 in file order."
 abbrev pub maxBasins : ℕ
@@ -41,6 +41,14 @@ inService (Shut k) = false
 abbrev pub kindIn : State → Kind
 kindIn (InService k) = k
 kindIn (Shut k) = k
+
+-- A reach in service has an end at basin b. A loop has both its ends there.
+abbrev pub endsAt : ℕ → Reach → Bool
+endsAt b r = inService (r .state) && (eqb (r .a) b || eqb (r .b) b)
+
+-- Document 02, item 3: "A basin is dry if no reach in service has an end there; a loop keeps it wet." Basin b is wet.
+unfoldable pub isWet : Network → ℕ → Bool
+isWet N b = some? (endsAt b) (N .reaches)
 
 -- The basins of a network, lowest first.
 abbrev pub basinsOf : Network → List ℕ
