@@ -34,10 +34,6 @@ range-in {j} i (suc n) m =
     (λ k. let r = range-in (suc i) n k in (omega arith, omega arith))
     (List·Memᴰ·cases-cons m)
 
-pub range-head : (n : ℕ) → getD (range 0 n) 0 0 ≡ 0
-range-head zero = refl
-range-head (suc n) = refl
-
 pub range-add : (i m n : ℕ) → range i (m + n) ≡ range i m ++ range (i + m) n
 range-add i zero n = rw (zero-add, add-zero)
 range-add i (suc m) n = rw (suc-add, range-add (suc i) m n, add-suc, suc-add)

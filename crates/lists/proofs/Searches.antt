@@ -3,7 +3,7 @@
 use Prim.Native.Nat.{ℕ, zero, suc, _+_, _≤_, _<_}
 use mathlib.Core.Path.{_≡_, refl, sym, _∙_, ap}
 use mathlib.Core.Logic.{_⊎_, inl, inr, ⊎-elim}
-use mathlib.Core.Bool.{Bool, true, false, cond, true≢false, false≢true}
+use mathlib.Core.Bool.{Bool, true, false, cond, _&&_, _||_, true≢false, false≢true}
 use mathlib.Core.List.{List, [], _∷_, _++_, map, List·Memᴰ, List·Memᴰ·head, List·Memᴰ·tail, List·Memᴰ·not-nil, List·Memᴰ·cases-cons, Memᴰ·cast}
 use mathlib.Core.Option.{none, some, Option·some-injective, Option·none-ne-some, Option·some-ne-none}
 use native.Mathlib.Nat.{not-suc-le-zero, le-of-suc-le-suc}
@@ -175,8 +175,8 @@ pub keep-same : {A : Type 0} (p q : A → Bool) (xs : List A) → ((x : A) → L
 keep-same p q [] f = refl
 keep-same p q (x ∷ xs) f = rw (f x (List·Memᴰ·head refl), keep-same p q xs (λ y m. f y (List·Memᴰ·tail m)))
 
--- how many are kept of two lists after each other, and by a test that always fails
-keep-append : {A : Type 0} (p : A → Bool) (xs ys : List A) → keep p (xs ++ ys) ≡ keep p xs ++ keep p ys
+-- what is kept of two lists after each other, how many, and by a test that always fails
+pub keep-append : {A : Type 0} (p : A → Bool) (xs ys : List A) → keep p (xs ++ ys) ≡ keep p xs ++ keep p ys
 keep-append p [] ys = refl
 keep-append {A} p (x ∷ xs) ys = rw (keep-append p xs ys) (one (p x) (keep p xs))
   where
@@ -186,6 +186,53 @@ keep-append {A} p (x ∷ xs) ys = rw (keep-append p xs ys) (one (p x) (keep p xs
 
 pub count-append : {A : Type 0} (p : A → Bool) (xs ys : List A) → length (keep p (xs ++ ys)) ≡ length (keep p xs) + length (keep p ys)
 count-append p xs ys = ap length (keep-append p xs ys) ∙ length-append (keep p xs) (keep p ys)
+
+-- what keep does at one member
+module _ {A : Type 0} (p : A → Bool) where
+  keep-yes : {x : A} (xs : List A) → p x ≡ true → keep p (x ∷ xs) ≡ x ∷ keep p xs
+  keep-yes xs e = rw e
+
+  keep-no : {x : A} (xs : List A) → p x ≡ false → keep p (x ∷ xs) ≡ keep p xs
+  keep-no xs e = rw e
+
+  -- the first that is kept is what is found
+  pub keep-first : (d : A) (xs : List A) {k : A} → find p xs ≡ some k → getD (keep p xs) 0 d ≡ k
+  keep-first d [] {k} h = absurd (Option·none-ne-some k h)
+  keep-first d (x ∷ xs) {k} h =
+      ⊎-elim
+      (λ e. ap (λ (l : List A). getD l 0 d) (keep-yes xs e) ∙ Option·some-injective x k (sym (find-yes p xs e) ∙ h))
+      (λ e. ap (λ (l : List A). getD l 0 d) (keep-no xs e) ∙ keep-first d xs (sym (find-no p xs e) ∙ h))
+      (decide (p x))
+
+-- some?: a list without members of which it fails
+pub some-keep : {A : Type 0} (p q : A → Bool) (xs : List A) → ((x : A) → p x ≡ false → q x ≡ false) → some? q (keep p xs) ≡ some? q xs
+some-keep p q [] f = refl
+some-keep p q (x ∷ xs) f =
+    ⊎-elim
+    (λ e. ap (some? q) (keep-yes p xs e) ∙ ap (λ (b : Bool). q x || b) (some-keep p q xs f))
+    (λ e. ap (some? q) (keep-no p xs e) ∙ some-keep p q xs f ∙ ap (λ (b : Bool). b || some? q xs) (sym (f x e)))
+    (decide (p x))
+
+-- what is kept is kept again, or searched, by both tests at once
+module _ {A : Type 0} (p q : A → Bool) where
+  pub keep-keep : (xs : List A) → keep q (keep p xs) ≡ keep (λ x. p x && q x) xs
+  keep-keep [] = refl
+  keep-keep (x ∷ xs) =
+      ⊎-elim
+      (λ e. ap (keep q) (keep-yes p xs e) ∙ ap (λ (l : List A). cond (q x) (x ∷ l) l) (keep-keep xs) ∙ rw e)
+      (λ e. ap (keep q) (keep-no p xs e) ∙ keep-keep xs ∙ rw e)
+      (decide (p x))
+
+  pub find-keep : (xs : List A) → find q (keep p xs) ≡ find (λ x. p x && q x) xs
+  find-keep [] = refl
+  find-keep (x ∷ xs) =
+      ⊎-elim
+      (λ e. ap (find q) (keep-yes p xs e) ∙ ⊎-elim
+      (λ f. find-yes q (keep p xs) f ∙ sym (find-yes (λ x. p x && q x) xs (and-intro e f)))
+      (λ f. find-no q (keep p xs) f ∙ find-keep xs ∙ sym (find-no (λ x. p x && q x) xs (rw (e, f))))
+      (decide (q x)))
+      (λ e. ap (find q) (keep-no p xs e) ∙ find-keep xs ∙ sym (find-no (λ x. p x && q x) xs (rw e)))
+      (decide (p x))
 
 pub keep-none : {A : Type 0} (xs : List A) → keep (λ x. false) xs ≡ []
 keep-none [] = refl

@@ -25,8 +25,8 @@ use Rattle.lists.proofs.Searches.{every-at, every-make, some-make, some-has, fi
 use Rattle.lists.proofs.Ranges.{range-has, range-in}
 use Rattle.network.proofs.Walks.{walk-inside}
 use Rattle.network.proofs.Cuts.{strong-walks, one-crossing}
-use Rattle.network.proofs.Ways.{passingAt, arcs-in, gate-small, ShutOut, shut-out, arc-in-service}
-use Rattle.network.proofs.Networks.{accepted, basin-in, lowest-in, reach-alike, arc-alike}
+use Rattle.network.proofs.Ways.{passingAt, arcs-in, gate-small, gated-in-service, ShutOut, shut-out, arc-in-service}
+use Rattle.network.proofs.Networks.{end-a-in, end-b-in, lowest-in, reach-alike, arc-alike}
 
 -- ---- sides
 
@@ -71,9 +71,13 @@ crossing-ends S r e = and-elim-right (inService (r .state)) _ e
 pub uncrossed-ends : (S : ℕ → Bool) (r : Reach) → crossesBy S r ≡ false → inService (r .state) ≡ true → S (r .a) ≡ S (r .b)
 uncrossed-ends S r e serves = beq-true (S (r .a)) (S (r .b)) (not-false _ (rw serves at e))
 
--- tests that agree on both ends are crossed alike
-crossed-same : (S S′ : ℕ → Bool) (r : Reach) → S′ (r .a) ≡ S (r .a) → S′ (r .b) ≡ S (r .b) → crossesBy S′ r ≡ crossesBy S r
-crossed-same S S′ r ea eb = rw (ea, eb)
+-- tests that agree on both ends, if the reach is in service, are crossed alike
+crossed-same : (S S′ : ℕ → Bool) (r : Reach) → (inService (r .state) ≡ true → (S′ (r .a) ≡ S (r .a)) × (S′ (r .b) ≡ S (r .b))) → crossesBy S′ r ≡ crossesBy S r
+crossed-same S S′ r f = go (inService (r .state)) refl
+  where
+    go : (x : Bool) → inService (r .state) ≡ x → x && not (Bool·beq (S′ (r .a)) (S′ (r .b))) ≡ x && not (Bool·beq (S (r .a)) (S (r .b)))
+    go true e = rw (f e .0, f e .1)
+    go false e = refl
 
 -- ---- the only reach that crosses
 
@@ -100,11 +104,11 @@ alone-test N S i f = every-make (λ j. Bool·beq (crosses S (reachAt N j)) (eqb 
         go (yes e) = beq-make (crosses S (reachAt N j)) (eqb j i) (subst⁻¹ (λ (x : ℕ). crosses S (reachAt N x) ≡ true) e (f .crossing) ∙ sym (eq-eqb j i e))
         go (no n) = beq-make (crosses S (reachAt N j)) (eqb j i) (f .others j (omega (arith, (range-in 0 (length (N .reaches)) m) .1)) n ∙ sym (ne-eqb j i n))
 
--- a side that agrees with S on the basins is crossed like S
+-- a side that agrees with S on the basins that count is crossed like S
 pub alone-same : (N : Network) → Accepted N → (S S′ : ℕ → Bool) (i : ℕ) → i < length (N .reaches) → ((b : ℕ) → List·Memᴰ b (basinsOf N) → S′ b ≡ S b) → Alone N S i → Alone N S′ i
 alone-same N ok S S′ i l same f =
     let alike : (j : ℕ) → j < length (N .reaches) → crossesBy S′ (reachAt N j) ≡ crossesBy S (reachAt N j) =
-    λ j k. crossed-same S S′ (reachAt N j) (same _ (basin-in N _ ((accepted N ok) .end-a j k))) (same _ (basin-in N _ ((accepted N ok) .end-b j k))) in
+    λ j k. crossed-same S S′ (reachAt N j) (λ e. (same _ (end-a-in N ok j k e), same _ (end-b-in N ok j k e))) in
     record { crossing = alike i l ∙ f .crossing; others = λ j k n. alike j k ∙ f .others j k n }
 
 -- ---- lone reaches
@@ -145,11 +149,14 @@ cut-of N ok i l S f =
     bs : List ℕ
     bs = basinsOf N
 
+    serves : inService ((reachAt N i) .state) ≡ true
+    serves = and-elim-left (inService ((reachAt N i) .state)) _ (f .crossing)
+
     ina : List·Memᴰ ((reachAt N i) .a) (basinsOf N)
-    ina = basin-in N _ ((accepted N ok) .end-a i l)
+    ina = end-a-in N ok i l serves
 
     inb : List·Memᴰ ((reachAt N i) .b) (basinsOf N)
-    inb = basin-in N _ ((accepted N ok) .end-b i l)
+    inb = end-b-in N ok i l serves
 
     inside : (x y : ℕ) → List·Memᴰ x (basinsOf N) → List·Memᴰ y (basinsOf N) → S x ≡ true → S y ≡ false → isCut (basinsOf N) (keep S (basinsOf N)) ≡ true
     inside x y mx my px py =
@@ -220,11 +227,11 @@ bridge-blocks N i e = let c = bridge-cut N i e in cut-blocks N i (c .0) (bridge-
 
 -- ---- the division is the only one
 
-pub cut-unique : (N : Network) → Accepted N → (h : List ℕ) → stronglyConnectedUnder N h ≡ true → (i : ℕ) (S S′ : ℕ → Bool) → Alone N S i → Alone N S′ i → S (lowestBasin N) ≡ S′ (lowestBasin N) → (b : ℕ) → List·Memᴰ b (basinsOf N) → S b ≡ S′ b
+pub cut-unique : (N : Network) (h : List ℕ) → stronglyConnectedUnder N h ≡ true → (i : ℕ) (S S′ : ℕ → Bool) → Alone N S i → Alone N S′ i → S (lowestBasin N) ≡ S′ (lowestBasin N) → (b : ℕ) → List·Memᴰ b (basinsOf N) → S b ≡ S′ b
 unfolding stronglyConnectedUnder
-cut-unique N ok h str i S S′ f f′ low b m =
+cut-unique N h str i S S′ f f′ low b m =
     beq-true (S b) (S′ b)
-    (walk-inside (λ x. Bool·beq (S x) (S′ x)) closed (strong-walks (basinsOf N) (arcsUnder N h) str (lowestBasin N) b (lowest-in N ok) m) (beq-make (S (lowestBasin N)) (S′ (lowestBasin N)) low))
+    (walk-inside (λ x. Bool·beq (S x) (S′ x)) closed (strong-walks (basinsOf N) (arcsUnder N h) str (lowestBasin N) b (lowest-in N m) m) (beq-make (S (lowestBasin N)) (S′ (lowestBasin N)) low))
   where
     alike : (j : ℕ) → j < length (N .reaches) → inService ((reachAt N j) .state) ≡ true → Bool·beq (S ((reachAt N j) .a)) (S′ ((reachAt N j) .a)) ≡ Bool·beq (S ((reachAt N j) .b)) (S′ ((reachAt N j) .b))
     alike j l serves = go (ℕ-discrete j i)
@@ -267,7 +274,7 @@ bridge-side N ok i e = found (find test (sides (basinsOf N))) refl
         ⊎-elim
         (λ y.
         passing-test (keep (λ b. not (elem b (c .0))) (basinsOf N)) (cut-of N ok i (bridge-below N i e) (λ b. not (elem b (c .0))) (alone-rest N (λ b. elem b (c .0)) i f))
-        (elem-keep (λ b. not (elem b (c .0))) (lowest-in N ok) ∙ ap not y) n)
+        (elem-keep (λ b. not (elem b (c .0))) (lowest-in N (end-a-in N ok i (bridge-below N i e) (gated-in-service ((reachAt N i) .state) (bridge-gated N i e)))) ∙ ap not y) n)
         (λ w. passing-test (c .0) (c .1) w n)
         (decide (elem (lowestBasin N) (c .0)))
 

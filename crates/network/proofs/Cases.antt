@@ -1,20 +1,21 @@
--- The marked cases 1 to 11, the cases with shut reaches and the bytes of bound gates, computed from the definitions.
+-- The marked cases 1 to 11, the cases with shut reaches, those with dry basins and the bytes of bound gates, computed from the definitions.
 -- Assumes nothing.
 use mathlib.Core.Path.{refl}
 use lib.Count.{ones}
-use Rattle.network.specs.Networks.{tableFault}
+use Rattle.network.specs.Networks.{isWet, basinsOf, tableFault}
 use Rattle.network.specs.Settings.{isSetting, settingFault}
 use Rattle.network.specs.Plans.{stronglyConnectedUnder, isPlan, passable, firstPlan, nextPlan}
 use Rattle.network.specs.Bridges.{crossesAlone, isBridge, lowestBridge}
 use Rattle.network.specs.Marks.{marksOf}
 use Rattle.network.specs.Replies.{shutInBasin, shutInSide, bridgeSide, shutInFinding, loneFinding, answer, firstAnswer, nextAnswer, roomFault, firstReply, nextReply}
 use Rattle.network.specs.Choices.{plans, boundByte, boundBytes}
-use Rattle.network.specs.Cases.{cases, shutCases, boundCases, CasesHold, BytesHold}
+use Rattle.network.specs.Cases.{cases, shutCases, dryCases, boundCases, CasesHold, BytesHold}
 
-pub marked-cases : CasesHold cases × CasesHold shutCases × BytesHold boundCases
-unfolding tableFault isSetting settingFault stronglyConnectedUnder isPlan passable firstPlan nextPlan crossesAlone isBridge lowestBridge marksOf ones shutInBasin shutInSide bridgeSide shutInFinding loneFinding answer firstAnswer nextAnswer roomFault firstReply nextReply plans boundByte boundBytes
+pub marked-cases : CasesHold cases × CasesHold shutCases × CasesHold dryCases × BytesHold boundCases
+unfolding isWet basinsOf tableFault isSetting settingFault stronglyConnectedUnder isPlan passable firstPlan nextPlan crossesAlone isBridge lowestBridge marksOf ones shutInBasin shutInSide bridgeSide shutInFinding loneFinding answer firstAnswer nextAnswer roomFault firstReply nextReply plans boundByte boundBytes
 marked-cases = (
-  ((refl, (refl, tt)), ((refl, tt), ((refl, (refl, (refl, (refl, tt)))), ((refl, tt), ((refl, tt), ((refl, tt), ((refl, (refl, tt)), ((refl, (refl, tt)), ((refl, (refl, (refl, tt))), ((refl, tt), ((refl, tt), tt))))))))))),
-  ((refl, tt), ((refl, tt), ((refl, (refl, (refl, (refl, tt)))), ((refl, tt), ((refl, tt), ((refl, tt), ((refl, (refl, tt)), tt))))))),
-  (refl, (refl, (refl, (refl, (refl, (refl, (refl, (refl, (refl, (refl, (refl, (refl, (refl, tt))))))))))))),
+  ((refl, (refl, tt)), ((refl, tt), ((refl, (refl, (refl, (refl, tt)))), ((refl, tt), ((refl, tt), ((refl, (refl, tt)), ((refl, (refl, tt)), ((refl, (refl, tt)), ((refl, (refl, (refl, tt))), ((refl, tt), ((refl, tt), tt))))))))))),
+  ((refl, (refl, tt)), ((refl, tt), ((refl, (refl, (refl, (refl, tt)))), ((refl, tt), ((refl, tt), ((refl, tt), ((refl, tt), ((refl, (refl, tt)), tt)))))))),
+  ((refl, (refl, (refl, tt))), ((refl, (refl, tt)), ((refl, tt), ((refl, (refl, tt)), ((refl, tt), ((refl, tt), ((refl, tt), ((refl, tt), ((refl, tt), ((refl, tt), ((refl, (refl, (refl, tt))), tt))))))))))),
+  (refl, (refl, (refl, (refl, (refl, (refl, (refl, (refl, (refl, (refl, (refl, (refl, (refl, (refl, tt)))))))))))))),
 )

@@ -4,8 +4,8 @@
 use Prim.Native.Nat.{ℕ, _*_, _<_}
 use native.Mathlib.Omega.{arith}
 use native.Mathlib.Decide.{decLt}
-use mathlib.Core.Path.{_≡_, refl, sym, ap, subst, subst⁻¹, _∙_}
-use mathlib.Core.Bool.{Bool, true, false, not}
+use mathlib.Core.Path.{_≡_, refl, sym, ap, _∙_}
+use mathlib.Core.Bool.{Bool, true, false, not, _&&_}
 use mathlib.Core.Logic.{inl}
 use mathlib.Core.Option.{Option, none, some, Option·getD}
 use mathlib.Core.List.{List, List·Memᴰ}
@@ -13,19 +13,19 @@ use lib.ListN.{length}
 use borrow.Author.Tests.{not-false, not-true}
 use mathlib.Mathlib.Data.Bool.Basic.{bool-eq-false}
 use Rattle.lists.specs.Lists.{keep, elem}
-use Rattle.network.specs.Networks.{Network, basinsOf, Accepted}
+use Rattle.network.specs.Networks.{Network, isWet, basinsOf, lowestBasin, Accepted}
 use Rattle.network.specs.Settings.{isGated, isSetting}
 use Rattle.network.specs.Orientations.{arc, arcsUnder, reached, unoriented}
 use Rattle.network.specs.Plans.{reachesAll, stronglyConnectedUnder, isPlan, passable}
 use Rattle.network.specs.Bridges.{reachAt, isBridge, lowestBridge}
 use Rattle.network.specs.Marks.{markBytes, marksOf, marked, onesIn}
 use Rattle.network.specs.Replies.{shutIn, lone, shutInBasin, shutInSide, bridgeSide, shutInFinding, loneFinding}
-use Rattle.lists.proofs.Bools.{clash}
+use Rattle.lists.proofs.Bools.{clash, same-test}
 use Rattle.lists.proofs.Searches.{every-fails, find-some, find-none, find-first, keep-in, keep-same, elem-in, elem-keep}
 use Rattle.network.proofs.Marks.{marked-is, unmarked-past, marks-same, count-is}
 use Rattle.network.proofs.Cuts.{reached-on}
-use Rattle.network.proofs.Ways.{looser-within}
-use Rattle.network.proofs.Networks.{accepted, basin-in, basin-below, lowest-is-0, arcs-in-basins}
+use Rattle.network.proofs.Ways.{gated-in-service, shut-out, looser-within}
+use Rattle.network.proofs.Networks.{accepted, basin-below, basin-wet, basins-kept, basins-found, end-a-in, lowest-in, arcs-in-basins}
 use Rattle.network.proofs.Bridges.{Alone, alone-facts, alone-same, side-basins, cut-unique, cut-blocks, bridge-below, bridge-gated, bridge-side}
 use Rattle.network.proofs.Theorem.{plan-passable, unoriented-2}
 use Rattle.network.proofs.Replies.{lowest-is-bridge}
@@ -52,38 +52,36 @@ module _ (N : Network) (ok : Accepted N) (S : List ℕ) (basins : (b : ℕ) → 
   -- the count is the number of marked basins
   pub marked-count : onesIn (marksOf S) ≡ length (keep (marked (marksOf S)) (basinsOf N))
   marked-count =
-      ap onesIn (marks-same S (keep (λ b. elem b S) (basinsOf N)) same)
-      ∙ count-is (λ b. elem b S) (N .basins) (omega (arith, (accepted N ok) .few-basins))
-      ∙ ap (λ (l : List ℕ). length l) (keep-same (λ b. elem b S) (marked (marksOf S)) (basinsOf N) (λ b m. sym (marked-in b m)))
+      ap onesIn (marks-same S (keep (λ b. elem b S) (basinsOf N)) (λ b l. same b))
+      ∙ ap (λ (l : List ℕ). onesIn (marksOf l)) (basins-kept N (λ b. elem b S))
+      ∙ count-is (λ b. isWet N b && elem b S) (N .basins) (omega (arith, (accepted N ok) .few-basins))
+      ∙ ap (λ (l : List ℕ). length l) (sym (basins-kept N (λ b. elem b S)) ∙ keep-same (λ b. elem b S) (marked (marksOf S)) (basinsOf N) (λ b m. sym (marked-in b m)))
     where
-      same : (b : ℕ) → b < 8 * markBytes → elem b S ≡ elem b (keep (λ b. elem b S) (basinsOf N))
-      same b l = go (decLt b (N .basins))
-        where
-          go : Dec (b < N .basins) → elem b S ≡ elem b (keep (λ b. elem b S) (basinsOf N))
-          go (yes below) = sym (elem-keep (λ b. elem b S) (basin-in N b below))
-          go (no n) =
-              bool-eq-false {b = elem b S} (λ e. n (basin-below N b (basins b (elem-in b S e))))
-              ∙ sym (bool-eq-false {b = elem b (keep (λ b. elem b S) (basinsOf N))} (λ e. n (basin-below N b ((keep-in (λ b. elem b S) (basinsOf N) (elem-in b (keep (λ b. elem b S) (basinsOf N)) e)) .0))))
+      same : (b : ℕ) → elem b S ≡ elem b (keep (λ b. elem b S) (basinsOf N))
+      same b =
+          same-test (elem b S) (elem b (keep (λ b. elem b S) (basinsOf N)))
+          (λ e. elem-keep (λ b. elem b S) (basins b (elem-in b S e)) ∙ e)
+          (λ e. (keep-in (λ b. elem b S) (basinsOf N) (elem-in b (keep (λ b. elem b S) (basinsOf N)) e)) .1)
 
 -- ---- shut in
 
--- What the marks m and the count c of finding 9 show.
+-- What the marks m and the count c of finding 9 show. The basins that count are the wet ones (document 02, item 3).
 pub record ShutInShown (N : Network) (m : List ℕ) (c : ℕ) : Type 0 where
   -- neither empty nor everything
-  pub inside : (b : ℕ) × (b < N .basins) × (marked m b ≡ true)
-  pub outside : (b : ℕ) × (b < N .basins) × (marked m b ≡ false)
-  pub only-basins : (b : ℕ) → marked m b ≡ true → b < N .basins
+  pub inside : (b : ℕ) × List·Memᴰ b (basinsOf N) × (marked m b ≡ true)
+  pub outside : (b : ℕ) × List·Memᴰ b (basinsOf N) × (marked m b ≡ false)
+  pub only-basins : (b : ℕ) → marked m b ≡ true → List·Memᴰ b (basinsOf N)
   -- no reach passes out of it under any setting
   pub closed : (s : List ℕ) (u v : ℕ) → isSetting N s ≡ true → List·Memᴰ (arc u v) (arcsUnder N s) → marked m u ≡ true → marked m v ≡ true
   pub count : c ≡ length (keep (marked m) (basinsOf N))
   pub no-plan : (s : List ℕ) → isPlan N s ≡ true → ⊥
 
--- the lowest-numbered basin that doesn't reach all
+-- the lowest-numbered wet basin that doesn't reach all
 pub record ShutInAt (N : Network) (u : ℕ) : Type 0 where
   pub is-it : shutInBasin N ≡ some u
   pub basin : List·Memᴰ u (basinsOf N)
   pub misses : reachesAll (basinsOf N) (arcsUnder N (unoriented N)) u ≡ false
-  pub lower-reach : (v : ℕ) → v < u → reachesAll (basinsOf N) (arcsUnder N (unoriented N)) v ≡ true
+  pub lower-reach : (v : ℕ) → List·Memᴰ v (basinsOf N) → v < u → reachesAll (basinsOf N) (arcsUnder N (unoriented N)) v ≡ true
 
 pub shut-in-at : (N : Network) → passable N ≡ false → (u : ℕ) × ShutInAt N u
 unfolding passable stronglyConnectedUnder shutInBasin
@@ -103,7 +101,8 @@ shut-in-at N n = go (shutInBasin N) refl
             is-it = e;
             basin = k .0;
             misses = not-true _ (k .1);
-            lower-reach = λ v l. not-false _ (find-first test 0 (N .basins) e v (omega arith) l);
+            lower-reach = λ v m l.
+                not-false _ (rw (basin-wet N v m) at (find-first (λ b. isWet N b && test b) 0 (N .basins) (sym (basins-found N test) ∙ e) v (omega arith) l));
           },
         )
 
@@ -122,12 +121,12 @@ shut-in-shown N ok n =
       onesIn (marksOf S),
       ap (λ (l : List ℕ). shutIn (marksOf l) (onesIn (marksOf l))) side,
       record {
-        inside = (u, basin-below N u (at .1 .basin), mark u (at .1 .basin) ∙ reached-refl A u);
-        outside = (miss .0, basin-below N (miss .0) (miss .1), mark (miss .0) (miss .1) ∙ miss .2);
-        only-basins = λ b e. basin-below N b (marked-basin N ok S basins b e);
+        inside = (u, at .1 .basin, mark u (at .1 .basin) ∙ reached-refl A u);
+        outside = (miss .0, miss .1, mark (miss .0) (miss .1) ∙ miss .2);
+        only-basins = marked-basin N ok S basins;
         closed = λ s c d hs m e.
             let m′ = looser-within (N .reaches) s (unoriented N) (λ k. inl (unoriented-2 N k)) (arc c d) m in
-            let ends = arcs-in-basins N ok _ c d m′ in
+            let ends = arcs-in-basins N ok _ (shut-out (N .reaches) (unoriented N)) c d m′ in
             mark d (ends .1) ∙ reached-on A u c d m′ (sym (mark c (ends .0)) ∙ e);
         count = marked-count N ok S basins;
         no-plan = λ s e. clash (plan-passable N s e) n;
@@ -136,17 +135,17 @@ shut-in-shown N ok n =
 
 -- ---- lone reach
 
--- What the reach i, the marks m and the count c of finding 10 show.
+-- What the reach i, the marks m and the count c of finding 10 show, among the wet basins.
 pub record BridgeShown (N : Network) (i : ℕ) (m : List ℕ) (c : ℕ) : Type 0 where
   pub below : i < length (N .reaches)
   pub gated : isGated ((reachAt N i) .state) ≡ true
   -- it crosses the marked side, and no other reach in service does
   pub crossing : Alone N (marked m) i
-  -- the side is without basin 0
-  pub without-0 : marked m 0 ≡ false
-  pub only-basins : (b : ℕ) → marked m b ≡ true → b < N .basins
+  -- the side is "without basin 0", "read as without the lowest wet basin"
+  pub without-lowest : marked m (lowestBasin N) ≡ false
+  pub only-basins : (b : ℕ) → marked m b ≡ true → List·Memᴰ b (basinsOf N)
   -- the division is the only one that it crosses alone
-  pub only-side : (S : ℕ → Bool) → Alone N S i → S 0 ≡ false → (b : ℕ) → b < N .basins → S b ≡ marked m b
+  pub only-side : (S : ℕ → Bool) → Alone N S i → S (lowestBasin N) ≡ false → (b : ℕ) → List·Memᴰ b (basinsOf N) → S b ≡ marked m b
   -- no reach with a lower number is lone
   pub lowest : (j : ℕ) → j < i → isBridge N j ≡ false
   pub count : c ≡ length (keep (marked m) (basinsOf N))
@@ -161,7 +160,8 @@ bridge-shown N ok pass i low =
     let side = bridge-side N ok i is-bridge in
     let basins : (b : ℕ) → List·Memᴰ b S → List·Memᴰ b (basinsOf N) = side-basins (basinsOf N) S (side .cut .side) in
     let alone : Alone N (marked (marksOf S)) i = alone-same N ok (λ b. elem b S) (marked (marksOf S)) i l (marked-in N ok S basins) (alone-facts N S i l (side .cut .alone)) in
-    let zero-out : marked (marksOf S) 0 ≡ false = marked-is S 0 (omega arith) ∙ subst (λ (b : ℕ). elem b S ≡ false) (lowest-is-0 N) (side .without) in (
+    let lowest = lowest-in N (end-a-in N ok i l (gated-in-service ((reachAt N i) .state) (bridge-gated N i is-bridge))) in
+    let out : marked (marksOf S) (lowestBasin N) ≡ false = marked-in N ok S basins (lowestBasin N) lowest ∙ side .without in (
       marksOf S,
       onesIn (marksOf S),
       refl,
@@ -169,11 +169,9 @@ bridge-shown N ok pass i low =
         below = l;
         gated = bridge-gated N i is-bridge;
         crossing = alone;
-        without-0 = zero-out;
-        only-basins = λ b e. basin-below N b (marked-basin N ok S basins b e);
-        only-side = λ S′ f e b bl.
-            cut-unique N ok (unoriented N) pass i S′ (marked (marksOf S)) f alone
-            (subst⁻¹ (λ (x : ℕ). S′ x ≡ marked (marksOf S) x) (lowest-is-0 N) (e ∙ sym zero-out)) b (basin-in N b bl);
+        without-lowest = out;
+        only-basins = marked-basin N ok S basins;
+        only-side = λ S′ f e. cut-unique N (unoriented N) pass i S′ (marked (marksOf S)) f alone (e ∙ sym out);
         lowest = λ j k. find-first (isBridge N) 0 (length (N .reaches)) low j (omega arith) k;
         count = marked-count N ok S basins;
         no-plan = cut-blocks N i S l (bridge-gated N i is-bridge) (side .cut);

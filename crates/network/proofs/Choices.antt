@@ -4,7 +4,7 @@ use Prim.Native.Nat.{ℕ, zero, suc, _+_, _≤_, _<_, compare·suc-suc}
 use native.Mathlib.Omega.{arith}
 use native.Mathlib.Decide.{ℕ-discrete}
 use mathlib.Core.Path.{_≡_, refl, sym, ap, _∙_}
-use mathlib.Core.Bool.{Bool, true, false, cond, _&&_, and-comm}
+use mathlib.Core.Bool.{Bool, true, false, cond, _&&_, _||_, and-comm, or-comm}
 use mathlib.Core.Logic.{_⊎_, inl, inr, ⊎-elim, _↔_}
 use mathlib.Core.List.{List, [], _∷_, _++_}
 use mathlib.Core.Option.{Option, none, some}
@@ -17,18 +17,18 @@ use Rattle.network.specs.declared.Kind.the-variants.{Gated, Flap, TwoWay
 use Rattle.network.specs.declared.State.{State}
 use Rattle.network.specs.declared.State.the-variants.{InService, Shut}
 use Rattle.network.specs.declared.Reach.{Reach}
-use Rattle.lists.specs.Lists.{range, every}
+use Rattle.lists.specs.Lists.{range, every, some?}
 use Rattle.lists.proofs.Bools.{decide, clash}
 use Rattle.lists.proofs.Searches.{every-at, every-fails, every-getD, keep-in, keep-has}
 use Rattle.lists.proofs.Ranges.{length-range, map-range-at}
-use Rattle.network.specs.Networks.{Network, Accepted}
+use Rattle.network.specs.Networks.{Network, endsAt, isWet, basinsOf, Accepted}
 use Rattle.network.specs.Settings.{isGated, gatesFrom, gates, gateCount, isSetting, settings}
 use Rattle.network.specs.Orientations.{Arc, way, ways, passing, arcs, reached, unoriented}
 use Rattle.network.specs.Plans.{stronglyConnectedUnder, isPlan, passable, firstPlan, nextPlan}
 use Rattle.network.specs.Bridges.{noReach, reachAt}
 use Rattle.network.specs.Replies.{plan, firstAnswer}
 use Rattle.network.specs.Choices.{plans, hungAlike, boundByte, boundBytes, flapReach, flapAt}
-use Rattle.network.proofs.Networks.{endsBelow, fault-none, tests-passed}
+use Rattle.network.proofs.Networks.{endsBelow, fault-none, tests-passed, same-basins}
 use Rattle.network.proofs.Bridges.{bridge-blocks}
 use Rattle.network.proofs.Ways.{gate-at, plain-here, plain-after, reachOf, Looser}
 use Rattle.network.proofs.Order.{setting-length, plan-in, plan-setting, first-is-plan, first-none, next-is-plan}
@@ -198,20 +198,22 @@ put-from (suc k) (z ∷ p) l = let r = put-from k p (omega arith) in (z ∷ r .0
 abbrev flapIn : Bool → List Reach → ℕ → List Reach
 flapIn turned t i = set t i (flapReach turned (getD t i noReach))
 
--- the gate k of a table made a flap: there is one gate less, and the table passes what it passed with the gate hung so
+-- the gate k of a table made a flap: there is one gate less, the table passes what it passed with the gate hung so, and the same basins are wet
 record Flapped (turned : Bool) (o : ℕ) (t : List Reach) (k : ℕ) : Type 0 where
   reach : ℕ
   numbered : getD (gatesFrom o t) k 0 ≡ o + reach
   fewer : length (gatesFrom o t) ≡ suc (length (gatesFrom o (flapIn turned t reach)))
   same : (s : List ℕ) → k ≤ length s → arcs t (ways t (putIn k (cond turned 1 0) s)) ≡ arcs (flapIn turned t reach) (ways (flapIn turned t reach) s)
+  wet : (b : ℕ) → some? (endsAt b) t ≡ some? (endsAt b) (flapIn turned t reach)
 
 -- so it is of the first gate, of a later gate, and of a gate behind a reach that is none: of every gate
 flap-first : (turned : Bool) (a b o : ℕ) (t : List Reach) → Flapped turned o (reachOf (InService Gated) a b ∷ t) 0
-flap-first false a b o t = record { reach = 0; numbered = omega arith; fewer = refl; same = λ s l. refl }
-flap-first true a b o t = record { reach = 0; numbered = omega arith; fewer = refl; same = λ s l. refl }
+flap-first false a b o t = record { reach = 0; numbered = omega arith; fewer = refl; same = λ s l. refl; wet = λ v. refl }
+flap-first true a b o t =
+    record { reach = 0; numbered = omega arith; fewer = refl; same = λ s l. refl; wet = λ v. ap (λ (c : Bool). c || some? (endsAt v) t) (or-comm (eqb a v) (eqb b v)) }
 
 flap-later : (turned : Bool) (a b o : ℕ) (t : List Reach) (k : ℕ) → Flapped turned (suc o) t k → Flapped turned o (reachOf (InService Gated) a b ∷ t) (suc k)
-flap-later turned a b o t k g = record { reach = suc (g .reach); numbered = g .numbered ∙ omega arith; fewer = ap suc (g .fewer); same = same }
+flap-later turned a b o t k g = record { reach = suc (g .reach); numbered = g .numbered ∙ omega arith; fewer = ap suc (g .fewer); same = same; wet = λ v. ap (λ (c : Bool). (eqb a v || eqb b v) || c) (g .wet v) }
   where
     same : (s : List ℕ) → suc k ≤ length s → arcs (reachOf (InService Gated) a b ∷ t) (ways (reachOf (InService Gated) a b ∷ t) (putIn (suc k) (cond turned 1 0) s)) ≡ arcs (reachOf (InService Gated) a b ∷ flapIn turned t (g .reach)) (ways (reachOf (InService Gated) a b ∷ flapIn turned t (g .reach)) s)
     same [] l = absurd (omega arith)
@@ -224,6 +226,7 @@ flap-passed turned d a b o t k e g =
       numbered = rw e (g .numbered ∙ omega arith);
       fewer = rw e (g .fewer);
       same = λ s l. rw (plain-here d (putIn k (cond turned 1 0) s) e, plain-here d s e, plain-after d (putIn k (cond turned 1 0) s) e, plain-after d s e) (ap (λ (A : List Arc). passing (way d []) a b ++ A) (g .same s l));
+      wet = λ v. ap (λ (c : Bool). endsAt v (reachOf d a b) || c) (g .wet v);
     }
 
 flap-step : (turned : Bool) (d : State) (a b o : ℕ) (t : List Reach) (k : ℕ) → ((j : ℕ) → j < length (gatesFrom (suc o) t) → Flapped turned (suc o) t j) → k < length (gatesFrom o (reachOf d a b ∷ t)) → Flapped turned o (reachOf d a b ∷ t) k
@@ -253,11 +256,15 @@ module _ (N : Network) (k : ℕ) (l : k < gateCount N) (turned : Bool) where
   flap-count : gateCount N ≡ suc (gateCount (flapAt N (getD (gates N) k 0) turned))
   flap-count = rw number (g .fewer)
 
+  flap-basins : basinsOf N ≡ basinsOf (flapAt N (getD (gates N) k 0) turned)
+  unfolding isWet
+  flap-basins = same-basins N (flapAt N (getD (gates N) k 0) turned) refl (λ b. rw number (g .wet b))
+
   -- a setting is a plan of the changed network exactly if it is one of N with the byte put in
   flap-same : (s : List ℕ) → k ≤ length s → isPlan N (putIn k (cond turned 1 0) s) ≡ isPlan (flapAt N (getD (gates N) k 0) turned) s
   unfolding isPlan isSetting stronglyConnectedUnder
   flap-same s m =
-      rw (put-length k (cond turned 1 0) s m, flap-count, compare·suc-suc, put-every (λ x. leb x 1) k (cond turned 1 0) s (le-leb (cond turned 1 0) 1 (omega (arith, one-way turned))), number, g .same s m)
+      rw (put-length k (cond turned 1 0) s m, flap-count, compare·suc-suc, put-every (λ x. leb x 1) k (cond turned 1 0) s (le-leb (cond turned 1 0) 1 (omega (arith, one-way turned))), flap-basins, number, g .same s m)
 
   -- the plans of the network with the gate made a flap are those that hang it so, without its byte
   pub flap-plan : HungIn N k (cond turned 1 0) ↔ ((q : List ℕ) × (isPlan (flapAt N (getD (gates N) k 0) turned) q ≡ true))

@@ -6,14 +6,14 @@ use mathlib.Core.Path.{_≡_, refl, sym, ap, subst, _∙_}
 use mathlib.Core.Bool.{Bool, true, false, not, cond, _&&_}
 use mathlib.Core.Logic.{_⊎_, inl, inr, ⊎-elim}
 use mathlib.Core.Option.{Option, none, some, Option·some-ne-none}
-use mathlib.Core.List.{List, [], _∷_, List·Memᴰ, List·Memᴰ·not-nil, List·Memᴰ·cases-cons}
+use mathlib.Core.List.{List, [], _∷_, List·Memᴰ, List·Memᴰ·head, List·Memᴰ·not-nil, List·Memᴰ·cases-cons}
 use lib.ListN.{length, getD}
 use lib.Dec.{leb, ltb, eqb}
 use borrow.Author.Tests.{leb-true, ltb-true, eqb-true, eq-eqb}
 use mathlib.Mathlib.Data.Bool.Basic.{and-elim-left, and-elim-right, and-intro, or-inl, or-inr}
 use Rattle.lists.proofs.Bools.{or-cases}
 use Rattle.lists.proofs.Lists.{length-cond-le}
-use Rattle.lists.proofs.Searches.{every-getD, some-getD, some-at}
+use Rattle.lists.proofs.Searches.{every-getD, some-getD, some-at, find-lowest, keep-in, keep-has, keep-same, keep-keep, find-keep, keep-first}
 use Rattle.network.specs.declared.Kind.the-variants.{TwoWay}
 use Rattle.network.specs.declared.State.the-variants.{Shut}
 use Rattle.network.specs.declared.Reach.{Reach}
@@ -24,7 +24,8 @@ use Rattle.network.specs.Tables.{stateOf}
 use Rattle.network.specs.Settings.{isGated, gatesFrom, gateCount}
 use Rattle.network.specs.Orientations.{arc, passing, arcs}
 use Rattle.network.specs.Bridges.{noReach, reachAt}
-use Rattle.lists.proofs.Ranges.{range-has, range-in, range-head}
+use Rattle.lists.specs.Lists.{range, find, keep}
+use Rattle.lists.proofs.Ranges.{range-has, range-in}
 use Rattle.network.proofs.Ways.{arcs-in, ShutOut, arc-in-service}
 use Rattle.network.proofs.Walks.{arc-from, arc-to}
 
@@ -140,18 +141,52 @@ wet-make N b w =
 
 -- ---- basins
 
-pub basin-in : (N : Network) (b : ℕ) → b < N .basins → List·Memᴰ b (basinsOf N)
-basin-in N b l = range-has 0 (N .basins) (omega arith) (omega arith)
+-- those that count are the wet ones below the basin count
+pub basin-in : (N : Network) (b : ℕ) → b < N .basins → isWet N b ≡ true → List·Memᴰ b (basinsOf N)
+unfolding basinsOf
+basin-in N b l w = keep-has (isWet N) (range-has 0 (N .basins) (omega arith) (omega arith)) w
 
 pub basin-below : (N : Network) (b : ℕ) → List·Memᴰ b (basinsOf N) → b < N .basins
-basin-below N b m = omega (arith, (range-in 0 (N .basins) m) .1)
+unfolding basinsOf
+basin-below N b m = omega (arith, (range-in 0 (N .basins) ((keep-in (isWet N) (range 0 (N .basins)) m) .0)) .1)
 
--- the lowest basin is basin 0
-pub lowest-is-0 : (N : Network) → lowestBasin N ≡ 0
-lowest-is-0 N = range-head (N .basins)
+pub basin-wet : (N : Network) (b : ℕ) → List·Memᴰ b (basinsOf N) → isWet N b ≡ true
+unfolding basinsOf
+basin-wet N b m = (keep-in (isWet N) (range 0 (N .basins)) m) .1
 
-pub lowest-in : (N : Network) → Accepted N → List·Memᴰ (lowestBasin N) (basinsOf N)
-lowest-in N ok = basin-in N (lowestBasin N) (omega (arith, lowest-is-0 N, (accepted N ok) .some-basin))
+-- they hang on the basin count and on which are wet
+pub same-basins : (N M : Network) → N .basins ≡ M .basins → ((b : ℕ) → isWet N b ≡ isWet M b) → basinsOf N ≡ basinsOf M
+unfolding basinsOf
+same-basins N M e f = ap (λ (n : ℕ). keep (isWet N) (range 0 n)) e ∙ keep-same (isWet N) (isWet M) (range 0 (M .basins)) (λ b m. f b)
+
+-- what is kept of them, or found among them, is wet
+pub basins-kept : (N : Network) (p : ℕ → Bool) → keep p (basinsOf N) ≡ keep (λ b. isWet N b && p b) (range 0 (N .basins))
+unfolding basinsOf
+basins-kept N p = keep-keep (isWet N) p (range 0 (N .basins))
+
+pub basins-found : (N : Network) (p : ℕ → Bool) → find p (basinsOf N) ≡ find (λ b. isWet N b && p b) (range 0 (N .basins))
+unfolding basinsOf
+basins-found N p = find-keep (isWet N) p (range 0 (N .basins))
+
+-- both ends of a reach in service count
+pub end-a-in : (N : Network) → Accepted N → (i : ℕ) → i < length (N .reaches) → inService ((reachAt N i) .state) ≡ true → List·Memᴰ ((reachAt N i) .a) (basinsOf N)
+end-a-in N ok i l e = basin-in N _ ((accepted N ok) .end-a i l) (wet-make N _ (record { reach = i; below = l; serves = e; ends = inl refl }))
+
+pub end-b-in : (N : Network) → Accepted N → (i : ℕ) → i < length (N .reaches) → inService ((reachAt N i) .state) ≡ true → List·Memᴰ ((reachAt N i) .b) (basinsOf N)
+end-b-in N ok i l e = basin-in N _ ((accepted N ok) .end-b i l) (wet-make N _ (record { reach = i; below = l; serves = e; ends = inr refl }))
+
+-- the lowest is one of them, if there is any
+head-in : {b : ℕ} (l : List ℕ) → List·Memᴰ b l → List·Memᴰ (getD l 0 0) l
+head-in [] m = absurd (List·Memᴰ·not-nil m)
+head-in (x ∷ l) m = List·Memᴰ·head refl
+
+pub lowest-in : (N : Network) {b : ℕ} → List·Memᴰ b (basinsOf N) → List·Memᴰ (lowestBasin N) (basinsOf N)
+lowest-in N m = head-in (basinsOf N) m
+
+-- a wet basin with none below it is the lowest
+pub lowest-is : (N : Network) (w : ℕ) → w < N .basins → isWet N w ≡ true → ((v : ℕ) → v < w → isWet N v ≡ false) → lowestBasin N ≡ w
+unfolding basinsOf
+lowest-is N w l wet lower = keep-first (isWet N) 0 (range 0 (N .basins)) (find-lowest (isWet N) 0 (N .basins) w (omega arith) (omega arith) wet (λ j a b. lower j b))
 
 -- ---- the ends of arcs
 
@@ -167,17 +202,16 @@ pub reach-alike : (f : ℕ → Bool) (x a b c d : ℕ) → f a ≡ f b → List�
 reach-alike f x a b c d same m =
     ⊎-elim (λ e. ap f (arc-from e) ∙ same ∙ sym (ap f (arc-to e))) (λ e. ap f (arc-from e) ∙ sym same ∙ sym (ap f (arc-to e))) (passing-ends x a b c d m)
 
--- what holds of both ends of each reach holds of both ends of each arc
-pub arc-ends : (P : ℕ → Type 0) (t : List Reach) (ws : List ℕ) → ((i : ℕ) → i < length t → P ((getD t i noReach) .a) × P ((getD t i noReach) .b)) → (c d : ℕ) → List·Memᴰ (arc c d) (arcs t ws) → P c × P d
-arc-ends P t ws f c d m =
+-- what holds of both ends of each reach in service holds of both ends of each arc
+pub arc-ends : (P : ℕ → Type 0) (t : List Reach) (ws : List ℕ) → ShutOut t ws → ((i : ℕ) → i < length t → inService ((getD t i noReach) .state) ≡ true → P ((getD t i noReach) .a) × P ((getD t i noReach) .b)) → (c d : ℕ) → List·Memᴰ (arc c d) (arcs t ws) → P c × P d
+arc-ends P t ws out f c d m =
     let s = arcs-in t ws (arc c d) m in
-    let p = f (s .reach) (s .below) in
+    let p = f (s .reach) (s .below) (arc-in-service t ws out (s .reach) (s .below) (arc c d) (s .passes)) in
     ⊎-elim (λ e. (subst P (sym (arc-from e)) (p .0), subst P (sym (arc-to e)) (p .1))) (λ e. (subst P (sym (arc-from e)) (p .1), subst P (sym (arc-to e)) (p .0))) (passing-ends (getD ws (s .reach) 3) _ _ c d (s .passes))
 
-pub arcs-in-basins : (N : Network) → Accepted N → (ws : List ℕ) (c d : ℕ) → List·Memᴰ (arc c d) (arcs (N .reaches) ws) → List·Memᴰ c (basinsOf N) × List·Memᴰ d (basinsOf N)
-arcs-in-basins N ok ws =
-    arc-ends (λ x. List·Memᴰ x (basinsOf N)) (N .reaches) ws
-    (λ i l. (basin-in N _ ((accepted N ok) .end-a i l), basin-in N _ ((accepted N ok) .end-b i l)))
+-- so water passes between wet basins only
+pub arcs-in-basins : (N : Network) → Accepted N → (ws : List ℕ) → ShutOut (N .reaches) ws → (c d : ℕ) → List·Memᴰ (arc c d) (arcs (N .reaches) ws) → List·Memᴰ c (basinsOf N) × List·Memᴰ d (basinsOf N)
+arcs-in-basins N ok ws out = arc-ends (λ x. List·Memᴰ x (basinsOf N)) (N .reaches) ws out (λ i l e. (end-a-in N ok i l e, end-b-in N ok i l e))
 
 -- what is alike at both ends of each reach in service is alike at both ends of each arc
 pub arc-alike : (f : ℕ → Bool) (t : List Reach) (ws : List ℕ) → ShutOut t ws → ((i : ℕ) → i < length t → inService ((getD t i noReach) .state) ≡ true → f ((getD t i noReach) .a) ≡ f ((getD t i noReach) .b)) → (c d : ℕ) → List·Memᴰ (arc c d) (arcs t ws) → f c ≡ f d

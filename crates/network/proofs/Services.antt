@@ -9,7 +9,7 @@ use mathlib.Core.Bool.{Bool, true, false, cond, not, _&&_, false≢true}
 use mathlib.Core.Logic.{⊎-elim, _≢_}
 use mathlib.Core.Option.{Option, none, some, Option·map, Option·getD}
 use mathlib.Core.List.{List, [], _∷_, _++_}
-use lib.ListN.{length, replicate}
+use lib.ListN.{length, getD, replicate}
 use lib.Seq.{set-getD, set-set, getD-set-same}
 use borrow.Author.Tests.{leb-true, le-leb}
 use Rattle.network.specs.declared.State.{State}
@@ -17,7 +17,7 @@ use Rattle.network.specs.declared.State.the-variants.{InService, Shut}
 use Rattle.network.specs.declared.Reach.{Reach}
 use Rattle.network.specs.declared.Refusal.{Refusal}
 use Rattle.lists.specs.Lists.{range, some?, find, elem}
-use Rattle.network.specs.Networks.{Network, inService, kindIn, maxReaches, basinsOf, lowestBasin, goodLength, goodEnds, Accepted}
+use Rattle.network.specs.Networks.{Network, inService, kindIn, maxReaches, endsAt, isWet, basinsOf, goodLength, goodEnds, Accepted}
 use Rattle.network.specs.Settings.{isGated, gatesFrom, gateCount, isSetting, settingFault, before, settings}
 use Rattle.network.specs.Orientations.{Arc, way, after, ways, passing, arcs, arcsUnder, unoriented}
 use Rattle.network.specs.Plans.{stronglyConnected, stronglyConnectedUnder, isPlan, passable, firstPlan, nextPlan}
@@ -26,10 +26,10 @@ use Rattle.network.specs.Replies.{Outcome, shutInBasin, shutInSide, brid
 use Rattle.network.specs.Services.{shutReach, backReach, shutAt, backAt, serviceReaches, serviceNet, serviceNumber, renumbered}
 use Rattle.lists.proofs.Bools.{decide, clash, same-test}
 use Rattle.lists.proofs.Lists.{length-cond}
-use Rattle.lists.proofs.Searches.{every-make, every-at, find-is, find-same, find-first, find-lowest, keep-in, length-keep, KeptFrom, kept-at, kept-below, kept-rises, kept-from}
+use Rattle.lists.proofs.Searches.{some-keep, every-make, every-at, find-is, find-same, find-first, find-lowest, keep-in, length-keep, KeptFrom, kept-at, kept-below, kept-rises, kept-from}
 use Rattle.lists.proofs.Ranges.{range-in}
 use Rattle.network.proofs.Ways.{plain-here, plain-after, shut-way, shut-plain, gated-in-service}
-use Rattle.network.proofs.Networks.{endsBelow, fault-none, tests-passed}
+use Rattle.network.proofs.Networks.{endsBelow, fault-none, tests-passed, same-basins}
 use Rattle.network.proofs.Bridges.{uncrossed, Alone, alone-facts, alone-test, bridge-below, bridge-gated}
 use Rattle.network.proofs.Replies.{lowest-is-bridge, no-lowest}
 
@@ -65,7 +65,18 @@ arcs-service (r ∷ t) h =
     (λ e. let plain = shut-plain (r .state) e in rw (e, plain-here (r .state) h plain, shut-way (r .state) e, plain-after (r .state) h plain) (arcs-service t h))
     (decide (inService (r .state)))
 
+-- a shut reach keeps no basin wet
+shut-dry : (b : ℕ) (r : Reach) → inService (r .state) ≡ false → endsAt b r ≡ false
+shut-dry b r e = rw e
+
+wet-service : (N : Network) (b : ℕ) → isWet (serviceNet N) b ≡ isWet N b
+unfolding isWet
+wet-service N b = some-keep (λ r. inService (r .state)) (endsAt b) (N .reaches) (shut-dry b)
+
 module _ (N : Network) where
+  pub service-basins : basinsOf (serviceNet N) ≡ basinsOf N
+  service-basins = same-basins (serviceNet N) N refl (wet-service N)
+
   pub service-gates : gateCount (serviceNet N) ≡ gateCount N
   service-gates = gates-service 0 0 (N .reaches)
 
@@ -86,11 +97,11 @@ module _ (N : Network) where
 
   pub service-plan : (s : List ℕ) → isPlan (serviceNet N) s ≡ isPlan N s
   unfolding isPlan stronglyConnectedUnder
-  service-plan s = rw (service-setting s, service-arcs s)
+  service-plan s = rw (service-setting s, service-arcs s, service-basins)
 
   pub service-passable : passable (serviceNet N) ≡ passable N
   unfolding passable stronglyConnectedUnder
-  service-passable = ap (stronglyConnected (basinsOf N)) service-unoriented
+  service-passable = ap₂ stronglyConnected service-basins service-unoriented
 
   pub service-first : firstPlan (serviceNet N) ≡ firstPlan N
   unfolding firstPlan
@@ -102,7 +113,7 @@ module _ (N : Network) where
 
   pub service-shut-in : shutInFinding (serviceNet N) ≡ shutInFinding N
   unfolding shutInFinding shutInSide shutInBasin
-  service-shut-in = rw service-unoriented
+  service-shut-in = rw (service-unoriented, service-basins)
 
 -- ---- new numbers
 
@@ -173,14 +184,15 @@ module _ (N : Network) (i : ℕ) (l : i < length (N .reaches)) (serves : inServi
   pub service-bridge : isBridge (serviceNet N) (serviceNumber N i) ≡ isBridge N i
   unfolding isBridge
   service-bridge =
-      ap₂ (λ (r : Reach) (alone : List ℕ → Bool). isGated (r .state) && some? (λ S. isCut (basinsOf N) S && alone S) (sides (basinsOf N)))
+      ap₂ (λ (r : Reach) (alone : List ℕ → Bool). isGated (r .state) && some? (λ S. isCut (basinsOf (serviceNet N)) S && alone S) (sides (basinsOf (serviceNet N))))
       (service-number N i l serves) (fun-ext service-alone)
+      ∙ ap (λ (bs : List ℕ). isGated ((reachAt N i) .state) && some? (λ S. isCut bs S && crossesAlone N S i) (sides bs)) (service-basins N)
 
   pub service-side : bridgeSide (serviceNet N) (serviceNumber N i) ≡ bridgeSide N i
   unfolding bridgeSide
   service-side =
-      ap (λ (alone : List ℕ → Bool). Option·getD (find (λ S. not (elem (lowestBasin N) S) && (isCut (basinsOf N) S && alone S)) (sides (basinsOf N))) [])
-      (fun-ext service-alone)
+      ap₂ (λ (bs : List ℕ) (alone : List ℕ → Bool). Option·getD (find (λ S. not (elem (getD bs 0 0) S) && (isCut bs S && alone S)) (sides bs)) [])
+      (service-basins N) (fun-ext service-alone)
 
 -- a lone reach is in service
 bridge-in-service : (N : Network) (i : ℕ) → isBridge N i ≡ true → inService ((reachAt N i) .state) ≡ true

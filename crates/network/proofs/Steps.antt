@@ -16,8 +16,8 @@ use Rattle.network.specs.Bridges.{reachAt, isBridge}
 use Rattle.lists.proofs.Bools.{same-test}
 use Rattle.network.proofs.Walks.{reached-walk, reached-refl}
 use Rattle.network.proofs.Cuts.{OneMore, TwoMore, strong-walks, walks-strong, detour, came-back, bridge, other-side}
-use Rattle.network.proofs.Ways.{arcs-has, split-in, split-own, split-rest, passingAt}
-use Rattle.network.proofs.Networks.{accepted, basin-in, arcs-in-basins}
+use Rattle.network.proofs.Ways.{arcs-has, split-in, split-own, split-rest, passingAt, ShutOut, shut-left-out}
+use Rattle.network.proofs.Networks.{end-a-in, end-b-in, arcs-in-basins}
 use Rattle.network.proofs.Bridges.{Alone, uncrossed, bridge-make}
 
 -- a reach whose way is 0, 1 or 2 passes between its ends
@@ -27,8 +27,8 @@ some-arc (suc zero) a b l = inr (List·Memᴰ·head refl)
 some-arc (suc (suc zero)) a b l = inl (List·Memᴰ·head refl)
 some-arc (suc (suc (suc w))) a b l = absurd (omega arith)
 
--- The reach i of a network in which the reaches have the ways ws. Way 3 for it leaves it out.
-module _ (N : Network) (ok : Accepted N) (ws : List ℕ) (i : ℕ) (below : i < length (N .reaches)) (full : length ws ≡ length (N .reaches)) where
+-- The reach i in service of a network in which the reaches have the ways ws. Way 3 for it leaves it out.
+module _ (N : Network) (ok : Accepted N) (ws : List ℕ) (i : ℕ) (below : i < length (N .reaches)) (full : length ws ≡ length (N .reaches)) (serves : inService ((reachAt N i) .state) ≡ true) where
   abbrev pub under : ℕ → List Arc
   under x = arcs (N .reaches) (set ws i x)
 
@@ -63,10 +63,10 @@ module _ (N : Network) (ok : Accepted N) (ws : List ℕ) (i : ℕ) (below : i < 
   both′ y m = ⊎-elim (λ e. inr (inl e)) (⊎-elim (λ e. inl e) (λ o. inr (inr o))) (both y m)
 
   in-a : List·Memᴰ endA (basinsOf N)
-  in-a = basin-in N endA ((accepted N ok) .end-a i below)
+  in-a = end-a-in N ok i below serves
 
   in-b : List·Memᴰ endB (basinsOf N)
-  in-b = basin-in N endB ((accepted N ok) .end-b i below)
+  in-b = end-b-in N ok i below serves
 
   one-way : (x a b : ℕ) → OneMore (under 3) (under x) a b → TwoMore (under 3) (under 2) a b → List·Memᴰ a (basinsOf N) → List·Memᴰ b (basinsOf N) → stronglyConnected (basinsOf N) (under 2) ≡ true → stronglyConnected (basinsOf N) (under x) ≡ reached (under 3) b a
   one-way x a b one two ma mb str =
@@ -81,14 +81,18 @@ module _ (N : Network) (ok : Accepted N) (ws : List ℕ) (i : ℕ) (below : i < 
   pub orient-turned : stronglyConnected (basinsOf N) (under 2) ≡ true → stronglyConnected (basinsOf N) (under 1) ≡ reached (under 3) endA endB
   orient-turned str = one-way 1 endB endA turned both′ in-b in-a str
 
-  module _ (serves : inService ((reachAt N i) .state) ≡ true) (small : (j : ℕ) → j < length (N .reaches) → inService ((reachAt N j) .state) ≡ true → getD ws j 3 ≤ 2) (str : stronglyConnected (basinsOf N) (under 2) ≡ true)
+  module _ (out : ShutOut (N .reaches) ws) (small : (j : ℕ) → j < length (N .reaches) → inService ((reachAt N j) .state) ≡ true → getD ws j 3 ≤ 2) (str : stronglyConnected (basinsOf N) (under 2) ≡ true)
       (ba : reached (under 3) endB endA ≡ false) (ab : reached (under 3) endA endB ≡ false) where
+    -- without the reach, too, water passes between wet basins only
+    ends : (c d : ℕ) → List·Memᴰ (arc c d) (under 3) → List·Memᴰ c (basinsOf N) × List·Memᴰ d (basinsOf N)
+    ends = arcs-in-basins N ok (set ws i 3) (shut-left-out (N .reaches) ws i out)
+
     -- Where both ways lose something, the reach alone crosses the side that B leads to without it.
     pub stuck-alone : Alone N (reached (under 3) endB) i
     stuck-alone = record { crossing = rw (serves, ba, reached-refl (under 3) endB); others = λ j l n. uncrossed (reached (under 3) endB) (reachAt N j) (others j l n) }
       where
         level : (c d : ℕ) → List·Memᴰ (arc c d) (under 3) → reached (under 3) endB c ≡ reached (under 3) endB d
-        level = bridge (basinsOf N) (under 3) (under 2) endA endB both (strong-walks (basinsOf N) (under 2) str) (arcs-in-basins N ok (set ws i 3)) in-a in-b ba ab
+        level = bridge (basinsOf N) (under 3) (under 2) endA endB both (strong-walks (basinsOf N) (under 2) str) ends in-a in-b ba ab
 
         others : (j : ℕ) → j < length (N .reaches) → j ≢ i → inService ((reachAt N j) .state) ≡ true → reached (under 3) endB ((reachAt N j) .a) ≡ reached (under 3) endB ((reachAt N j) .b)
         others j l n inj =
@@ -100,7 +104,7 @@ module _ (N : Network) (ok : Accepted N) (ws : List ℕ) (i : ℕ) (below : i < 
 
     -- The other side is what A leads to.
     pub stuck-other : (v : ℕ) → List·Memᴰ v (basinsOf N) → reached (under 3) endA v ≡ not (reached (under 3) endB v)
-    stuck-other = other-side (basinsOf N) (under 3) (under 2) endA endB both (strong-walks (basinsOf N) (under 2) str) (arcs-in-basins N ok (set ws i 3)) in-a in-b ba ab
+    stuck-other = other-side (basinsOf N) (under 3) (under 2) endA endB both (strong-walks (basinsOf N) (under 2) str) ends in-a in-b ba ab
 
     pub stuck-bridge : isGated ((reachAt N i) .state) ≡ true → isBridge N i ≡ true
     stuck-bridge g = bridge-make N ok i below g (reached (under 3) endB) stuck-alone

@@ -21,7 +21,7 @@ use Rattle.network.specs.Plans.{stronglyConnected, stronglyConnectedUnde
 use Rattle.network.specs.Bridges.{reachAt, isBridge}
 use Rattle.lists.proofs.Bools.{decide, clash}
 use Rattle.network.proofs.Cuts.{strong-within}
-use Rattle.network.proofs.Ways.{Gate, gate-at, length-ways, gated-in-service, way-small, Looser, looser-within}
+use Rattle.network.proofs.Ways.{Gate, gate-at, length-ways, gated-in-service, shut-out, way-small, Looser, looser-within}
 use Rattle.lists.proofs.Searches.{every-getD, every-from}
 use Rattle.network.proofs.Bridges.{bridge-blocks}
 use Rattle.network.proofs.Steps.{orient-drawn, orient-turned, stuck-bridge}
@@ -107,6 +107,9 @@ module _ (N : Network) (ok : Accepted N) (h : List ℕ) (oriented : Hung N h) (k
   full : length ws ≡ length (N .reaches)
   full = length-ways (N .reaches) h
 
+  serves : inService ((reachAt N (g .reach)) .state) ≡ true
+  serves = gated-in-service ((reachAt N (g .reach)) .state) (g .gated)
+
   numbered : getD (gates N) k 0 ≡ g .reach
   numbered = omega (arith, g .numbered)
 
@@ -120,17 +123,17 @@ module _ (N : Network) (ok : Accepted N) (h : List ℕ) (oriented : Hung N h) (k
 
   -- Hung as drawn, everything still reaches everything exactly if its end B leads to its end A without it; turned, exactly if A leads to B.
   pub as-drawn : stronglyConnectedUnder N (set h k 0) ≡ reached (without N h (getD (gates N) k 0)) ((reachAt N (getD (gates N) k 0)) .b) ((reachAt N (getD (gates N) k 0)) .a)
-  as-drawn = rw numbered (oriented-as 0 ∙ orient-drawn N ok ws (g .reach) (g .below) full both-ways)
+  as-drawn = rw numbered (oriented-as 0 ∙ orient-drawn N ok ws (g .reach) (g .below) full serves both-ways)
 
   pub as-turned : stronglyConnectedUnder N (set h k 1) ≡ reached (without N h (getD (gates N) k 0)) ((reachAt N (getD (gates N) k 0)) .a) ((reachAt N (getD (gates N) k 0)) .b)
-  as-turned = rw numbered (oriented-as 1 ∙ orient-turned N ok ws (g .reach) (g .below) full both-ways)
+  as-turned = rw numbered (oriented-as 1 ∙ orient-turned N ok ws (g .reach) (g .below) full serves both-ways)
 
   stuck : stronglyConnectedUnder N (set h k 0) ≡ false → stronglyConnectedUnder N (set h k 1) ≡ false → isBridge N (getD (gates N) k 0) ≡ true
   stuck not-drawn not-turned =
       rw numbered
-      (stuck-bridge N ok ws (g .reach) (g .below) full (gated-in-service ((reachAt N (g .reach)) .state) (g .gated)) (λ j jl. way-small′ j jl) both-ways
-      (sym (orient-drawn N ok ws (g .reach) (g .below) full both-ways) ∙ sym (oriented-as 0) ∙ not-drawn)
-      (sym (orient-turned N ok ws (g .reach) (g .below) full both-ways) ∙ sym (oriented-as 1) ∙ not-turned)
+      (stuck-bridge N ok ws (g .reach) (g .below) full serves (shut-out (N .reaches) h) (λ j jl. way-small′ j jl) both-ways
+      (sym (orient-drawn N ok ws (g .reach) (g .below) full serves both-ways) ∙ sym (oriented-as 0) ∙ not-drawn)
+      (sym (orient-turned N ok ws (g .reach) (g .below) full serves both-ways) ∙ sym (oriented-as 1) ∙ not-turned)
       (g .gated))
     where
       way-small′ : (j : ℕ) → j < length (N .reaches) → inService ((reachAt N j) .state) ≡ true → getD ws j 3 ≤ 2

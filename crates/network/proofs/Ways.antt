@@ -3,11 +3,13 @@
 use Prim.Native.Nat.{ℕ, zero, suc, _+_, _≤_, _<_}
 use native.Mathlib.Nat.{not-suc-le-zero, le-of-suc-le-suc}
 use native.Mathlib.Omega.{arith}
+use native.Mathlib.Decide.{ℕ-discrete, decLt}
 use mathlib.Core.Path.{_≡_, refl, sym, ap, subst, _∙_}
 use mathlib.Core.Bool.{true, false, true≢false, false≢true}
 use mathlib.Core.Logic.{_⊎_, inl, inr, ⊎-elim}
 use mathlib.Core.List.{List, [], _∷_, List·Memᴰ, List·Memᴰ·head, List·Memᴰ·tail, List·Memᴰ·not-nil, List·Memᴰ·cases-cons, Memᴰ·append-left, Memᴰ·append-right, List·Memᴰ·append-cases}
-use lib.ListN.{length, getD, set, drop}
+use lib.ListN.{length, getD, set, drop, length-set, List·getD-eq-default}
+use lib.Seq.{getD-set-same, getD-set-other}
 use lib.Dec.{leb}
 use borrow.Author.Tests.{leb-true}
 use Rattle.lists.proofs.Searches.{every-getD}
@@ -227,6 +229,15 @@ ShutOut t ws = (j : ℕ) → j < length t → inService ((getD t j noReach) .sta
 -- so they are under every partial orientation
 pub shut-out : (t : List Reach) (h : List ℕ) → ShutOut t (ways t h)
 shut-out t h j l e = plain-way t h j l (shut-plain ((getD t j noReach) .state) e) ∙ shut-way ((getD t j noReach) .state) e
+
+-- and with a reach left out
+pub shut-left-out : (t : List Reach) (ws : List ℕ) (i : ℕ) → ShutOut t ws → ShutOut t (set ws i 3)
+shut-left-out t ws i out j l e = go (ℕ-discrete j i) (decLt i (length ws))
+  where
+    go : Dec (j ≡ i) → Dec (i < length ws) → getD (set ws i 3) j 3 ≡ 3
+    go (yes same) (yes k) = rw (same, getD-set-same ws i 3 3 k)
+    go (yes same) (no k) = List·getD-eq-default (set ws i 3) 3 {n = j} (omega (arith, length-set ws i 3, same))
+    go (no n) d = getD-set-other ws i j 3 3 n ∙ out j l e
 
 -- an arc comes from a reach in service
 pub arc-in-service : (t : List Reach) (ws : List ℕ) → ShutOut t ws → (j : ℕ) → j < length t → (y : Arc) → List·Memᴰ y (passingAt t j (getD ws j 3)) → inService ((getD t j noReach) .state) ≡ true

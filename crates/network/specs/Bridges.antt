@@ -43,7 +43,7 @@ reachAt N i = getD (N .reaches) i noReach
 unfoldable pub crossesAlone : Network → List ℕ → ℕ → Bool
 crossesAlone N S i = every (λ j. Bool·beq (crosses S (reachAt N j)) (eqb j i)) (range 0 (length (N .reaches)))
 
--- A bridge. "A lone reach is a gated reach that is the only reach crossing some division of the basins into two non-empty sides."
+-- A bridge. "A lone reach is a gated reach that is the only reach crossing some division of the basins into two non-empty sides." Item 3: of the wet basins.
 unfoldable pub isBridge : Network → ℕ → Bool
 isBridge N i = isGated ((reachAt N i) .state) && some? (λ S. isCut (basinsOf N) S && crossesAlone N S i) (sides (basinsOf N))
 

@@ -1,5 +1,5 @@
--- The marked cases 1 to 11 of document 01 in one table, cases with shut reaches in another, and the bytes of bound gates in a third. proofs/Cases.antt computes them
--- from the definitions.
+-- The marked cases 1 to 11 of document 01 in one table, cases with shut reaches in another, cases with dry basins in a third, and the bytes of bound gates in a
+-- fourth. proofs/Cases.antt computes them from the definitions.
 -- Assumes nothing.
 use Prim.Native.Nat.{ℕ}
 use mathlib.Core.Path.{_≡_}
@@ -64,8 +64,8 @@ cases =
     row (net 2 (T 0 1 ∷ [])) (plan []) [] ∷
     -- 5. Two basins, F 0-1: 9, marked {1}.
     row (net 2 (F 0 1 ∷ [])) (shutIn (firstByte 2) 1) [] ∷
-    -- 6. Two basins, no reach: 9, marked {0}.
-    row (net 2 []) (shutIn (firstByte 1) 1) [] ∷
+    -- 6. Two basins, no reach. Document 02, item 3: "Case 6 becomes the empty plan; the other marked cases hold."
+    row (net 2 []) (plan []) (comes [] (refused LastPlan) ∷ []) ∷
     -- 7. G 0-1, G 1-2, G 2-0: first 000; after 000 comes 111.
     row (net 3 (G 0 1 ∷ G 1 2 ∷ G 2 0 ∷ [])) (plan (0 ∷ 0 ∷ 0 ∷ [])) (comes (0 ∷ 0 ∷ 0 ∷ []) (plan (1 ∷ 1 ∷ 1 ∷ [])) ∷ []) ∷
     -- 8. F 1-0, G 0-1: plan 0, then 11.
@@ -80,21 +80,43 @@ cases =
 -- Cases with reaches shut for works (document 02, item 1).
 abbrev pub shutCases : List Case
 shutCases =
-    -- Case 2 with its gate shut: 9, marked {0}; the gate would be 10.
-    row (net 2 (shutReach (G 0 1) ∷ [])) (shutIn (firstByte 1) 1) [] ∷
+    -- Case 2 with its gate shut: both basins are dry, and the empty setting is a plan.
+    row (net 2 (shutReach (G 0 1) ∷ [])) (plan []) (comes [] (refused LastPlan) ∷ []) ∷
     -- Case 3 with the first of the two shut: the other is lone, at its number in the whole table.
     row (net 2 (shutReach (G 0 1) ∷ G 0 1 ∷ [])) (lone 1 (firstByte 2) 1) [] ∷
     -- Case 3 with a third gate, shut, between the two: it has no byte.
     row (net 2 (G 0 1 ∷ shutReach (G 0 1) ∷ G 0 1 ∷ [])) (plan (0 ∷ 1 ∷ []))
     (comes (0 ∷ 0 ∷ []) (plan (0 ∷ 1 ∷ [])) ∷ comes (0 ∷ 1 ∷ []) (plan (1 ∷ 0 ∷ [])) ∷ comes (1 ∷ 0 ∷ []) (refused LastPlan) ∷ []) ∷
-    -- Case 4 shut: 9, marked {0}.
-    row (net 2 (shutReach (T 0 1) ∷ [])) (shutIn (firstByte 1) 1) [] ∷
+    -- Case 4 shut: the same. With a loop at each basin they are wet, and nothing joins them: 9, marked {0}.
+    row (net 2 (shutReach (T 0 1) ∷ [])) (plan []) [] ∷
+    row (net 2 (T 0 0 ∷ shutReach (T 0 1) ∷ F 1 1 ∷ [])) (shutIn (firstByte 1) 1) [] ∷
     -- Case 7 with reach 2 shut: the other two are lone, reach 0 the lower.
     row (net 3 (G 0 1 ∷ G 1 2 ∷ shutReach (G 2 0) ∷ [])) (lone 0 (firstByte 6) 2) [] ∷
     -- Case 8 with its flap shut: reach 1 is lone.
     row (net 2 (shutReach (F 1 0) ∷ G 0 1 ∷ [])) (lone 1 (firstByte 2) 1) [] ∷
     -- Case 9 with its loop shut: the empty plan, and no other.
     row (net 1 (shutReach (G 0 0) ∷ [])) (plan []) (comes [] (refused LastPlan) ∷ []) ∷ []
+
+-- Cases with dry basins (document 02, item 3).
+abbrev pub dryCases : List Case
+dryCases =
+    -- Two basins, a gated loop at 1 only: its two settings are plans. With a flap for the gate, the empty plan.
+    row (net 2 (G 1 1 ∷ [])) (plan (0 ∷ [])) (comes (0 ∷ []) (plan (1 ∷ [])) ∷ comes (1 ∷ []) (refused LastPlan) ∷ []) ∷
+    row (net 2 (F 1 1 ∷ [])) (plan []) (comes [] (refused LastPlan) ∷ []) ∷
+    -- A loop keeps its basin wet: three basins, T 0-2 and a loop at 1 are 9, marked {0, 2}.
+    row (net 3 (T 0 2 ∷ F 1 1 ∷ [])) (shutIn (firstByte 5) 2) [] ∷
+    -- A shut reach keeps no basin wet: beside case 3 it leaves its far end dry, and alone both.
+    row (net 3 (G 0 1 ∷ G 0 1 ∷ shutReach (T 1 2) ∷ [])) (plan (0 ∷ 1 ∷ [])) (comes (0 ∷ 1 ∷ []) (plan (1 ∷ 0 ∷ [])) ∷ []) ∷
+    row (net 4 (T 0 1 ∷ shutReach (F 2 3) ∷ [])) (plan []) [] ∷
+    -- A lone reach whose lowest wet basin is not 0, drawn either way: the side without basin 1, and no dry basin marked.
+    row (net 3 (G 1 2 ∷ [])) (lone 0 (firstByte 4) 1) [] ∷
+    row (net 5 (G 3 1 ∷ [])) (lone 0 (firstByte 8) 1) [] ∷
+    row (net 5 (F 1 1 ∷ G 4 1 ∷ T 2 4 ∷ [])) (lone 1 (firstByte 20) 2) [] ∷
+    -- F 1-3 of five basins: 9, marked {3}. F 3-1: 9, marked {1}. The others are dry, below, between and above.
+    row (net 5 (F 1 3 ∷ [])) (shutIn (firstByte 8) 1) [] ∷
+    row (net 5 (F 3 1 ∷ [])) (shutIn (firstByte 2) 1) [] ∷
+    -- Case 7 on the basins 1, 3 and 4 of six.
+    row (net 6 (G 1 3 ∷ G 3 4 ∷ G 4 1 ∷ [])) (plan (0 ∷ 0 ∷ 0 ∷ [])) (comes (0 ∷ 0 ∷ 0 ∷ []) (plan (1 ∷ 1 ∷ 1 ∷ [])) ∷ comes (1 ∷ 1 ∷ 1 ∷ []) (refused LastPlan) ∷ []) ∷ []
 
 -- A network and the bytes that it gets, one for each gated reach in service, if it has a plan (document 02, item 2).
 pub record BoundCase : Type 0 where
@@ -120,7 +142,9 @@ boundCases =
     gets (net 3 (F 0 1 ∷ G 1 2 ∷ G 0 2 ∷ G 0 1 ∷ [])) (2 ∷ 2 ∷ 2 ∷ []) ∷
     -- Case 3 with a third gate, shut, between the two: it has no byte. Case 8 with a shut flap beside it that would free the gate.
     gets (net 2 (G 0 1 ∷ shutReach (G 0 1) ∷ G 0 1 ∷ [])) (2 ∷ 2 ∷ []) ∷
-    gets (net 2 (shutReach (F 0 1) ∷ F 1 0 ∷ G 0 1 ∷ [])) (0 ∷ []) ∷ []
+    gets (net 2 (shutReach (F 0 1) ∷ F 1 0 ∷ G 0 1 ∷ [])) (0 ∷ []) ∷
+    -- The same two basins as 1 and 3 of five.
+    gets (net 5 (F 3 1 ∷ G 1 3 ∷ [])) (0 ∷ []) ∷ []
 
 -- The replies hold: first's and each of next's, with lent buffers of just the length needed.
 abbrev pub NextsHold : Network → List After → Type 0

@@ -13,7 +13,7 @@ use Rattle.network.specs.declared.State.the-variants.{InService, Shut}
 use Rattle.network.specs.declared.Reach.{Reach}
 use Rattle.network.specs.declared.Refusal.{Refusal}
 use Rattle.network.specs.declared.Refusal.the-variants.{BasinCount, TooManyReaches, EndOutOfRange}
-use Rattle.lists.specs.Lists.{range, every, some?}
+use Rattle.lists.specs.Lists.{range, every, some?, keep}
 
 -- "A network has 1 to 256 basins, numbered from 0, and 0 to 1,024 reaches, numbered from 0 in file order."
 abbrev pub maxBasins : ℕ
@@ -50,11 +50,12 @@ endsAt b r = inService (r .state) && (eqb (r .a) b || eqb (r .b) b)
 unfoldable pub isWet : Network → ℕ → Bool
 isWet N b = some? (endsAt b) (N .reaches)
 
--- The basins of a network, lowest first.
-abbrev pub basinsOf : Network → List ℕ
-basinsOf N = range 0 (N .basins)
+-- The basins that count, lowest first: "Passable, plan, lone and the marks concern wet basins only." All others are only numbered: the basin count and the
+-- test of ends (1, 3) ask dry basins too.
+unfoldable pub basinsOf : Network → List ℕ
+basinsOf N = keep (isWet N) (range 0 (N .basins))
 
--- The lowest-numbered basin: "basin 0".
+-- The lowest of them: "'without basin 0' read as without the lowest wet basin". It is asked for only where there is one.
 abbrev pub lowestBasin : Network → ℕ
 lowestBasin N = getD (basinsOf N) 0 0
 

@@ -17,11 +17,11 @@ reachesAll bs A u = every (reached A u) bs
 abbrev pub stronglyConnected : List ℕ → List Arc → Bool
 stronglyConnected bs A = every (reachesAll bs A) bs
 
--- The same of a network under a partial orientation.
+-- The same of a network under a partial orientation. Document 02, item 3: it concerns wet basins only, so where all are dry it holds.
 unfoldable pub stronglyConnectedUnder : Network → List ℕ → Bool
 stronglyConnectedUnder N h = stronglyConnected (basinsOf N) (arcsUnder N h)
 
--- "A plan is a setting under which every basin reaches every other."
+-- "A plan is a setting under which every basin reaches every other." Item 3: "If all are dry the empty setting is a plan."
 unfoldable pub isPlan : Network → List ℕ → Bool
 isPlan N s = isSetting N s && stronglyConnectedUnder N s
 

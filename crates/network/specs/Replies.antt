@@ -82,14 +82,15 @@ pub record SameReply (r s : Outcome) : Type 0 where
   pub same-marks : marksIn r ≡ marksIn s
   pub same-count : countIn r ≡ countIn s
 
--- For 9: "the basins reached, itself among them, from the lowest-numbered basin that doesn't reach all, gates usable either way".
+-- For 9: "the basins reached, itself among them, from the lowest-numbered basin that doesn't reach all, gates usable either way". Document 02, item 3: the
+-- lowest-numbered wet basin that doesn't reach all wet basins.
 unfoldable pub shutInBasin : Network → Option ℕ
 shutInBasin N = find (λ u. not (reachesAll (basinsOf N) (arcsUnder N (unoriented N)) u)) (basinsOf N)
 
 unfoldable pub shutInSide : Network → List ℕ
 shutInSide N = keep (reached (arcsUnder N (unoriented N)) (Option·getD (shutInBasin N) 0)) (basinsOf N)
 
--- For 10: "the side of it without basin 0".
+-- For 10: "the side of it without basin 0", "read as without the lowest wet basin".
 unfoldable pub bridgeSide : Network → ℕ → List ℕ
 bridgeSide N i = Option·getD (find (λ S. not (elem (lowestBasin N) S) && (isCut (basinsOf N) S && crossesAlone N S i)) (sides (basinsOf N))) []
 
