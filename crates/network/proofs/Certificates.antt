@@ -11,7 +11,6 @@ use mathlib.Core.Option.{Option, none, some, Option·getD}
 use mathlib.Core.List.{List, List·Memᴰ}
 use lib.ListN.{length}
 use borrow.Author.Tests.{not-false, not-true}
-use mathlib.Mathlib.Data.Bool.Basic.{bool-eq-false}
 use Rattle.lists.specs.Lists.{keep, elem}
 use Rattle.network.specs.Networks.{Network, isWet, basinsOf, lowestBasin, Accepted}
 use Rattle.network.specs.Settings.{isGated, isSetting}

@@ -1,4 +1,4 @@
--- Document 01's definitions, in its order, with items 1 and 2 of document 02. A reader who believes these files, and the searches of the crate lists that they cite, knows what every promise says.
+-- Document 01's definitions, in its order, with items 1 to 3 of document 02. A reader who believes these files, and the searches of the crate lists that they cite, knows what every promise says.
 pub mod Networks
 pub mod Tables
 pub mod Settings
@@ -9,4 +9,5 @@ pub mod Marks
 pub mod Replies
 pub mod Services
 pub mod Choices
+pub mod Dug
 pub mod Cases

@@ -1,0 +1,151 @@
+-- Document 02, item 3: basins that no reach has an end at change no reply, wherever the numbering ends; and "if all are dry the empty setting is a plan".
+-- Assumes nothing.
+use Prim.Native.Nat.{ℕ, _+_, _-_, _≤_, _<_}
+use native.Mathlib.Omega.{arith}
+use native.Mathlib.Decide.{decLt}
+use mathlib.Core.Path.{_≡_, refl, sym, ap, _∙_}
+use mathlib.Core.Bool.{Bool, true, false, cond, not, _&&_, false≢true}
+use mathlib.Core.Logic.{⊎-elim}
+use mathlib.Core.Option.{Option, none, some, Option·getD}
+use mathlib.Core.List.{List, [], _++_, append-nil}
+use lib.ListN.{length, getD}
+use lib.Dec.{ltb}
+use borrow.Author.Tests.{le-leb, ltb-true, lt-ltb, eq-eqb}
+use mathlib.Mathlib.Data.Bool.Basic.{and-elim-left, and-elim-right, and-intro, bool-eq-false}
+use Rattle.network.specs.declared.Refusal.the-variants.{LastPlan}
+use Rattle.lists.specs.Lists.{range, some?, find, keep, elem}
+use Rattle.lists.proofs.Bools.{clash}
+use Rattle.lists.proofs.Searches.{every-make, every-at, find-yes, find-same, keep-same, keep-append, keep-none}
+use Rattle.lists.proofs.Ranges.{range-add, range-in}
+use Rattle.network.specs.Networks.{Network, maxBasins, isWet, basinsOf, goodCount, goodEnds, Accepted}
+use Rattle.network.specs.Settings.{isGated, gateCount, isSetting, settingFault, before, settings}
+use Rattle.network.specs.Orientations.{arcsUnder, unoriented}
+use Rattle.network.specs.Plans.{stronglyConnected, stronglyConnectedUnder, isPlan, passable, firstPlan, nextPlan}
+use Rattle.network.specs.Bridges.{sides, isCut, reachAt, crossesAlone, isBridge, lowestBridge}
+use Rattle.network.specs.Marks.{marksOf, onesIn}
+use Rattle.network.specs.Replies.{plan, lone, refused, shutInBasin, shutInSide, bridgeSide, shutInFinding, loneFinding, orLone, answer, firstAnswer, nextAnswer, roomFault, firstReply, nextReply}
+use Rattle.network.specs.Dug.{dug}
+use Rattle.network.proofs.Ways.{gate-at, gated-in-service}
+use Rattle.network.proofs.Networks.{endsBelow, fault-none, tests-passed, accepted, wet-by, basin-below, basin-wet, end-a-in}
+use Rattle.network.proofs.Replies.{first-given, last-plan}
+
+-- ---- more basins, and no reach at them
+
+-- those past the basin count are dry
+dry-past : (N : Network) → Accepted N → (b : ℕ) → N .basins ≤ b → isWet N b ≡ false
+dry-past N ok b l = bool-eq-false {b = isWet N b} wet
+  where
+    wet : isWet N b ≡ true → ⊥
+    wet e =
+        let w = wet-by N b e in
+        ⊎-elim (λ f. omega (arith, f, (accepted N ok) .end-a (w .reach) (w .below))) (λ f. omega (arith, f, (accepted N ok) .end-b (w .reach) (w .below))) (w .ends)
+
+module _ (N : Network) (ok : Accepted N) (m : ℕ) (more : N .basins ≤ m) where
+  none-past : (i k : ℕ) → N .basins ≤ i → keep (isWet N) (range i k) ≡ []
+  none-past i k l = keep-same (isWet N) (λ b. false) (range i k) (λ b mem. dry-past N ok b (omega (arith, (range-in i k mem) .0))) ∙ keep-none (range i k)
+
+  pub dug-accepted : m ≤ maxBasins → Accepted (dug N m)
+  dug-accepted few =
+      let good = tests-passed N ok in
+      let count : goodCount (dug N m) ≡ true = and-intro (le-leb 1 m (omega (arith, (accepted N ok) .some-basin))) (le-leb m maxBasins few) in
+      let ends : goodEnds (dug N m) ≡ true =
+      every-make (endsBelow m) (N .reaches)
+      (λ r mem.
+      let low = every-at (endsBelow (N .basins)) (good .2) mem in
+      and-intro
+      (lt-ltb (r .a) m (omega (arith, ltb-true (r .a) (N .basins) (and-elim-left (ltb (r .a) (N .basins)) _ low))))
+      (lt-ltb (r .b) m (omega (arith, ltb-true (r .b) (N .basins) (and-elim-right (ltb (r .a) (N .basins)) _ low))))) in
+      fault-none (dug N m) count (good .1) ends
+
+  -- "Such a basin doesn't count": those that count are the same
+  pub dug-basins : basinsOf (dug N m) ≡ basinsOf N
+  unfolding basinsOf isWet
+  dug-basins =
+      let n = N .basins in
+      let split : m ≡ n + (m - n) = omega (arith, more) in
+      ap (λ (k : ℕ). keep (isWet N) (range 0 k)) split
+      ∙ ap (keep (isWet N)) (range-add 0 n (m - n))
+      ∙ keep-append (isWet N) (range 0 n) (range (0 + n) (m - n))
+      ∙ ap (λ (l : List ℕ). keep (isWet N) (range 0 n) ++ l) (none-past (0 + n) (m - n) (omega arith))
+      ∙ append-nil (keep (isWet N) (range 0 n))
+
+  pub dug-plan : (s : List ℕ) → isPlan (dug N m) s ≡ isPlan N s
+  unfolding isPlan isSetting stronglyConnectedUnder
+  dug-plan s = ap (λ (bs : List ℕ). isSetting N s && stronglyConnected bs (arcsUnder N s)) dug-basins
+
+  pub dug-passable : passable (dug N m) ≡ passable N
+  unfolding passable stronglyConnectedUnder
+  dug-passable = ap (λ (bs : List ℕ). stronglyConnected bs (arcsUnder N (unoriented N))) dug-basins
+
+  pub dug-first : firstPlan (dug N m) ≡ firstPlan N
+  unfolding firstPlan
+  dug-first = find-same (isPlan (dug N m)) (isPlan N) (settings (gateCount N)) (λ s mem. dug-plan s)
+
+  pub dug-next : (s : List ℕ) → nextPlan (dug N m) s ≡ nextPlan N s
+  unfolding nextPlan
+  dug-next s = find-same (λ p. before s p && isPlan (dug N m) p) (λ p. before s p && isPlan N p) (settings (gateCount N)) (λ p mem. rw (dug-plan p))
+
+  -- the same findings, with the same marks
+  pub dug-shut-in : shutInFinding (dug N m) ≡ shutInFinding N
+  unfolding shutInFinding shutInSide shutInBasin
+  dug-shut-in = rw dug-basins
+
+  pub dug-bridge : (i : ℕ) → isBridge (dug N m) i ≡ isBridge N i
+  unfolding isBridge crossesAlone
+  dug-bridge i = ap (λ (bs : List ℕ). isGated ((reachAt N i) .state) && some? (λ S. isCut bs S && crossesAlone N S i) (sides bs)) dug-basins
+
+  pub dug-lone : (i : ℕ) → loneFinding (dug N m) i ≡ loneFinding N i
+  unfolding loneFinding bridgeSide crossesAlone
+  dug-lone i =
+      ap (λ (bs : List ℕ). let marks = marksOf (Option·getD (find (λ S. not (elem (getD bs 0 0) S) && (isCut bs S && crossesAlone N S i)) (sides bs)) []) in lone i marks (onesIn marks))
+      dug-basins
+
+  pub dug-answer : (p : Option (List ℕ)) → answer (dug N m) p ≡ answer N p
+  unfolding answer lowestBridge
+  dug-answer p = rw (dug-passable, find-same (isBridge (dug N m)) (isBridge N) (range 0 (length (N .reaches))) (λ i mem. dug-bridge i)) (go (passable N) (lowestBridge N))
+    where
+      go : (b : Bool) (o : Option ℕ) → cond b (orLone (dug N m) o p) (shutInFinding (dug N m)) ≡ cond b (orLone N o p) (shutInFinding N)
+      go false o = dug-shut-in
+      go true none = refl
+      go true (some i) = dug-lone i
+
+  -- what first and next reply to any input with an accepted table
+  module _ (few : m ≤ maxBasins) where
+    pub dug-first-reply : (planLength marksLength : ℕ) → firstReply (dug N m) planLength marksLength ≡ firstReply N planLength marksLength
+    unfolding firstReply firstAnswer roomFault
+    dug-first-reply planLength marksLength = rw (dug-accepted few, ok, dug-first, dug-answer)
+
+    pub dug-next-reply : (s : List ℕ) (planLength marksLength : ℕ) → nextReply (dug N m) s planLength marksLength ≡ nextReply N s planLength marksLength
+    unfolding nextReply nextAnswer roomFault settingFault isSetting
+    dug-next-reply s planLength marksLength = rw (dug-accepted few, ok, dug-next s, dug-answer)
+
+-- ---- all basins dry
+
+module _ (N : Network) (ok : Accepted N) (dry : (b : ℕ) → b < N .basins → isWet N b ≡ false) where
+  -- none is left
+  all-dry : basinsOf N ≡ []
+  unfolding basinsOf
+  all-dry = keep-same (isWet N) (λ b. false) (range 0 (N .basins)) (λ b m. dry b (omega (arith, (range-in 0 (N .basins) m) .1))) ∙ keep-none (range 0 (N .basins))
+
+  -- no reach is in service, and so there is no gate
+  dry-gates : gateCount N ≡ 0
+  dry-gates = go (decLt 0 (gateCount N))
+    where
+      go : Dec (0 < gateCount N) → gateCount N ≡ 0
+      go (yes l) =
+          let g = gate-at 0 (N .reaches) [] 0 l in
+          let end = end-a-in N ok (g .reach) (g .below) (gated-in-service ((reachAt N (g .reach)) .state) (g .gated)) in
+          clash (basin-wet N _ end) (dry _ (basin-below N _ end))
+      go (no n) = omega arith
+
+  pub dry-plan : isPlan N [] ≡ true
+  unfolding isPlan isSetting stronglyConnectedUnder
+  dry-plan = and-intro (and-intro (eq-eqb 0 (gateCount N) (sym dry-gates)) refl) (ap (λ (bs : List ℕ). stronglyConnected bs (arcsUnder N [])) all-dry)
+
+  -- so first gives it, and next says that it is the last
+  pub dry-first : firstAnswer N ≡ plan []
+  unfolding firstPlan
+  dry-first = (first-given N ok []) .1 (rw dry-gates (find-yes (isPlan N) [] dry-plan))
+
+  pub dry-next : nextAnswer N [] ≡ refused LastPlan
+  dry-next = (last-plan N ok []) .1 (([], dry-plan), λ q e later. false≢true later)
