@@ -120,6 +120,13 @@ pub record WetBy (N : Network) (b : ℕ) : Type 0 where
   pub serves : inService ((reachAt N reach) .state) ≡ true
   pub ends : ((reachAt N reach) .a ≡ b) ⊎ ((reachAt N reach) .b ≡ b)
 
+pub wet-make : (N : Network) (b : ℕ) → WetBy N b → isWet N b ≡ true
+unfolding isWet
+wet-make N b w =
+    let r = reachAt N (w .reach) in
+    some-getD (endsAt b) (N .reaches) (w .reach) noReach (w .below)
+    (and-intro (w .serves) (⊎-elim (λ e. or-inl _ _ (eq-eqb (r .a) b e)) (λ e. or-inr (eqb (r .a) b) _ (eq-eqb (r .b) b e)) (w .ends)))
+
 pub wet-by : (N : Network) (b : ℕ) → isWet N b ≡ true → WetBy N b
 unfolding isWet
 wet-by N b e =
@@ -132,16 +139,13 @@ wet-by N b e =
       ends = ⊎-elim (λ f. inl (eqb-true (r .a) b f)) (λ f. inr (eqb-true (r .b) b f)) (or-cases (eqb (r .a) b) _ (and-elim-right (inService (r .state)) _ (k .2)));
     }
 
-pub wet-make : (N : Network) (b : ℕ) → WetBy N b → isWet N b ≡ true
-unfolding isWet
-wet-make N b w =
-    let r = reachAt N (w .reach) in
-    some-getD (endsAt b) (N .reaches) (w .reach) noReach (w .below)
-    (and-intro (w .serves) (⊎-elim (λ e. or-inl _ _ (eq-eqb (r .a) b e)) (λ e. or-inr (eqb (r .a) b) _ (eq-eqb (r .b) b e)) (w .ends)))
-
 -- ---- basins
 
 -- those that count are the wet ones below the basin count
+pub basin-wet : (N : Network) (b : ℕ) → List·Memᴰ b (basinsOf N) → isWet N b ≡ true
+unfolding basinsOf
+basin-wet N b m = (keep-in (isWet N) (range 0 (N .basins)) m) .1
+
 pub basin-in : (N : Network) (b : ℕ) → b < N .basins → isWet N b ≡ true → List·Memᴰ b (basinsOf N)
 unfolding basinsOf
 basin-in N b l w = keep-has (isWet N) (range-has 0 (N .basins) (omega arith) (omega arith)) w
@@ -149,10 +153,6 @@ basin-in N b l w = keep-has (isWet N) (range-has 0 (N .basins) (omega arith) (om
 pub basin-below : (N : Network) (b : ℕ) → List·Memᴰ b (basinsOf N) → b < N .basins
 unfolding basinsOf
 basin-below N b m = omega (arith, (range-in 0 (N .basins) ((keep-in (isWet N) (range 0 (N .basins)) m) .0)) .1)
-
-pub basin-wet : (N : Network) (b : ℕ) → List·Memᴰ b (basinsOf N) → isWet N b ≡ true
-unfolding basinsOf
-basin-wet N b m = (keep-in (isWet N) (range 0 (N .basins)) m) .1
 
 -- they hang on the basin count and on which are wet
 pub same-basins : (N M : Network) → N .basins ≡ M .basins → ((b : ℕ) → isWet N b ≡ isWet M b) → basinsOf N ≡ basinsOf M
