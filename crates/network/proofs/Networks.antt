@@ -2,6 +2,7 @@
 -- Assumes nothing.
 use Prim.Native.Nat.{ℕ, zero, suc, _≤_, _<_}
 use native.Mathlib.Omega.{arith}
+use native.Mathlib.Decide.{decLt}
 use mathlib.Core.Path.{_≡_, refl, sym, ap, subst, _∙_}
 use mathlib.Core.Bool.{Bool, true, false, not, cond, _&&_}
 use mathlib.Core.Logic.{_⊎_, inl, inr, ⊎-elim}
@@ -11,9 +12,9 @@ use lib.ListN.{length, getD}
 use lib.Dec.{leb, ltb, eqb}
 use borrow.Author.Tests.{leb-true, ltb-true, eqb-true, eq-eqb}
 use mathlib.Mathlib.Data.Bool.Basic.{and-elim-left, and-elim-right, and-intro, or-inl, or-inr}
-use Rattle.lists.proofs.Bools.{or-cases}
+use Rattle.lists.proofs.Bools.{or-cases, clash}
 use Rattle.lists.proofs.Lists.{length-cond-le}
-use Rattle.lists.proofs.Searches.{every-getD, some-getD, some-at, find-lowest, keep-in, keep-has, keep-same, keep-keep, find-keep, keep-first}
+use Rattle.lists.proofs.Searches.{every-getD, some-getD, some-at, find-none, find-first, keep-in, keep-has, keep-same, keep-keep, find-keep, keep-first}
 use Rattle.network.specs.declared.Kind.the-variants.{TwoWay}
 use Rattle.network.specs.declared.State.the-variants.{Shut}
 use Rattle.network.specs.declared.Reach.{Reach}
@@ -22,7 +23,7 @@ use Rattle.network.specs.declared.Refusal.the-variants.{BasinCount, TooM
 use Rattle.network.specs.Networks.{Network, inService, endsAt, isWet, maxBasins, maxReaches, basinsOf, lowestBasin, goodCount, goodLength, goodEnds, tableFault, Accepted}
 use Rattle.network.specs.Tables.{stateOf}
 use Rattle.network.specs.Settings.{isGated, gatesFrom, gateCount}
-use Rattle.network.specs.Orientations.{arc, passing, arcs}
+use Rattle.network.specs.Orientations.{arc, passing, arcs, Walk, stay, step}
 use Rattle.network.specs.Bridges.{noReach, reachAt}
 use Rattle.lists.specs.Lists.{range, find, keep}
 use Rattle.lists.proofs.Ranges.{range-has, range-in}
@@ -183,10 +184,21 @@ head-in (x ∷ l) m = List·Memᴰ·head refl
 pub lowest-in : (N : Network) {b : ℕ} → List·Memᴰ b (basinsOf N) → List·Memᴰ (lowestBasin N) (basinsOf N)
 lowest-in N m = head-in (basinsOf N) m
 
--- a wet basin with none below it is the lowest
-pub lowest-is : (N : Network) (w : ℕ) → w < N .basins → isWet N w ≡ true → ((v : ℕ) → v < w → isWet N v ≡ false) → lowestBasin N ≡ w
+-- and none is lower
+pub lowest-least : (N : Network) (b : ℕ) → List·Memᴰ b (basinsOf N) → lowestBasin N ≤ b
 unfolding basinsOf
-lowest-is N w l wet lower = keep-first (isWet N) 0 (range 0 (N .basins)) (find-lowest (isWet N) 0 (N .basins) w (omega arith) (omega arith) wet (λ j a b. lower j b))
+lowest-least N b m = go (find (isWet N) (range 0 (N .basins))) refl
+  where
+    wet : List·Memᴰ b (range 0 (N .basins)) × (isWet N b ≡ true)
+    wet = keep-in (isWet N) (range 0 (N .basins)) m
+
+    go : (o : Option ℕ) → find (isWet N) (range 0 (N .basins)) ≡ o → lowestBasin N ≤ b
+    go none e = clash (wet .1) (find-none (isWet N) e (wet .0))
+    go (some k) e = rw (keep-first (isWet N) 0 (range 0 (N .basins)) e) (least (decLt b k))
+      where
+        least : Dec (b < k) → k ≤ b
+        least (yes l) = clash (wet .1) (find-first (isWet N) 0 (N .basins) e b (omega arith) l)
+        least (no l) = omega arith
 
 -- ---- the ends of arcs
 
@@ -212,6 +224,10 @@ arc-ends P t ws out f c d m =
 -- so water passes between wet basins only
 pub arcs-in-basins : (N : Network) → Accepted N → (ws : List ℕ) → ShutOut (N .reaches) ws → (c d : ℕ) → List·Memᴰ (arc c d) (arcs (N .reaches) ws) → List·Memᴰ c (basinsOf N) × List·Memᴰ d (basinsOf N)
 arcs-in-basins N ok ws out = arc-ends (λ x. List·Memᴰ x (basinsOf N)) (N .reaches) ws out (λ i l e. (end-a-in N ok i l e, end-b-in N ok i l e))
+
+pub walk-in-basins : (N : Network) → Accepted N → (ws : List ℕ) → ShutOut (N .reaches) ws → {u v : ℕ} → Walk (arcs (N .reaches) ws) u v → List·Memᴰ u (basinsOf N) → List·Memᴰ v (basinsOf N)
+walk-in-basins N ok ws out stay m = m
+walk-in-basins N ok ws out (step {u = c} {v = d} a p) m = walk-in-basins N ok ws out p (arcs-in-basins N ok ws out c d a .1)
 
 -- what is alike at both ends of each reach in service is alike at both ends of each arc
 pub arc-alike : (f : ℕ → Bool) (t : List Reach) (ws : List ℕ) → ShutOut t ws → ((i : ℕ) → i < length t → inService ((getD t i noReach) .state) ≡ true → f ((getD t i noReach) .a) ≡ f ((getD t i noReach) .b)) → (c d : ℕ) → List·Memᴰ (arc c d) (arcs t ws) → f c ≡ f d
