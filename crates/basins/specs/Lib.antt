@@ -1,0 +1,2 @@
+-- Which basins are wet.
+pub mod Wet

@@ -1,0 +1,53 @@
+-- The lowest wet basin, and the wet basins on the side without it. Document 02, item 3: "A basin is dry if no reach in service has an end there; a loop keeps
+-- it wet." `isWet` of network/specs/Networks.antt says so.
+-- Assumes nothing.
+use Prim.Native.Nat.{ℕ, min, _≤_, _<_}
+use mathlib.Core.Path.{_≡_}
+use mathlib.Core.Bool.{Bool, true, false, not, cond, _&&_, _||_}
+use mathlib.Core.List.{List}
+use lib.ListN.{getD}
+use lib.Dec.{eqb}
+use Rattle.network.specs.Networks.{Network, inService, isWet}
+use Rattle.network.specs.Tables.{stateOf}
+
+-- ---- the lowest
+
+-- Tests of a basin: any passes; it passes if its byte is 0.
+abbrev pub anyBasin : ℕ → Bool
+anyBasin v = true
+
+abbrev pub byteIs0 : List ℕ → ℕ → Bool
+byteIs0 seen v = eqb (getD seen v 0) 0
+
+-- r is the lowest wet basin that passes the test, or the basin count if none does.
+pub record Lowest (N : Network) (test : ℕ → Bool) (r : ℕ) : Type 0 where
+  pub bound : r ≤ N .basins
+  pub lower : (v : ℕ) → v < r → isWet N v ≡ true → test v ≡ false
+  pub at : r < N .basins → (isWet N r ≡ true) × (test r ≡ true)
+
+-- The lower of the lowest so far and a basin that passes the test.
+abbrev pub lowered : (ℕ → Bool) → ℕ → ℕ → ℕ
+lowered test low v = cond (test v) (min low v) low
+
+-- The same with both ends of a reach, if it is in service.
+abbrev pub withEnds : (ℕ → Bool) → ℕ → ℕ → ℕ → ℕ → ℕ
+withEnds test low kind v w = cond (inService (stateOf kind)) (lowered test (lowered test low v) w) low
+
+-- ---- the other side
+
+-- A reach of the kind, with ends v and w, has an end at basin u and is in service.
+abbrev pub atEnd : ℕ → ℕ → ℕ → ℕ → Bool
+atEnd kind v w u = inService (stateOf kind) && (eqb v u || eqb w u)
+
+-- Of a basin's byte y: 2 if the basin is asked for and y is not x, and otherwise y.
+abbrev pub otherByte : ℕ → Bool → ℕ → ℕ
+otherByte x asked y = cond (asked && not (eqb y x)) 2 y
+
+-- The basins that are asked for and have another byte than x get the byte 2; every other byte is kept.
+pub record OthersNoted (x : ℕ) (asked : ℕ → Bool) (seen seen′ : List ℕ) : Type 0 where
+  pub bytes : (v : ℕ) → getD seen′ v 0 ≡ otherByte x (asked v) (getD seen v 0)
+
+-- "with "without basin 0" read as without the lowest wet basin": the wet basins with another byte than the lowest wet basin get the byte 2. If all are dry, no
+-- byte changes.
+pub record FarSideNoted (N : Network) (seen seen′ : List ℕ) : Type 0 where
+  pub without : (w : ℕ) → Lowest N anyBasin w → OthersNoted (getD seen w 0) (isWet N) seen seen′
