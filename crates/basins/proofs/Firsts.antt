@@ -28,6 +28,7 @@ use Rattle.basins.specs.Wet.{atEnd}
 abbrev pub firsts : Network → ℕ → Network
 firsts N i = net (N .basins) (take i (N .reaches))
 
+-- a test of the first members, and of one more
 some-more : {A : Type 0} (p : A → Bool) (l : List A) (i : ℕ) (d : A) → i < length l → some? p (take (suc i) l) ≡ some? p (take i l) || p (getD l i d)
 some-more p [] i d h = absurd (not-suc-le-zero h)
 some-more p (x ∷ l) zero d h = or-false (p x)
@@ -46,7 +47,7 @@ module _ (N : Network) (v : ℕ) where
   wet-more i h = rw add-one (some-more (endsAt v) (N .reaches) i noReach h)
 
   -- all of them
-  pub wet-all : (i : ℕ) → length (N .reaches) ≤ i → isWet (firsts N i) v ≡ isWet N v
+  wet-all : (i : ℕ) → length (N .reaches) ≤ i → isWet (firsts N i) v ≡ isWet N v
   unfolding isWet
   wet-all i h = ap (some? (endsAt v)) (take-all i (N .reaches) h)
 

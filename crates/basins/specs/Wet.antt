@@ -47,7 +47,7 @@ otherByte x asked y = cond (asked && not (eqb y x)) 2 y
 pub record OthersNoted (x : ℕ) (asked : ℕ → Bool) (seen seen′ : List ℕ) : Type 0 where
   pub bytes : (v : ℕ) → getD seen′ v 0 ≡ otherByte x (asked v) (getD seen v 0)
 
--- "with "without basin 0" read as without the lowest wet basin": the wet basins with another byte than the lowest wet basin get the byte 2. If all are dry, no
--- byte changes.
+-- What is marked of a lone reach is its side "without basin 0", which item 3 has "read as without the lowest wet basin". The bytes tell the sides apart: each wet
+-- basin with another byte than the lowest wet basin gets the byte 2, and every other byte is kept. If all basins are dry, all bytes are.
 pub record FarSideNoted (N : Network) (seen seen′ : List ℕ) : Type 0 where
   pub without : (w : ℕ) → Lowest N anyBasin w → OthersNoted (getD seen w 0) (isWet N) seen seen′

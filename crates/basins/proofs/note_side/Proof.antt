@@ -1,7 +1,8 @@
 -- `note_side` meets its contract.
 -- Assumes nothing.
 use native.Mathlib.Omega.{arith}
-use lib.ListN.{length}
+use mathlib.Core.Path.{ap}
+use lib.ListN.{length, getD}
 use Rattle.basins.proofs.Firsts.{table-wider}
 use Rattle.basins.proofs.Notes.{side-noted, side-dry}
 use Rattle.basins.proofs.note_side.Statement.{statement}
@@ -24,7 +25,7 @@ returns c =
     let start = c .before .before .before .before .before .before .before .before .before .before .before in
     let s = start .args in
     let call = c .before .before .before .before .before .before .lowest-wet in
-    side-noted (s .n) (s .kinds .now) (s .a .now) (s .b .now) (call .result) (call .ensures) _ (length (s .seen .now)) (omega arith) (c .before .before .note-others .ensures)
+    side-noted (s .n) (s .kinds .now) (s .a .now) (s .b .now) (call .result) (call .ensures) _ (length (s .seen .now)) (ap (λ j. getD (s .seen .now) j 0) (omega arith)) (c .before .before .note-others .ensures)
 
 returns-2 : tie.Need-returns-2
 returns-2 c =
