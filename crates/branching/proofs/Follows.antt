@@ -79,7 +79,7 @@ module _ (n : ℕ) (ks xs ys : List ℕ) (ea : length xs ≡ length ks) (eb : le
 
         -- what a search decides, for each way
         way-law : (x : ℕ) → x ≤ 1 → stronglyConnected (basinsOf N) (arcs (N .reaches) (set (upTo fs us i) i x)) ≡ ledRound (leftOut xs ys (upTo fs us i) i) xs ys i x
-        way-law = row-way n ks xs ys ea eb ok (upTo fs us i) i l full either
+        way-law = row-way n ks xs ys ea eb ok (upTo fs us i) i l (tries .only-gates i below g) full either
 
         module _ (x : ℕ) (small : x ≤ 1) {ws′ : List ℕ} {r : Bool} (t : Tried xs ys (upTo fs us i) i x ws′ r) where
           tried-on : r ≡ true → (ws′ ≡ set (upTo fs us i) i x) × StronglyConnected N (set (upTo fs us i) i x)

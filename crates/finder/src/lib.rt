@@ -47,7 +47,7 @@ pub fn strongly_connected_under(
     ensures { λ r. ⌜ r ≡ stronglyConnectedUnder (netOf n (now (kinds .entry)) (now (a .entry)) (now (b .entry))) (now (setting .entry)) ⌝ }
 {
     prepare(n, kinds, a, b, setting, ways, head, next);
-    orienting::shut_in_basin(n, a, b, ways, head, next, seen, queue) == n
+    orienting::shut_in_basin(n, kinds, a, b, ways, head, next, seen, queue) == n
 }
 
 // Searches for the first plan, in lent working memory: the ways that it leaves are the plan's, and what it notes is the side of a finding.

@@ -144,8 +144,8 @@ module _ (n : ℕ) (ks xs ys : List ℕ) where
       let v = p .level in
       under-length n ks xs ys (v .ends-a) (v .ends-b) us (row-under v s (p .fits) (p .oriented)) ∙ sym (p .ways-room)
 
-  -- the setting is a plan if with its ways all basins reach all
-  module _ {s us ws : List ℕ} {r : ℕ} (p : AtSetting n ks xs ys s us ws) (w : ShutInBasin (arcsOf xs ys us) n r) where
+  -- the setting is a plan if with its ways all wet basins reach all
+  module _ {s us ws : List ℕ} {r : ℕ} (p : AtSetting n ks xs ys s us ws) (w : ShutInBasin N (arcsOf xs ys us) r) where
     stronglyConnected : eqb r n ≡ stronglyConnectedUnder N s
     stronglyConnected = under-basin (p .level) s (p .oriented) w
 

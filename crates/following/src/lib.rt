@@ -104,7 +104,7 @@ pub fn next_of(
     ensures { λ r. ⌜ NextFound (netOf n (now (kinds .entry)) (now (a .entry)) (now (b .entry))) (now (setting .entry))
         (now (ways .exit)) (now (seen .exit)) r ⌝ }
 {
-    if orienting::shut_in_basin(n, a, b, under, head, next, seen, queue) == n {
+    if orienting::shut_in_basin(n, kinds, a, b, under, head, next, seen, queue) == n {
         next_of_plan(
             n,
             kinds,

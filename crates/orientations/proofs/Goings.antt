@@ -13,11 +13,12 @@ use lib.Dec.{eqb}
 use Rattle.network.proofs.Marks.{bit-is}
 use mathlib.Mathlib.Data.Bool.Basic.{bool-eq-false}
 use Rattle.lists.specs.Lists.{keep}
+use Rattle.network.specs.declared.Reach.{Reach}
 use Rattle.network.specs.Networks.{Network, inService, basinsOf, Accepted}
 use Rattle.network.specs.Settings.{isGated}
 use Rattle.network.specs.Orientations.{way, arcs, reached}
 use Rattle.network.specs.Plans.{stronglyConnected}
-use Rattle.network.specs.Bridges.{reachAt, crossesAlone, isBridge}
+use Rattle.network.specs.Bridges.{noReach, reachAt, crossesAlone, isBridge}
 use Rattle.network.specs.Marks.{bit}
 use Rattle.lists.proofs.Bools.{decide, clash}
 use Rattle.lists.proofs.Searches.{keep-same}
@@ -38,6 +39,10 @@ pub record Going (N : Network) (fs ws₀ : List ℕ) (from : ℕ) (ws : List ℕ
 
 pub starts : {N : Network} {fs ws : List ℕ} {i : ℕ} → Begun N fs ws i → Going N fs ws i ws i
 starts b = record { begun = b; onward = λ s m. m; clear = λ j l k. absurd (omega arith) }
+
+-- the shut reaches pass nothing
+shaped-out : (t : List Reach) (ws : List ℕ) → Shaped t ws → ShutOut t ws
+shaped-out t ws shaped j l e = shaped j l (shut-plain ((getD t j noReach) .state) e) ∙ shut-way ((getD t j noReach) .state) e
 
 module _ (N : Network) (ok : Accepted N) (fs ws : List ℕ) (i : ℕ) (below : i < length (N .reaches)) (b : Begun N fs ws i) where
   room : i < length ws
@@ -103,9 +108,7 @@ module _ (N : Network) (ok : Accepted N) (fs ws : List ℕ) (i : ℕ) (below : i
     not-bridge x small str = bool-eq-false {b = isBridge N i} (λ e. bridge-parts N i e (set ws i x) out (rw (getD-set-same ws i x 3 room) small) str)
       where
         out : ShutOut (N .reaches) (set ws i x)
-        out j l e =
-            let n = shut-plain ((reachAt N j) .state) e in
-            begun-oriented x small str .shaped j l n ∙ shut-way ((reachAt N j) .state) e
+        out = shaped-out (N .reaches) (set ws i x) (begun-oriented x small str .shaped)
 
     -- the ways of all reaches in service are 0, 1 or 2
     all-small : (j : ℕ) → j < length (N .reaches) → inService ((reachAt N j) .state) ≡ true → getD ws j 3 ≤ 2
@@ -127,8 +130,8 @@ module _ (N : Network) (ok : Accepted N) (fs ws : List ℕ) (i : ℕ) (below : i
       alone-on : Alone N (reached (arcs (N .reaches) (set ws i 3)) ((reachAt N i) .a)) i
       alone-on =
           alone-same N ok (λ v. not (reached (arcs (N .reaches) (set ws i 3)) ((reachAt N i) .b) v)) (reached (arcs (N .reaches) (set ws i 3)) ((reachAt N i) .a)) i below
-          (stuck-other N ok ws i below (b .full) serves all-small either ba ab)
-          (alone-rest N (reached (arcs (N .reaches) (set ws i 3)) ((reachAt N i) .b)) i (stuck-alone N ok ws i below (b .full) serves all-small either ba ab))
+          (stuck-other N ok ws i below (b .full) serves (shaped-out (N .reaches) ws (b .shaped)) all-small either ba ab)
+          (alone-rest N (reached (arcs (N .reaches) (set ws i 3)) ((reachAt N i) .b)) i (stuck-alone N ok ws i below (b .full) serves (shaped-out (N .reaches) ws (b .shaped)) all-small either ba ab))
 
       pub bridge-cut : (seen : List ℕ) → ((v : ℕ) → v < N .basins → getD seen v 0 ≡ bit (reached (arcs (N .reaches) (set ws i 3)) ((reachAt N i) .a) v)) → crossesAlone N (keep (λ v. eqb (getD seen v 0) 1) (basinsOf N)) i ≡ true
       bridge-cut seen noted =
@@ -138,7 +141,7 @@ module _ (N : Network) (ok : Accepted N) (fs ws : List ℕ) (i : ℕ) (below : i
           ((cut-of N ok i below (reached (arcs (N .reaches) (set ws i 3)) ((reachAt N i) .a)) alone-on) .alone)
 
       pub is-bridge : isBridge N i ≡ true
-      is-bridge = stuck-bridge N ok ws i below (b .full) serves all-small either ba ab gate
+      is-bridge = stuck-bridge N ok ws i below (b .full) serves (shaped-out (N .reaches) ws (b .shaped)) all-small either ba ab gate
 
 -- ---- one step of the loop
 
@@ -155,10 +158,10 @@ module _ (N : Network) (ok : Accepted N) (fs ws₀ : List ℕ) (from : ℕ) (ws 
 
   module _ (t : isTried fs i ≡ true) where
     as-drawn : stronglyConnected (basinsOf N) (arcs (N .reaches) (set ws i 0)) ≡ reached (arcs (N .reaches) (set ws i 3)) ((reachAt N i) .b) ((reachAt N i) .a)
-    as-drawn = orient-drawn N ok ws i below (w .begun .full) (either N ok fs ws i below (w .begun) t)
+    as-drawn = orient-drawn N ok ws i below (w .begun .full) (serves N ok fs ws i below (w .begun) t) (either N ok fs ws i below (w .begun) t)
 
     as-turned : stronglyConnected (basinsOf N) (arcs (N .reaches) (set ws i 1)) ≡ reached (arcs (N .reaches) (set ws i 3)) ((reachAt N i) .a) ((reachAt N i) .b)
-    as-turned = orient-turned N ok ws i below (w .begun .full) (either N ok fs ws i below (w .begun) t)
+    as-turned = orient-turned N ok ws i below (w .begun .full) (serves N ok fs ws i below (w .begun) t) (either N ok fs ws i below (w .begun) t)
 
     pub going-drawn : reached (arcs (N .reaches) (set ws i 3)) ((reachAt N i) .b) ((reachAt N i) .a) ≡ true → Going N fs ws₀ from (set ws i 0) (suc i)
     going-drawn e =

@@ -3,12 +3,14 @@
 use Prim.Native.Nat.{ℕ, zero, suc, _<_}
 use native.Mathlib.Omega.{arith}
 use mathlib.Core.Path.{_≡_, refl, sym, ap, subst, _∙_}
-use mathlib.Core.Bool.{Bool, true, false, cond}
-use mathlib.Core.List.{List}
+use mathlib.Core.Bool.{Bool, true, false, cond, not, true≢false}
+use mathlib.Core.List.{List, List·Memᴰ}
 use lib.ListN.{length, getD, set}
 use lib.Seq.{set-set}
+use lib.Dec.{eqb}
+use borrow.Author.Tests.{not-false, not-true}
 use mathlib.Mathlib.Data.Bool.Basic.{bool-eq-false}
-use Rattle.lists.specs.Lists.{range}
+use Rattle.network.specs.Networks.{Network, basinsOf}
 use Rattle.network.specs.Tables.{stateOf}
 use Rattle.network.specs.Settings.{isGated}
 use Rattle.network.specs.Orientations.{Arc, reached}
@@ -16,12 +18,12 @@ use Rattle.network.specs.Plans.{reachesAll}
 use Rattle.network.specs.Marks.{bit}
 use Rattle.lists.proofs.Bools.{clash}
 use Rattle.lists.proofs.Searches.{every-at, every-make}
-use Rattle.lists.proofs.Ranges.{range-has, range-in}
+use Rattle.network.proofs.Networks.{basin-in, basin-below, basin-wet}
 use Rattle.network.proofs.Walks.{walk-trans, walk-reached, reached-walk}
 use Rattle.half_edges.specs.Ends.{arcsOf}
 use Rattle.search.specs.Searches.{Searchable, Noted}
-use Rattle.network.proofs.Marks.{bit-0}
-use Rattle.orienting.specs.Ready.{Ready, FirstUnseen, FirstUnreached, ShutInBasin}
+use Rattle.basins.specs.Wet.{anyBasin, byteIs0, Lowest}
+use Rattle.orienting.specs.Ready.{Ready, FirstUnreached, ShutInBasin}
 use Rattle.orienting.specs.Tries.{leftOut, ledRound, Tried, oriented, undecided}
 
 pub searchable : {n : ℕ} {xs ys ws head next seen queue : List ℕ} (start : ℕ) → Ready n xs ys ws head next seen queue → start < n → Searchable n xs ys ws head next start seen queue
@@ -76,44 +78,59 @@ tried-lost xs ys ws i (undecided p e q) y = (p, e)
 pub kind-gate : (k : ℕ) → k ≡ 0 → isGated (stateOf k) ≡ true
 kind-gate k e = rw e
 
--- ---- all basins
+-- ---- what a search has left of the wet basins
 
-bit-above : (b : Bool) → 0 < bit b → b ≡ true
-bit-above true e = refl
-bit-above false e = absurd (omega arith)
+bit-unseen : (b : Bool) → eqb (bit b) 0 ≡ not b
+bit-unseen true = refl
+bit-unseen false = refl
 
--- the lowest 0 of what a search notes is the lowest basin not reached
-pub unreached-first : {A : List Arc} {n start : ℕ} {seen : List ℕ} {r : ℕ} → Noted A n start seen → FirstUnseen n seen r → FirstUnreached A n start seen r
-unreached-first {A} {n} {start} {seen} {r} noted f =
-    record {
-      bound = f .bound;
-      lower = λ v l. bit-above (reached A start v) (subst (λ (x : ℕ). 0 < x) (noted v (omega (arith, f .bound))) (f .lower v l));
-      at = λ l. bit-0 (reached A start r) (sym (noted r l) ∙ f .at l);
-      noted = noted;
-    }
+module _ (N : Network) (A : List Arc) where
+  -- the lowest wet basin with a 0 of what a search notes is the lowest not reached
+  pub unreached-first : {start r : ℕ} (seen : List ℕ) → Noted A (N .basins) start seen → Lowest N (byteIs0 seen) r → FirstUnreached N A start r
+  unreached-first {start} {r} seen noted f =
+      record {
+        bound = f .bound;
+        lower = λ v m l. not-false _ (sym (test v (basin-below N v m)) ∙ f .lower v l (basin-wet N v m));
+        at = λ l. let k = f .at l in (basin-in N r l (k .0), not-true _ (sym (test r l) ∙ k .1));
+      }
+    where
+      test : (v : ℕ) → v < N .basins → byteIs0 seen v ≡ not (reached A start v)
+      test v l = ap (λ (x : ℕ). eqb x 0) (noted v l) ∙ bit-unseen (reached A start v)
 
--- ---- the lowest basin that does not reach all
+  -- ---- the lowest wet basin that does not reach all
 
--- basin 0 does not
-pub shut-in-0 : {A : List Arc} {n r : ℕ} {seen : List ℕ} → FirstUnreached A n 0 seen r → r < n → ShutInBasin A n 0
-shut-in-0 {A} {n} {r} m l =
-    record {
-      bound = omega arith;
-      lower = λ u k. absurd (omega arith);
-      at = λ k. bool-eq-false {b = reachesAll (range 0 n) A 0} (λ e. clash (every-at (reached A 0) e (range-has 0 n (omega arith) (omega arith))) (m .at l));
-    }
+  module _ {w : ℕ} (low : Lowest N anyBasin w) where
+    -- no wet basin is lower
+    none-lower : (u : ℕ) → List·Memᴰ u (basinsOf N) → u < w → ⊥
+    none-lower u m l = true≢false (low .lower u l (basin-wet N u m))
 
--- it does, and so does each basin that leads to it
-pub shut-in-back : {A B : List Arc} {n r : ℕ} {seen seen′ : List ℕ} → 0 < n → FirstUnreached A n 0 seen n → ((u v : ℕ) → reached B u v ≡ reached A v u) → FirstUnreached B n 0 seen′ r → ShutInBasin A n r
-shut-in-back {A} {B} {n} {r} pos m against k =
-    record {
-      bound = k .bound;
-      lower = λ u l.
-          every-make (reached A u) (range 0 n)
-          (λ v mv.
-          walk-reached
-          (walk-trans (reached-walk A u 0 (sym (against 0 u) ∙ k .lower u l)) (reached-walk A 0 v (m .lower v (omega (arith, (range-in 0 n mv) .1))))));
-      at = λ l.
-          bool-eq-false {b = reachesAll (range 0 n) A r}
-          (λ e. clash (every-at (reached A r) e (range-has 0 n (omega arith) (omega arith))) (sym (against 0 r) ∙ k .at l));
-    }
+    -- all are dry
+    pub shut-in-none : w ≡ N .basins → ShutInBasin N A (N .basins)
+    shut-in-none e = record { bound = omega arith; lower = λ u m l. absurd (none-lower u m (omega arith)); at = λ l. absurd (omega arith) }
+
+    module _ (below : w < N .basins) where
+      low-in : List·Memᴰ w (basinsOf N)
+      low-in = basin-in N w below (low .at below .0)
+
+      -- the lowest does not
+      pub shut-in-lowest : {r : ℕ} → FirstUnreached N A w r → r < N .basins → ShutInBasin N A w
+      shut-in-lowest {r} m l =
+          record {
+            bound = low .bound;
+            lower = λ u mu k. absurd (none-lower u mu k);
+            at = λ k. (low-in, bool-eq-false {b = reachesAll (basinsOf N) A w} (λ e. clash (every-at (reached A w) e (m .at l .0)) (m .at l .1)));
+          }
+
+      -- it does, and so does each basin that leads to it
+      pub shut-in-back : {B : List Arc} {r r′ : ℕ} → FirstUnreached N A w r → (r < N .basins → ⊥) → ((u v : ℕ) → reached B u v ≡ reached A v u) → FirstUnreached N B w r′ → ShutInBasin N A r′
+      shut-in-back {B} {r} {r′} m all against k =
+          record {
+            bound = k .bound;
+            lower = λ u mu l.
+                every-make (reached A u) (basinsOf N)
+                (λ v mv. walk-reached (walk-trans (reached-walk A u w (sym (against w u) ∙ k .lower u mu l)) (reached-walk A w v (m .lower v mv (omega (arith, basin-below N v mv))))));
+            at = λ l. (
+              k .at l .0,
+              bool-eq-false {b = reachesAll (basinsOf N) A r′} (λ e. clash (every-at (reached A r′) e low-in) (sym (against w r′) ∙ k .at l .1)),
+            );
+          }

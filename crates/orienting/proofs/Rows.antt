@@ -12,6 +12,7 @@ use Rattle.network.specs.Settings.{isGated}
 use Rattle.network.specs.Orientations.{arcs, reached}
 use Rattle.network.specs.Plans.{stronglyConnected}
 use Rattle.network.specs.Bridges.{reachAt}
+use Rattle.network.proofs.Ways.{gated-in-service}
 use Rattle.network.proofs.Steps.{orient-drawn, orient-turned}
 use Rattle.half_edges.specs.Ends.{arcsOf}
 use Rattle.half_edges.proofs.Laws.{arcs-ends}
@@ -38,8 +39,8 @@ module _ (n : ℕ) (ks xs ys : List ℕ) (ea : length xs ≡ length ks) (eb : le
 
   -- of a gate that is usable either way, everything reaches everything with either of its ways exactly if a search leads round it
   pub row-way :
-      Accepted (netOf n ks xs ys) → (ws : List ℕ) (i : ℕ) → i < length ks → length ws ≡ length (tableOf ks xs ys) → stronglyConnected (basinsOf (netOf n ks xs ys)) (arcs (tableOf ks xs ys) (set ws i 2)) ≡ true
+      Accepted (netOf n ks xs ys) → (ws : List ℕ) (i : ℕ) → i < length ks → isGated ((reachAt (netOf n ks xs ys) i) .state) ≡ true → length ws ≡ length (tableOf ks xs ys) → stronglyConnected (basinsOf (netOf n ks xs ys)) (arcs (tableOf ks xs ys) (set ws i 2)) ≡ true
       → (x : ℕ) → x ≤ 1 → stronglyConnected (basinsOf (netOf n ks xs ys)) (arcs (tableOf ks xs ys) (set ws i x)) ≡ ledRound (leftOut xs ys ws i) xs ys i x
-  row-way ok ws i l full either zero small = orient-drawn (netOf n ks xs ys) ok ws i (row-below i l) full either ∙ row-led ws i l
-  row-way ok ws i l full either (suc zero) small = orient-turned (netOf n ks xs ys) ok ws i (row-below i l) full either ∙ row-led-turned ws i l
-  row-way ok ws i l full either (suc (suc x)) small = absurd (omega arith)
+  row-way ok ws i l g full either zero small = orient-drawn (netOf n ks xs ys) ok ws i (row-below i l) full (gated-in-service ((reachAt (netOf n ks xs ys) i) .state) g) either ∙ row-led ws i l
+  row-way ok ws i l g full either (suc zero) small = orient-turned (netOf n ks xs ys) ok ws i (row-below i l) full (gated-in-service ((reachAt (netOf n ks xs ys) i) .state) g) either ∙ row-led-turned ws i l
+  row-way ok ws i l g full either (suc (suc x)) small = absurd (omega arith)

@@ -1,32 +1,20 @@
-// Tests of a partial orientation over a table whose half-edges are indexed: which basin fails to reach all, and whether a reach can get a way
+// Tests of a partial orientation over a table whose half-edges are indexed: which wet basin fails to reach all, and whether a reach can get a way
 // without loss. These functions are for the planner; what they require it has checked.
 ghost use mathlib.Core.Path.{_≡_};
 ghost use mathlib.Core.Bool.{cond};
 ghost use Prim.Native.Nat.{_≤_, _<_};
 ghost use lib.ListN.{length, set};
 ghost use Rattle.half_edges.specs.Ends.{arcsOf, sided};
-ghost use Rattle.orienting.specs.Ready.{Ready, FirstUnseen, FirstUnreached, ShutInBasin};
+ghost use Rattle.tables.specs.Rows.{netOf};
+ghost use Rattle.basins.specs.Wet.{anyBasin, Lowest};
+ghost use Rattle.orienting.specs.Ready.{Ready, FirstUnreached, ShutInBasin};
 ghost use Rattle.orienting.specs.Tries.{Tried};
 
-// The lowest basin whose byte is 0, or n if there is none.
-fn first_unseen(n: usize, seen: &[u8]) -> usize
-    requires { ⌜ n ≤ length (now seen) ⌝ }
-    ensures { λ r. ⌜ FirstUnseen n (now (seen .entry)) r ⌝ }
-{
-    let mut v = 0;
-    while v < n {
-        if seen[v] == 0 {
-            return v;
-        }
-        v += 1;
-    }
-    n
-}
-
-// The lowest basin that is not reached from start along the arrows or, if so asked, against them; or n if all are. What the search noted stands in
-// seen; past the n basins it is free, and so is the queue.
-pub fn first_unreached(
+// The lowest wet basin that is not reached from start along the arrows or, if so asked, against them; or n if all are. What it leaves in seen and in the
+// queue is free.
+fn first_unreached(
     n: usize,
+    kinds: &[u8],
     a: &[u16],
     b: &[u16],
     ways: &[u8],
@@ -38,17 +26,46 @@ pub fn first_unreached(
     queue: &mut [u16],
 ) -> usize
     requires { ⌜ Ready n (now a) (now b) (now ways) (now head) (now next) (now seen) (now queue) ⌝ }
+    requires { ⌜ length (now kinds) ≡ length (now a) ⌝ }
     requires { ⌜ start < n ⌝ }
-    ensures { λ r. ⌜ FirstUnreached (arcsOf (now (a .entry)) (now (b .entry)) (sided against (now (ways .entry)))) n start (now (seen .exit)) r ⌝ }
+    ensures { λ r. ⌜ FirstUnreached (netOf n (now (kinds .entry)) (now (a .entry)) (now (b .entry)))
+        (arcsOf (now (a .entry)) (now (b .entry)) (sided against (now (ways .entry)))) start r ⌝ }
 {
     search::search(n, a, b, ways, head, next, start, against, seen, queue);
-    first_unseen(n, seen)
+    basins::lowest_unseen(n, kinds, a, b, seen)
 }
 
-// The lowest basin that does not reach all, or n if all do: if basin 0 reaches all, a basin does exactly if it reaches basin 0. What it leaves in seen and
-// in the queue is free.
+// The lowest wet basin that does not reach all wet basins, or n if all do; low is the lowest: if it reaches all, a basin does exactly if it reaches low.
+// What it leaves in seen and in the queue is free.
+fn shut_in_from(
+    n: usize,
+    kinds: &[u8],
+    a: &[u16],
+    b: &[u16],
+    ways: &[u8],
+    head: &[u16],
+    next: &[u16],
+    low: u16,
+    seen: &mut [u8],
+    queue: &mut [u16],
+) -> usize
+    requires { ⌜ Ready n (now a) (now b) (now ways) (now head) (now next) (now seen) (now queue) ⌝ }
+    requires { ⌜ length (now kinds) ≡ length (now a) ⌝ }
+    requires { ⌜ Lowest (netOf n (now kinds) (now a) (now b)) anyBasin low ⌝ }
+    requires { ⌜ low < n ⌝ }
+    ensures { λ r. ⌜ ShutInBasin (netOf n (now (kinds .entry)) (now (a .entry)) (now (b .entry)))
+        (arcsOf (now (a .entry)) (now (b .entry)) (now (ways .entry))) r ⌝ }
+{
+    if first_unreached(n, kinds, a, b, ways, head, next, low, false, seen, queue) < n {
+        return low as usize;
+    }
+    first_unreached(n, kinds, a, b, ways, head, next, low, true, seen, queue)
+}
+
+// The lowest wet basin that does not reach all wet basins, or n if all do: so it is if all basins are dry. What it leaves in seen and in the queue is free.
 pub fn shut_in_basin(
     n: usize,
+    kinds: &[u8],
     a: &[u16],
     b: &[u16],
     ways: &[u8],
@@ -58,12 +75,15 @@ pub fn shut_in_basin(
     queue: &mut [u16],
 ) -> usize
     requires { ⌜ Ready n (now a) (now b) (now ways) (now head) (now next) (now seen) (now queue) ⌝ }
-    ensures { λ r. ⌜ ShutInBasin (arcsOf (now (a .entry)) (now (b .entry)) (now (ways .entry))) n r ⌝ }
+    requires { ⌜ length (now kinds) ≡ length (now a) ⌝ }
+    ensures { λ r. ⌜ ShutInBasin (netOf n (now (kinds .entry)) (now (a .entry)) (now (b .entry)))
+        (arcsOf (now (a .entry)) (now (b .entry)) (now (ways .entry))) r ⌝ }
 {
-    if first_unreached(n, a, b, ways, head, next, 0, false, seen, queue) < n {
-        return 0;
+    let low = basins::lowest_wet(n, kinds, a, b);
+    if low == n {
+        return n;
     }
-    first_unreached(n, a, b, ways, head, next, 0, true, seen, queue)
+    shut_in_from(n, kinds, a, b, ways, head, next, low as u16, seen, queue)
 }
 
 // Gives reach i the way if the search led round it; otherwise it is usable either way. Returns what the search said.

@@ -18,7 +18,7 @@ use Rattle.replies.specs.declared.Reply.{Reply}
 use Rattle.replies.specs.declared.Answer.the-variants.{Given}
 use Rattle.seeking.specs.declared.Found.{Found}
 use Rattle.seeking.specs.declared.Found.the-variants.{Closed, Bridge, Oriented}
-use Rattle.seeking.specs.Found.{otherThan, outcomeOf, SideNoted}
+use Rattle.seeking.specs.Found.{outcomeOf, SideNoted}
 use Rattle.replies.specs.Answers.{given, Replied}
 use Rattle.replies.specs.Reports.{MarksWritten, Reported, wrote-shut, wrote-lone, wrote-plan}
 use Rattle.replies.proofs.Answers.{replied}
@@ -32,13 +32,13 @@ module _ {n : ℕ} {ks ws seen plan marks : List ℕ} {f : Found} where
   pub reported-shut : {marks′ : List ℕ} {c : ℕ} → f ≡ Closed → MarksWritten (markedSet n seen 1) marks marks′ c → Reported n ks ws seen f plan marks plan marks′ (record { verdict = ShutIn (record { reach = 0; count = c }) })
   reported-shut {marks′} {c} e m = subst⁻¹ (λ (g : Found). Reported n ks ws seen g plan marks plan marks′ (record { verdict = ShutIn (record { reach = 0; count = c }) })) e (wrote-shut m)
 
-  pub reported-lone : {marks′ : List ℕ} {r c x i d : ℕ} → f ≡ Bridge r → x ≡ otherThan (getD seen 0 0) → MarksWritten (markedSet n seen x) marks marks′ c → i ≡ r → d ≡ c
+  pub reported-lone : {marks′ : List ℕ} {r c i d : ℕ} → f ≡ Bridge r → MarksWritten (markedSet n seen 2) marks marks′ c → i ≡ r → d ≡ c
       → Reported n ks ws seen f plan marks plan marks′ (record { verdict = Lone (record { reach = i; count = d }) })
-  reported-lone {marks′} {r} {c} {i = i} {d = d} e k m p q =
+  reported-lone {marks′} {r} {c} {i = i} {d = d} e m p q =
       subst⁻¹ (λ (j : ℕ). Reported n ks ws seen f plan marks plan marks′ (record { verdict = Lone (record { reach = j; count = d }) })) p
       (subst⁻¹ (λ (j : ℕ). Reported n ks ws seen f plan marks plan marks′ (record { verdict = Lone (record { reach = r; count = j }) })) q
       (subst⁻¹ (λ (g : Found). Reported n ks ws seen g plan marks plan marks′ (record { verdict = Lone (record { reach = r; count = c }) })) e
-      (wrote-lone (subst (λ (y : ℕ). MarksWritten (markedSet n seen y) marks marks′ c) k m))))
+      (wrote-lone m)))
 
   pub reported-plan : {plan′ : List ℕ} → f ≡ Oriented → plan′ ≡ bytesRow ks ws ++ drop (gatesIn ks) plan → Reported n ks ws seen f plan marks plan′ marks (record { verdict = Plan })
   reported-plan {plan′} e m = subst⁻¹ (λ (g : Found). Reported n ks ws seen g plan marks plan′ marks (record { verdict = Plan })) e (wrote-plan m)

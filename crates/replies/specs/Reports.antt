@@ -3,7 +3,7 @@
 use Prim.Native.Nat.{ℕ, _≤_, _<_}
 use mathlib.Core.Path.{_≡_}
 use mathlib.Core.List.{List, _++_}
-use lib.ListN.{length, getD, drop}
+use lib.ListN.{length, drop}
 use Rattle.network.specs.Marks.{markBytes, marksOf, onesIn}
 use Rattle.network.specs.Replies.{plan}
 use Rattle.tables.specs.Rows.{gatesIn, bytesRow}
@@ -13,7 +13,7 @@ use Rattle.replies.specs.declared.Reply.{Reply}
 use Rattle.seeking.specs.declared.Found.{Found}
 use Rattle.seeking.specs.declared.Found.the-variants.{Closed, Bridge, Oriented}
 use Rattle.seeking.specs.Levels.{Level}
-use Rattle.seeking.specs.Found.{otherThan, reachFound}
+use Rattle.seeking.specs.Found.{reachFound}
 
 -- The marks of S stand in the first bytes, and r is their count.
 pub record MarksWritten (S marks marks′ : List ℕ) (r : ℕ) : Type 0 where
@@ -29,7 +29,6 @@ pub record Lent (n : ℕ) (ks xs ys plan marks : List ℕ) : Type 0 where
 -- What writing a finding or a plan down requires.
 pub record Reportable (n : ℕ) (ks ws seen plan marks : List ℕ) (f : Found) : Type 0 where
   pub ways-room : length ws ≡ length ks
-  pub some-basin : 0 < n
   pub seen-room : n ≤ length seen
   pub plan-room : gatesIn ks ≤ length plan
   pub marks-room : markBytes ≤ length marks
@@ -39,6 +38,6 @@ pub record Reportable (n : ℕ) (ks ws seen plan marks : List ℕ) (f : Found) :
 pub data Reported (n : ℕ) (ks ws seen : List ℕ) : Found → List ℕ → List ℕ → List ℕ → List ℕ → Reply → Type 0 where
   wrote-shut : {plan marks marks′ : List ℕ} {c : ℕ} → MarksWritten (markedSet n seen 1) marks marks′ c
       → Reported n ks ws seen Closed plan marks plan marks′ (record { verdict = ShutIn (record { reach = 0; count = c }) })
-  wrote-lone : {r : ℕ} {plan marks marks′ : List ℕ} {c : ℕ} → MarksWritten (markedSet n seen (otherThan (getD seen 0 0))) marks marks′ c
+  wrote-lone : {r : ℕ} {plan marks marks′ : List ℕ} {c : ℕ} → MarksWritten (markedSet n seen 2) marks marks′ c
       → Reported n ks ws seen (Bridge r) plan marks plan marks′ (record { verdict = Lone (record { reach = r; count = c }) })
   wrote-plan : {plan marks plan′ : List ℕ} → plan′ ≡ bytesRow ks ws ++ drop (gatesIn ks) plan → Reported n ks ws seen Oriented plan marks plan′ marks (record { verdict = Plan })

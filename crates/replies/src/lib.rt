@@ -7,7 +7,6 @@ ghost use Prim.Native.Nat.{_≤_};
 ghost use lib.ListN.{length};
 ghost use Rattle.network.specs.Marks.{markBytes};
 ghost use Rattle.marks.specs.Sets.{markedSet};
-ghost use Rattle.seeking.specs.Found.{otherThan};
 ghost use Rattle.replies.specs.Answers.{yesOr};
 ghost use Rattle.replies.specs.Reports.{MarksWritten, Reportable, Reported};
 
@@ -63,13 +62,6 @@ fn write_marks(n: usize, seen: &[u8], x: u8, marks: &mut [u8]) -> u16
     marks::count_marks(marks)
 }
 
-// The other byte of 0 and 1.
-fn other_than(x: u8) -> u8
-    ensures { λ r. ⌜ r ≡ otherThan x ⌝ }
-{
-    if x == 0 { 1 } else { 0 }
-}
-
 // Writes down what was found, and replies.
 pub fn report(
     found: Found,
@@ -92,7 +84,7 @@ pub fn report(
             }
         }
         Found::Bridge(r) => {
-            let count = write_marks(n, seen, other_than(seen[0]), marks);
+            let count = write_marks(n, seen, 2, marks);
             let reach = r as u16;
             Reply {
                 verdict: Verdict::Lone(Finding { reach, count }),

@@ -1,38 +1,41 @@
 -- The first plan and the findings, from what the searches found.
 -- Assumes nothing.
-use Prim.Native.Nat.{ℕ, zero, suc, _*_, _≤_, _<_}
+use Prim.Native.Nat.{ℕ, zero, suc, _≤_, _<_}
 use native.Mathlib.Omega.{arith}
 use native.Mathlib.Decide.{decLt}
-use mathlib.Core.Path.{_≡_, refl, sym, ap, subst, subst⁻¹, _∙_}
-use mathlib.Core.Bool.{Bool, true, false, not}
+use mathlib.Core.Path.{_≡_, refl, sym, ap, subst, _∙_}
+use mathlib.Core.Bool.{Bool, true, false, not, cond, _&&_}
 use mathlib.Core.Option.{Option, none, some, Option·getD}
-use mathlib.Core.List.{List, []}
+use mathlib.Core.List.{List, [], List·Memᴰ}
 use lib.ListN.{length, getD}
 use lib.Dec.{eqb}
 use borrow.Author.Tests.{eq-eqb, ne-eqb}
-use mathlib.Mathlib.Data.Bool.Basic.{bool-eq-false}
+use mathlib.Mathlib.Data.Bool.Basic.{and-intro, bool-eq-false}
 use Rattle.lists.specs.Lists.{range, find, keep, elem}
-use Rattle.network.specs.Networks.{Network, basinsOf, lowestBasin, Accepted}
+use Rattle.network.specs.Networks.{Network, isWet, basinsOf, lowestBasin, Accepted}
 use Rattle.network.specs.Orientations.{Arc, ways, arcs, arcsUnder, reached, unoriented}
 use Rattle.network.specs.Plans.{reachesAll, stronglyConnected, stronglyConnectedUnder, isPlan, passable}
-use Rattle.network.specs.Bridges.{crossesAlone, isBridge, lowestBridge}
-use Rattle.network.specs.Marks.{bit, markBytes, marksOf}
+use Rattle.network.specs.Bridges.{reachAt, crossesAlone, isBridge, lowestBridge}
+use Rattle.network.specs.Marks.{bit, marksOf}
 use Rattle.network.specs.Settings.{gateCount}
 use Rattle.network.specs.Replies.{shutInBasin, shutInSide, bridgeSide, answer, firstAnswer}
-use Rattle.lists.proofs.Bools.{clash}
+use Rattle.lists.proofs.Bools.{clash, same-test}
 use Rattle.lists.proofs.Searches.{every-at, every-make, find-is, find-lowest, keep-in, keep-same, elem-in, elem-keep}
-use Rattle.lists.proofs.Ranges.{range-has, range-in}
+use Rattle.lists.proofs.Ranges.{range-in}
 use Rattle.network.proofs.Marks.{marks-same, bit-is}
-use Rattle.network.proofs.Networks.{basin-in, basin-below, lowest-is-0}
-use Rattle.network.proofs.Bridges.{Alone, LoneSide, alone-facts, alone-rest, alone-same, side-basins, cut-unique, bridge-below, bridge-blocks, bridge-side}
+use Rattle.network.proofs.Walks.{reached-walk}
+use Rattle.network.proofs.Ways.{gated-in-service, shut-out}
+use Rattle.network.proofs.Networks.{basin-in, basin-below, basin-wet, basins-kept, basins-found, end-a-in, lowest-in, lowest-least, walk-in-basins}
+use Rattle.network.proofs.Bridges.{Alone, LoneSide, alone-facts, alone-rest, alone-same, side-basins, cut-unique, bridge-below, bridge-gated, bridge-blocks, bridge-side}
 use Rattle.tables.proofs.Laws.{ways-unoriented}
 use Rattle.marks.specs.Sets.{markedSet}
+use Rattle.basins.specs.Wet.{anyBasin, Lowest, otherByte, FarSideNoted}
 use Rattle.orienting.specs.Ready.{ShutInBasin}
 use Rattle.completing.specs.Greedy.{Greedy, all-oriented, bridge-at}
 use Rattle.orientations.proofs.Least.{least-first}
 use Rattle.seeking.specs.declared.Found.{Found}
 use Rattle.seeking.specs.declared.Found.the-variants.{Closed, Bridge, Oriented}
-use Rattle.seeking.specs.Found.{outcomeOf, otherThan, SideNoted, FirstFound, found-closed, found-bridge, found-plan}
+use Rattle.seeking.specs.Found.{outcomeOf, SideNoted, FirstFound, found-closed, found-bridge, found-plan}
 use Rattle.seeking.specs.Levels.{Level}
 use Rattle.seeking.proofs.Levels.{level-under, passable-open}
 use Rattle.half_edges.specs.Ends.{arcsOf}
@@ -40,22 +43,32 @@ use Rattle.tables.specs.Rows.{netOf, waysRow}
 
 -- ---- shut in
 
--- all basins reach all exactly if the lowest that does not is past the last
-pub strong-basin : (n : ℕ) (A : List Arc) (r : ℕ) → ShutInBasin A n r → stronglyConnected (range 0 n) A ≡ eqb r n
-strong-basin n A r w = go (decLt r n)
+-- all wet basins reach all exactly if the lowest that does not is past the last
+pub strong-basin : (N : Network) (A : List Arc) (r : ℕ) → ShutInBasin N A r → stronglyConnected (basinsOf N) A ≡ eqb r (N .basins)
+strong-basin N A r w = go (decLt r (N .basins))
   where
-    go : Dec (r < n) → stronglyConnected (range 0 n) A ≡ eqb r n
+    go : Dec (r < N .basins) → stronglyConnected (basinsOf N) A ≡ eqb r (N .basins)
     go (yes l) =
-        bool-eq-false {b = stronglyConnected (range 0 n) A} (λ e. clash (every-at (reachesAll (range 0 n) A) e (range-has 0 n (omega arith) (omega arith))) (w .at l))
-        ∙ sym (ne-eqb r n (omega arith))
+        bool-eq-false {b = stronglyConnected (basinsOf N) A} (λ e. clash (every-at (reachesAll (basinsOf N) A) e (w .at l .0)) (w .at l .1))
+        ∙ sym (ne-eqb r (N .basins) (omega arith))
     go (no k) =
-        every-make (reachesAll (range 0 n) A) (range 0 n) (λ u m. w .lower u (omega (arith, w .bound, (range-in 0 n m) .1)))
-        ∙ sym (eq-eqb r n (omega (arith, w .bound)))
+        every-make (reachesAll (basinsOf N) A) (basinsOf N) (λ u m. w .lower u m (omega (arith, w .bound, basin-below N u m)))
+        ∙ sym (eq-eqb r (N .basins) (omega (arith, w .bound)))
 
 -- the two searches of the check
-pub under-basin : {n r : ℕ} {ks xs ys ws : List ℕ} → Level n ks xs ys → (s : List ℕ) → ws ≡ waysRow ks s → ShutInBasin (arcsOf xs ys ws) n r → eqb r n ≡ stronglyConnectedUnder (netOf n ks xs ys) s
+pub under-basin : {n r : ℕ} {ks xs ys ws : List ℕ} → Level n ks xs ys → (s : List ℕ) → ws ≡ waysRow ks s → ShutInBasin (netOf n ks xs ys) (arcsOf xs ys ws) r → eqb r n ≡ stronglyConnectedUnder (netOf n ks xs ys) s
 under-basin {n} {r} {ks} {xs} {ys} v s e w =
-    sym (level-under v s ∙ strong-basin n (arcsOf xs ys (waysRow ks s)) r (subst (λ (u : List ℕ). ShutInBasin (arcsOf xs ys u) n r) e w))
+    sym (level-under v s ∙ strong-basin (netOf n ks xs ys) (arcsOf xs ys (waysRow ks s)) r (subst (λ (u : List ℕ). ShutInBasin (netOf n ks xs ys) (arcsOf xs ys u) r) e w))
+
+-- two tests at once
+and-fails : (p q : Bool) → (p ≡ true → q ≡ false) → p && q ≡ false
+and-fails true q f = f refl
+and-fails false q f = refl
+
+and-second : (p q : Bool) → (q ≡ true → p ≡ true) → p && q ≡ q
+and-second p true f = rw (f refl)
+and-second true false f = refl
+and-second false false f = refl
 
 module _ (N : Network) where
   abbrev opened : List Arc
@@ -64,9 +77,9 @@ module _ (N : Network) where
   opened-is : arcsUnder N (unoriented N) ≡ opened
   opened-is = ap (arcs (N .reaches)) (ways-unoriented (N .reaches) (gateCount N))
 
-  pub closed-first : (r : ℕ) (ws seen : List ℕ) → ShutInBasin opened (N .basins) r → r < N .basins → ((v : ℕ) → v < N .basins → getD seen v 0 ≡ bit (reached opened r v)) → FirstFound N ws seen Closed
+  pub closed-first : Accepted N → (r : ℕ) (ws seen : List ℕ) → ShutInBasin N opened r → r < N .basins → ((v : ℕ) → v < N .basins → getD seen v 0 ≡ bit (reached opened r v)) → FirstFound N ws seen Closed
   unfolding shutInSide shutInBasin
-  closed-first r ws seen w l noted = found-closed (passable-open N ∙ strong-basin (N .basins) opened r w ∙ ne-eqb r (N .basins) (omega arith)) (ap marksOf (sym side))
+  closed-first ok r ws seen w l noted = found-closed (passable-open N ∙ strong-basin N opened r w ∙ ne-eqb r (N .basins) (omega arith)) (ap marksOf (sym side))
     where
       test : List Arc → ℕ → Bool
       test A u = not (reachesAll (basinsOf N) A u)
@@ -74,58 +87,101 @@ module _ (N : Network) where
       at : shutInBasin N ≡ some r
       at =
           ap (λ (A : List Arc). find (test A) (basinsOf N)) opened-is
-          ∙ find-lowest (test opened) 0 (N .basins) r (omega arith) (omega arith) (ap not (w .at l)) (λ j a b. ap not (w .lower j b))
+          ∙ basins-found N (test opened)
+          ∙ find-lowest (λ b. isWet N b && test opened b) 0 (N .basins) r (omega arith) (omega arith) (and-intro (basin-wet N r (w .at l .0)) (ap not (w .at l .1)))
+          (λ j a b. and-fails (isWet N j) (test opened j) (λ wet. ap not (w .lower j (basin-in N j (omega arith) wet) b)))
+
+      -- what is reached from a wet basin is wet
+      wet : (b : ℕ) → reached opened r b ≡ true → isWet N b ≡ true
+      wet b e = basin-wet N b (walk-in-basins N ok (ways (N .reaches) []) (shut-out (N .reaches) []) (reached-walk opened r b e) (w .at l .0))
 
       side : shutInSide N ≡ markedSet (N .basins) seen 1
       side =
           ap (λ (o : Option ℕ). keep (reached (arcsUnder N (unoriented N)) (Option·getD o 0)) (basinsOf N)) at
           ∙ ap (λ (A : List Arc). keep (reached A r) (basinsOf N)) opened-is
-          ∙ keep-same (reached opened r) (λ b. eqb (getD seen b 0) 1) (basinsOf N) (λ b m. sym (ap (λ (x : ℕ). eqb x 1) (noted b (basin-below N b m)) ∙ bit-is (reached opened r b)))
+          ∙ basins-kept N (reached opened r)
+          ∙ keep-same (λ b. isWet N b && reached opened r b) (λ b. eqb (getD seen b 0) 1) (range 0 (N .basins))
+          (λ b m.
+          and-second (isWet N b) (reached opened r b) (wet b)
+          ∙ sym (ap (λ (x : ℕ). eqb x 1) (noted b (omega (arith, (range-in 0 (N .basins) m) .1))) ∙ bit-is (reached opened r b)))
 
   -- ---- a bridge
 
   module _ (ok : Accepted N) where
-    -- the side of a bridge is the one without basin 0 of the two that it alone crosses
+    -- the side of a bridge is the one without the lowest wet basin of the two that it alone crosses
     bridge-marks : passable N ≡ true → (r : ℕ) → isBridge N r ≡ true → (P : ℕ → Bool) → Alone N P r → P (lowestBasin N) ≡ false → marksOf (keep P (basinsOf N)) ≡ marksOf (bridgeSide N r)
     unfolding passable
-    bridge-marks pass r e P alone out = marks-same (keep P (basinsOf N)) (bridgeSide N r) same
+    bridge-marks pass r e P alone out = marks-same (keep P (basinsOf N)) (bridgeSide N r) (λ b l. same b)
       where
-        same : (b : ℕ) → b < 8 * markBytes → elem b (keep P (basinsOf N)) ≡ elem b (bridgeSide N r)
-        same b l = go (decLt b (N .basins))
-          where
-            side : LoneSide N r (bridgeSide N r)
-            side = bridge-side N ok r e
+        side : LoneSide N r (bridgeSide N r)
+        side = bridge-side N ok r e
 
-            go : Dec (b < N .basins) → elem b (keep P (basinsOf N)) ≡ elem b (bridgeSide N r)
-            go (yes k) =
-                elem-keep P (basin-in N b k)
-                ∙ cut-unique N ok (unoriented N) pass r P (λ x. elem x (bridgeSide N r)) alone (alone-facts N (bridgeSide N r) r (bridge-below N r e) (side .cut .alone)) (out ∙ sym (side .without)) b (basin-in N b k)
-            go (no k) =
-                bool-eq-false {b = elem b (keep P (basinsOf N))} (λ y. k (basin-below N b ((keep-in P (basinsOf N) (elem-in b (keep P (basinsOf N)) y)) .0)))
-                ∙ sym (bool-eq-false {b = elem b (bridgeSide N r)} (λ y. k (basin-below N b (side-basins (basinsOf N) (bridgeSide N r) (side .cut .side) b (elem-in b (bridgeSide N r) y)))))
+        alike : (b : ℕ) → List·Memᴰ b (basinsOf N) → P b ≡ elem b (bridgeSide N r)
+        alike = cut-unique N (unoriented N) pass r P (λ x. elem x (bridgeSide N r)) alone (alone-facts N (bridgeSide N r) r (bridge-below N r e) (side .cut .alone)) (out ∙ sym (side .without))
+
+        same : (b : ℕ) → elem b (keep P (basinsOf N)) ≡ elem b (bridgeSide N r)
+        same b =
+            same-test (elem b (keep P (basinsOf N))) (elem b (bridgeSide N r))
+            (λ y. let k = keep-in P (basinsOf N) (elem-in b (keep P (basinsOf N)) y) in sym (alike b (k .0)) ∙ k .1)
+            (λ y. let m = side-basins (basinsOf N) (bridgeSide N r) (side .cut .side) b (elem-in b (bridgeSide N r) y) in elem-keep P m ∙ alike b m ∙ y)
 
     -- bytes 0 and 1: the one or the other
-    eqb-other : (x : ℕ) → x ≤ 1 → eqb x 0 ≡ not (eqb x 1)
+    eqb-other : (x : ℕ) → x ≤ 1 → not (eqb x 0) ≡ eqb x 1
     eqb-other zero l = refl
     eqb-other (suc zero) l = refl
     eqb-other (suc (suc x)) l = absurd (omega arith)
 
-    byte-0 : (x : ℕ) → eqb x (otherThan x) ≡ false
-    byte-0 zero = refl
-    byte-0 (suc x) = ne-eqb (suc x) 0 (omega arith)
+    -- a byte is noted exactly if it was another
+    noted-byte : (x : ℕ) (wet : Bool) (y : ℕ) → y ≤ 1 → eqb (otherByte x wet y) 2 ≡ wet && not (eqb y x)
+    noted-byte x wet y l = go (wet && not (eqb y x))
+      where
+        go : (c : Bool) → eqb (cond c 2 y) 2 ≡ c
+        go true = refl
+        go false = ne-eqb y 2 (omega arith)
 
-    other-alone : (r : ℕ) (seen : List ℕ) → r < length (N .reaches) → ((v : ℕ) → v < N .basins → getD seen v 0 ≤ 1) → (x : ℕ) → Alone N (λ b. eqb (getD seen b 0) 1) r → Alone N (λ b. eqb (getD seen b 0) (otherThan x)) r
-    other-alone r seen l small zero f = f
-    other-alone r seen l small (suc x) f =
-        alone-same N ok (λ b. not (eqb (getD seen b 0) 1)) (λ b. eqb (getD seen b 0) 0) r l (λ b m. eqb-other (getD seen b 0) (small b (basin-below N b m))) (alone-rest N (λ b. eqb (getD seen b 0) 1) r f)
+    module _ (r : ℕ) (seen : List ℕ) (below : r < length (N .reaches)) (small : (v : ℕ) → v < N .basins → getD seen v 0 ≤ 1) where
+      other-alone : (x : ℕ) → x ≤ 1 → Alone N (λ b. eqb (getD seen b 0) 1) r → Alone N (λ b. not (eqb (getD seen b 0) x)) r
+      other-alone zero l f = alone-same N ok (λ b. eqb (getD seen b 0) 1) (λ b. not (eqb (getD seen b 0) 0)) r below (λ b m. eqb-other (getD seen b 0) (small b (basin-below N b m))) f
+      other-alone (suc zero) l f = alone-rest N (λ b. eqb (getD seen b 0) 1) r f
+      other-alone (suc (suc x)) l f = absurd (omega arith)
 
-    bridge-noted : passable N ≡ true → (r : ℕ) (seen : List ℕ) → isBridge N r ≡ true → crossesAlone N (keep (λ b. eqb (getD seen b 0) 1) (basinsOf N)) r ≡ true → ((v : ℕ) → v < N .basins → getD seen v 0 ≤ 1) → SideNoted N seen (Bridge r)
-    bridge-noted pass r seen e cross small =
-        bridge-marks pass r e (λ b. eqb (getD seen b 0) (otherThan (getD seen 0 0)))
-        (other-alone r seen (bridge-below N r e) small (getD seen 0 0)
-        (alone-same N ok (λ b. elem b (keep (λ b. eqb (getD seen b 0) 1) (basinsOf N))) (λ b. eqb (getD seen b 0) 1) r (bridge-below N r e) (λ b m. sym (elem-keep (λ b. eqb (getD seen b 0) 1) m))
-        (alone-facts N (keep (λ b. eqb (getD seen b 0) 1) (basinsOf N)) r (bridge-below N r e) cross)))
-        (subst⁻¹ (λ (z : ℕ). eqb (getD seen z 0) (otherThan (getD seen 0 0)) ≡ false) (lowest-is-0 N) (byte-0 (getD seen 0 0)))
+      bridge-noted : passable N ≡ true → {seen′ : List ℕ} → isBridge N r ≡ true → crossesAlone N (keep (λ b. eqb (getD seen b 0) 1) (basinsOf N)) r ≡ true → FarSideNoted N seen seen′ → SideNoted N seen′ (Bridge r)
+      bridge-noted pass {seen′} e cross noted = ap marksOf (sym side) ∙ bridge-marks pass r e P (other-alone x (small low (basin-below N low low-in)) alone) out
+        where
+          -- the lowest wet basin: the bridge has wet ends
+          low : ℕ
+          low = lowestBasin N
+
+          low-in : List·Memᴰ low (basinsOf N)
+          low-in = lowest-in N (end-a-in N ok r below (gated-in-service ((reachAt N r) .state) (bridge-gated N r e)))
+
+          lowest : Lowest N anyBasin low
+          lowest =
+              record {
+                bound = omega (arith, basin-below N low low-in);
+                lower = λ v l wet. absurd (omega (arith, lowest-least N v (basin-in N v (omega (arith, basin-below N low low-in)) wet)));
+                at = λ l. (basin-wet N low low-in, refl);
+              }
+
+          x : ℕ
+          x = getD seen low 0
+
+          P : ℕ → Bool
+          P b = not (eqb (getD seen b 0) x)
+
+          alone : Alone N (λ b. eqb (getD seen b 0) 1) r
+          alone =
+              alone-same N ok (λ b. elem b (keep (λ b. eqb (getD seen b 0) 1) (basinsOf N))) (λ b. eqb (getD seen b 0) 1) r below (λ b m. sym (elem-keep (λ b. eqb (getD seen b 0) 1) m))
+              (alone-facts N (keep (λ b. eqb (getD seen b 0) 1) (basinsOf N)) r below cross)
+
+          out : P low ≡ false
+          out = ap not (eq-eqb x x refl)
+
+          side : keep P (basinsOf N) ≡ markedSet (N .basins) seen′ 2
+          side =
+              basins-kept N P
+              ∙ keep-same (λ b. isWet N b && P b) (λ b. eqb (getD seen′ b 0) 2) (range 0 (N .basins))
+              (λ b m. sym (ap (λ (y : ℕ). eqb y 2) (noted .without low lowest .bytes b) ∙ noted-byte x (isWet N b) (getD seen b 0) (small b (omega (arith, (range-in 0 (N .basins) m) .1)))))
 
     -- ---- the three ends of the search
 
@@ -137,12 +193,12 @@ module _ (N : Network) where
     unfolding lowestBridge
     lowest-at r e l f = find-lowest (isBridge N) 0 (length (N .reaches)) r (omega arith) (omega arith) e f
 
-    pub passed-basin : (r : ℕ) → ShutInBasin opened (N .basins) r → (r < N .basins → ⊥) → passable N ≡ true
-    passed-basin r w n = passable-open N ∙ strong-basin (N .basins) opened r w ∙ eq-eqb r (N .basins) (omega (arith, w .bound))
+    pub passed-basin : (r : ℕ) → ShutInBasin N opened r → (r < N .basins → ⊥) → passable N ≡ true
+    passed-basin r w n = passable-open N ∙ strong-basin N opened r w ∙ eq-eqb r (N .basins) (omega (arith, w .bound))
 
-    pub bridge-first : {ws₁ ws seen : List ℕ} {r : ℕ} → passable N ≡ true → r < length (N .reaches) → Greedy N (ways (N .reaches) []) 0 ws₁ seen r → FirstFound N ws seen (Bridge r)
-    bridge-first pass l (all-oriented e m) = absurd (omega arith)
-    bridge-first {seen} {r} pass l (bridge-at k e clear cross small) = found-bridge pass (lowest-at r e k clear) k (bridge-noted pass r seen e cross small)
+    pub bridge-first : {ws₁ ws seen seen′ : List ℕ} {r : ℕ} → passable N ≡ true → r < length (N .reaches) → Greedy N (ways (N .reaches) []) 0 ws₁ seen r → FarSideNoted N seen seen′ → FirstFound N ws seen′ (Bridge r)
+    bridge-first pass l (all-oriented e m) noted = absurd (omega arith)
+    bridge-first {seen} {r} pass l (bridge-at k e clear cross small) noted = found-bridge pass (lowest-at r e k clear) k (bridge-noted r seen k small pass e cross noted)
 
     pub plan-first : {ws seen : List ℕ} {r : ℕ} → passable N ≡ true → (r < length (N .reaches) → ⊥) → Greedy N (ways (N .reaches) []) 0 ws seen r → FirstFound N ws seen Oriented
     plan-first pass n (all-oriented e m) = found-plan pass (no-bridge _ (m .is-plan)) m

@@ -11,7 +11,9 @@ use Rattle.half_edges.specs.Ends.{arcsOf}
 use Rattle.tables.specs.Rows.{netOf}
 use Rattle.orientations.specs.Partials.{Begun}
 use Rattle.orientations.proofs.Parts.{open-none}
-use Rattle.orienting.specs.Ready.{ShutInBasin, FirstUnreached}
+use Rattle.search.specs.Searches.{Noted}
+use Rattle.basins.specs.Wet.{FarSideNoted}
+use Rattle.orienting.specs.Ready.{ShutInBasin}
 use Rattle.orienting.proofs.Rows.{row-arcs}
 use Rattle.completing.specs.Greedy.{Completable, Greedy}
 use Rattle.seeking.specs.declared.Found.the-variants.{Closed, Bridge, Oriented}
@@ -30,14 +32,14 @@ module _ (n : ℕ) (ks xs ys : List ℕ) where
         let v = o .level in
         sym (row-arcs n ks xs ys (v .ends-a) (v .ends-b) ws) ∙ ap (arcs (N .reaches)) (under-row v [] (o .unoriented))
 
-    basin-net : {u : ℕ} → ShutInBasin (arcsOf xs ys ws) n u → ShutInBasin (arcs (N .reaches) (ways (N .reaches) [])) n u
-    basin-net {u} w = subst (λ (A : List Arc). ShutInBasin A n u) open-arcs w
+    basin-net : {u : ℕ} → ShutInBasin N (arcsOf xs ys ws) u → ShutInBasin N (arcs (N .reaches) (ways (N .reaches) [])) u
+    basin-net {u} w = subst (λ (A : List Arc). ShutInBasin N A u) open-arcs w
 
-    pub row-passable : {u : ℕ} → ShutInBasin (arcsOf xs ys ws) n u → (u < n → ⊥) → Passable n ks xs ys ws
+    pub row-passable : {u : ℕ} → ShutInBasin N (arcsOf xs ys ws) u → (u < n → ⊥) → Passable n ks xs ys ws
     row-passable {u} w not-below = record { level = o .level; unoriented = o .unoriented; passable-net = passed-basin N (o .level .accepted) u (basin-net w) not-below }
 
-    pub row-closed : {u r : ℕ} {seen : List ℕ} (ws′ : List ℕ) → ShutInBasin (arcsOf xs ys ws) n u → u < n → FirstUnreached (arcsOf xs ys ws) n u seen r → FirstFound N ws′ seen Closed
-    row-closed {u} {r} {seen} ws′ w l m = closed-first N u ws′ seen (basin-net w) l ((subst (λ (A : List Arc). FirstUnreached A n u seen r) open-arcs m) .noted)
+    pub row-closed : {u : ℕ} {seen : List ℕ} (ws′ : List ℕ) → ShutInBasin N (arcsOf xs ys ws) u → u < n → Noted (arcsOf xs ys ws) n u seen → FirstFound N ws′ seen Closed
+    row-closed {u} {seen} ws′ w l m = closed-first N (o .level .accepted) u ws′ seen (basin-net w) l (subst (λ (A : List Arc). Noted A n u seen) open-arcs m)
 
   module _ {ws : List ℕ} (p : Passable n ks xs ys ws) where
     opened : ws ≡ ways (N .reaches) []
@@ -56,8 +58,8 @@ module _ (n : ℕ) (ks xs ys : List ℕ) where
       greedy-net : Greedy N (ways (N .reaches) []) 0 ws′ seen r
       greedy-net = subst (λ (v : List ℕ). Greedy N v 0 ws′ seen r) opened g
 
-      pub row-bridge : r < length xs → FirstFound N ws′ seen (Bridge r)
-      row-bridge l = bridge-first N (p .level .accepted) (p .passable-net) (omega (arith, level-length (p .level))) greedy-net
+      pub row-bridge : {seen′ : List ℕ} → r < length xs → FarSideNoted N seen seen′ → FirstFound N ws′ seen′ (Bridge r)
+      row-bridge l noted = bridge-first N (p .level .accepted) (p .passable-net) (omega (arith, level-length (p .level))) greedy-net noted
 
       pub row-plan : (r < length xs → ⊥) → FirstFound N ws′ seen Oriented
       row-plan not-below = plan-first N (p .level .accepted) (p .passable-net) (λ l. not-below (omega (arith, level-length (p .level)))) greedy-net

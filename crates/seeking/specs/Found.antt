@@ -1,11 +1,11 @@
 -- What the searches for the first plan and for the next find.
 -- Assumes nothing.
-use Prim.Native.Nat.{ℕ, zero, suc, _<_}
+use Prim.Native.Nat.{ℕ, _<_}
 use mathlib.Core.Path.{_≡_}
 use mathlib.Core.Bool.{true, false}
 use mathlib.Core.Option.{none, some}
 use mathlib.Core.List.{List, []}
-use lib.ListN.{length, getD}
+use lib.ListN.{length}
 use Rattle.network.specs.Networks.{Network}
 use Rattle.network.specs.Orientations.{ways}
 use Rattle.network.specs.Plans.{passable}
@@ -27,11 +27,6 @@ outcomeOf N ws Closed = shutInFinding N
 outcomeOf N ws (Bridge r) = loneFinding N r
 outcomeOf N ws Oriented = plan (bytesOf (N .reaches) ws)
 
--- The other byte than that of basin 0.
-abbrev pub otherThan : ℕ → ℕ
-otherThan zero = 1
-otherThan (suc x) = 0
-
 -- The reach of a finding.
 abbrev pub reachFound : Found → ℕ
 reachFound Closed = 0
@@ -39,10 +34,10 @@ reachFound (Bridge r) = r
 reachFound Oriented = 0
 
 -- What was noted for each basin is the side of the finding: of a closed set the basins with the byte 1, at a bridge (document 01: a lone reach)
--- those with the other byte than basin 0.
+-- those with the byte 2.
 abbrev pub SideNoted : Network → List ℕ → Found → Type 0
 SideNoted N seen Closed = marksOf (markedSet (N .basins) seen 1) ≡ marksOf (shutInSide N)
-SideNoted N seen (Bridge r) = marksOf (markedSet (N .basins) seen (otherThan (getD seen 0 0))) ≡ marksOf (bridgeSide N r)
+SideNoted N seen (Bridge r) = marksOf (markedSet (N .basins) seen 2) ≡ marksOf (bridgeSide N r)
 SideNoted N seen Oriented = Unit {0}
 
 -- What the search for the first plan finds: the closed set of a network that is shut in, or the lowest bridge, or the ways of the first plan.

@@ -24,7 +24,7 @@ pub enum Sought {
     CameTo(Found),
 }
 
-// Orients all gates of a passable network, none of which is oriented yet.
+// Orients all gates of a passable network, none of which is oriented yet. At a bridge what it notes is its side without the lowest wet basin.
 fn orient_all(
     n: usize,
     kinds: &[u8],
@@ -42,6 +42,7 @@ fn orient_all(
 {
     let r = completing::greedy(n, kinds, a, b, ways, head, next, 0, seen, queue);
     if r < a.len() {
+        basins::note_side(n, kinds, a, b, seen);
         Found::Bridge(r)
     } else {
         Found::Oriented
@@ -64,9 +65,9 @@ pub fn first_from(
     requires { ⌜ NoneOriented n (now kinds) (now a) (now b) (now ways) ⌝ }
     ensures { λ r. ⌜ FirstFound (netOf n (now (kinds .entry)) (now (a .entry)) (now (b .entry))) (now (ways .exit)) (now (seen .exit)) r ⌝ }
 {
-    let u = orienting::shut_in_basin(n, a, b, ways, head, next, seen, queue);
+    let u = orienting::shut_in_basin(n, kinds, a, b, ways, head, next, seen, queue);
     if u < n {
-        orienting::first_unreached(n, a, b, ways, head, next, u as u16, false, seen, queue);
+        search::search(n, a, b, ways, head, next, u as u16, false, seen, queue);
         return Found::Closed;
     }
     orient_all(n, kinds, a, b, ways, head, next, seen, queue)

@@ -57,7 +57,7 @@ module _ {n : ℕ} {ks xs ys s ws : List ℕ} (p : AtPlan n ks xs ys s ws) where
         go : Dec (getD (ways (N .reaches) q) i 3 ≡ 1 - way) → getD (ways (N .reaches) q) i 3 ≡ getD ws i 3
         go (yes other) =
             clash (fits-strong N q (set open-ways i (1 - way)) y (fits-set N q open-ways i (1 - way) (omega (arith, length-ways (N .reaches) [])) (fits-unoriented N q) other))
-            (row-way n ks xs ys (p .level .ends-a) (p .level .ends-b) (p .level .accepted) open-ways i in-row (length-ways (N .reaches) []) either (1 - way) (omega arith) ∙ lost)
+            (row-way n ks xs ys (p .level .ends-a) (p .level .ends-b) (p .level .accepted) open-ways i in-row g (length-ways (N .reaches) []) either (1 - way) (omega arith) ∙ lost)
         go (no differ) = omega (arith, plan-gate-small N q i y l g, plan-gate-small N s i (p .is-plan) l g, at-plan, e)
 
   -- so it need not be tried

@@ -1,6 +1,6 @@
 -- `finder::strongly_connected_under` meets its contract: two searches.
 -- Assumes nothing.
-use mathlib.Core.Path.{refl}
+use mathlib.Core.Path.{refl, sym}
 use borrow.Author.Needs.{needs}
 use Rattle.seeking.proofs.Firsts.{under-basin}
 use Rattle.finder.proofs.Rooms.{room-level, room-index, room-ready}
@@ -14,7 +14,7 @@ shut-in-basin-requires : tie.Need-shut-in-basin-requires
 shut-in-basin-requires c κs =
     let s = c .before .before .before .before .before .before .before .before .before .before .before .before .before .before .before .before .before .before in
     let p = c .before .before .before .before .before .before .before .before .before .prepare in
-    room-ready (s .pre) (p .kept .1 .1 .1 .1 .1 .0) (p .ensures .index) refl refl
+    (room-ready (s .pre) (p .kept .1 .1 .1 .1 .1 .0) (p .ensures .index) refl refl, sym (s .pre .ends-a))
 
 same-length : tie.Need-same-length
 same-length c = search needs

@@ -1,25 +1,30 @@
--- `orienting::first_unreached` meets its contract: a search with no goal, and its lowest 0.
+-- `orienting::first_unreached` meets its contract: a search with no goal, and the lowest wet basin that it left.
 -- Assumes nothing.
-use borrow.Author.Needs.{needs}
+use native.Mathlib.Omega.{arith}
+use Rattle.half_edges.specs.Ends.{arcsOf, sided}
+use Rattle.tables.specs.Rows.{netOf}
 use Rattle.orienting.proofs.Readies.{searchable, unreached-first}
 use Rattle.orienting.proofs.first_unreached.Statement.{statement}
 use Rattle.orienting.proofs.first_unreached.Tie as tie
-use Rattle.orienting.proofs.first_unreached.Lts as lts
 
 search-requires : tie.Need-search-requires
-search-requires c κs = let start = c .before .before .before .before .before .before .before .before .before in searchable _ (start .pre .0) (start .pre .1)
+search-requires c κs = let s = c .before .before .before .before .before .before .before .before .before .before in searchable _ (s .pre .0) (s .pre .1 .1)
 
-first-unseen-requires : tie.Need-first-unseen-requires
-first-unseen-requires c κs = search needs
+lowest-unseen-requires : tie.Need-lowest-unseen-requires
+lowest-unseen-requires c κs =
+    let s = c .before .before .before .before .before .before .before .before .before .before .before .before .before .before .before .before in
+    (s .pre .0 .table, (s .pre .1 .0, omega (arith, s .pre .0 .seen-room, c .before .before .before .before .before .search .kept .1 .1 .1 .1 .1 .1 .1 .1 .0)))
 
 same-length : tie.Need-same-length
-same-length c = search needs
+same-length c = c .before .before .before .before .before .before .search .kept .1 .1 .1 .1 .1 .1 .1 .1 .0
 
 same-length-2 : tie.Need-same-length-2
-same-length-2 c = search needs
+same-length-2 c = c .before .before .before .before .before .before .search .kept .1 .1 .1 .1 .1 .1 .1 .1 .1 .0
 
 returns : tie.Need-returns
-returns c = unreached-first (c .before .before .before .before .before .before .search .ensures) (c .first-unseen .ensures)
+returns c =
+    let s = c .before .before .before .before .before .before .before .before .before .before .before .before .before .before .before .before .before .args in
+    unreached-first (netOf (s .n) (s .kinds .now) (s .a .now) (s .b .now)) (arcsOf (s .a .now) (s .b .now) (sided (s .against) (s .ways .now))) (c .before .before .before .before .before .before .search .last .1 .1 .1 .1 .1 .1 .1 .1 .0) (c .before .before .before .before .before .before .search .ensures) (c .lowest-unseen .ensures)
 
 pub first-unreached-spec : {M : Type 1} → statement M
-first-unreached-spec = tie.close (tie.spec search-requires first-unseen-requires same-length same-length-2 returns)
+first-unreached-spec = tie.close (tie.spec search-requires lowest-unseen-requires same-length same-length-2 returns)

@@ -24,17 +24,11 @@ write-marks-requires c κs = search needs
 enum-known-found : tie.Need-enum-known-found
 enum-known-found c = search needs
 
-shared-slice-read-other-than : tie.Need-shared-slice-read-other-than
-shared-slice-read-other-than c = search needs
-
-other-than-requires : tie.Need-other-than-requires
-other-than-requires c κs = search needs
-
 write-marks-requires-2 : tie.Need-write-marks-requires-2
 write-marks-requires-2 c κs = search needs
 
 cast-reach : tie.Need-cast-reach
-cast-reach c = record { fits = omega (arith, reach-below ((c .before .before .before .before .before .before .before) .found .given .1) ((c .before .before .before .before .before .before .before .before .before .before .before .before .before .before) .pre .reach-fits)) }
+cast-reach c = record { fits = omega (arith, reach-below ((c .before .before .before .before .before) .found .given .1) ((c .before .before .before .before .before .before .before .before .before .before .before .before) .pre .reach-fits)) }
 
 enum-told-2 : tie.Need-enum-told-2
 enum-told-2 c = search needs
@@ -52,7 +46,7 @@ same-length-2 : tie.Need-same-length-2
 same-length-2 c = search needs
 
 returns-2 : tie.Need-returns-2
-returns-2 c = reported-lone ((c .before .before .before .before .before .before .before) .found .given .1) ((c .before .before .before .before) .other-than .ensures) ((c .before .before) .write-marks2 .ensures) (omega arith) (omega arith)
+returns-2 c = reported-lone ((c .before .before .before .before .before) .found .given .1) ((c .before .before) .write-marks2 .ensures) (omega arith) (omega arith)
 
 same-length-3 : tie.Need-same-length-3
 same-length-3 c = search needs
@@ -67,8 +61,6 @@ report-spec =
     enum-told
     write-marks-requires
     enum-known-found
-    shared-slice-read-other-than
-    other-than-requires
     write-marks-requires-2
     cast-reach
     enum-told-2
