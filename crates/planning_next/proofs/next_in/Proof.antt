@@ -45,7 +45,6 @@ report-requires c κs = let s = (c .before .before .before .before .before .befo
     let facts = accepted (netOf (s .args .n) (s .args .kinds .now) (s .args .a .now) (s .args .b .now)) (l .accepted) in
     record {
       ways-room = f .kept .1 .1 .1 .1 .1 .1 .0 ∙ (level-room l (s .pre .1 .1 .0)) .ways-room;
-      some-basin = facts .some-basin;
       seen-room = omega (arith, facts .few-basins, c .before .before .report-arg2 .given .0);
       plan-room = s .pre .0 .plan-room;
       marks-room = s .pre .0 .marks-room;
