@@ -2,6 +2,7 @@
 -- Assumes nothing.
 use mathlib.Core.Path.{_≡_, refl}
 use mathlib.Core.List.{map}
+use Rattle.network.specs.Networks.{isWet, basinsOf}
 use Rattle.network.specs.Settings.{isSetting}
 use Rattle.network.specs.Plans.{stronglyConnectedUnder, isPlan, passable, firstPlan, nextPlan}
 use Rattle.network.specs.Bridges.{crossesAlone, isBridge, lowestBridge}
@@ -14,9 +15,9 @@ use Rattle.network.specs.Cases.{case3}
 use Rattle.lines.specs.Examples.{examples, limits}
 
 pub examples-hold : map (λ e. listing (e .0)) examples ≡ map (λ e. e .1) examples
-unfolding isSetting stronglyConnectedUnder isPlan passable firstPlan nextPlan crossesAlone isBridge lowestBridge marksOf shutInSide bridgeSide shutInFinding loneFinding answer firstAnswer bodyOf readReaches readFile plansFrom listing
+unfolding isWet basinsOf isSetting stronglyConnectedUnder isPlan passable firstPlan nextPlan crossesAlone isBridge lowestBridge marksOf shutInSide bridgeSide shutInFinding loneFinding answer firstAnswer bodyOf readReaches readFile plansFrom listing
 examples-hold = refl
 
 pub limits-hold : map (λ e. plansFrom case3 (e .0) (firstPlan case3)) limits ≡ map (λ e. e .1) limits
-unfolding isSetting stronglyConnectedUnder isPlan firstPlan nextPlan plansFrom
+unfolding isWet basinsOf isSetting stronglyConnectedUnder isPlan firstPlan nextPlan plansFrom
 limits-hold = refl

@@ -40,8 +40,10 @@ examples =
     ∷ (fileWith 2 (flap 1 0 ++ gated 0 1), 48 ∷ 10 ∷ ending)
     -- nothing; no basin; a stray end; a byte after the end: `refused 4`, 1, 3 and 6
     ∷ ([], refusedWith (52 ∷ [])) ∷ (fileWith 0 [], refusedWith (49 ∷ [])) ∷ (fileWith 2 (gated 0 2), refusedWith (51 ∷ [])) ∷ (fileWith 1 (9 ∷ []), refusedWith (54 ∷ []))
-    -- case 6, shut in, and case 2, a lone reach: `refused 9` and `refused 10`
-    ∷ (fileWith 2 [], refusedWith (57 ∷ [])) ∷ (fileWith 2 (gated 0 1), refusedWith (49 ∷ 48 ∷ []))
+    -- case 5, shut in, and case 2, a lone reach: `refused 9` and `refused 10`
+    ∷ (fileWith 2 (flap 0 1), refusedWith (57 ∷ [])) ∷ (fileWith 2 (gated 0 1), refusedWith (49 ∷ 48 ∷ []))
+    -- case 6, two dry basins: `-`, `end`; case 3 on the basins 1 and 3 of five: `01`, `10`, `end`
+    ∷ (fileWith 2 [], 45 ∷ 10 ∷ ending) ∷ (fileWith 5 (gated 1 3 ++ gated 1 3), 48 ∷ 49 ∷ 10 ∷ 49 ∷ 48 ∷ 10 ∷ ending)
     -- case 3 with a third gate that is shut: `01`, `10`, `end`; with one of its two shut: `refused 10`; a wrong inner kind: `refused 5`
     ∷ (fileWith 2 (gated 0 1 ++ (shut 2 0 1 ++ gated 0 1)), 48 ∷ 49 ∷ 10 ∷ 49 ∷ 48 ∷ 10 ∷ ending)
     ∷ (fileWith 2 (shut 2 0 1 ++ gated 0 1), refusedWith (49 ∷ 48 ∷ [])) ∷ (fileWith 2 (shut 5 0 1 ++ gated 0 1), refusedWith (53 ∷ []))

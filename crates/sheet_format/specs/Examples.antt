@@ -40,16 +40,24 @@ sheets =
     ∷ (shutBetween, 16 ∷ 2 ∷ 0 ∷ 17 ∷ 0 ∷ 0 ∷ 18 ∷ 2 ∷ 0 ∷ 9 ∷ [], 0)
     ∷ (shutBetween, 16 ∷ 3 ∷ 0 ∷ 17 ∷ 0 ∷ 0 ∷ 17 ∷ 1 ∷ 0 ∷ 18 ∷ 2 ∷ 0 ∷ 9 ∷ [], 8)
     ∷ (shutBetween, 16 ∷ 2 ∷ 0 ∷ 17 ∷ 0 ∷ 0 ∷ 18 ∷ 1 ∷ 0 ∷ 9 ∷ [], 8)
+    -- dry basins are not asked for: case 6, and case 3 on the basins 1 and 3 of five with a plan and with a setting that is none
+    ∷ (net 2 [], 16 ∷ 0 ∷ 0 ∷ 9 ∷ [], 0)
+    ∷ (net 5 (G 1 3 ∷ G 1 3 ∷ []), 16 ∷ 2 ∷ 0 ∷ 17 ∷ 0 ∷ 0 ∷ 18 ∷ 1 ∷ 0 ∷ 9 ∷ [], 0)
+    ∷ (net 5 (G 1 3 ∷ G 1 3 ∷ []), 16 ∷ 2 ∷ 0 ∷ 17 ∷ 0 ∷ 0 ∷ 17 ∷ 1 ∷ 0 ∷ 9 ∷ [], 8)
     ∷ []
 
--- A network and its reply's sheet: the cases 1, 2, 3, 5, 10, and case 3 with one more gate shut and with its first gate shut.
+-- A network and its reply's sheet: the cases 1, 2, 3, 5, 6, 10, case 3 with one more gate shut and with its first gate shut, and the cases 2 and 5 on the basins 1 and 3
+-- of five.
 abbrev pub replies : List (Network × List ℕ)
 replies =
     (net 1 [], 16 ∷ 0 ∷ 0 ∷ 9 ∷ [])
     ∷ (net 2 (G 0 1 ∷ []), 21 ∷ 0 ∷ 0 ∷ (firstByte 2 ++ (9 ∷ [])))
     ∷ (case3, 16 ∷ 2 ∷ 0 ∷ 17 ∷ 0 ∷ 0 ∷ 18 ∷ 1 ∷ 0 ∷ 9 ∷ [])
     ∷ (net 2 (F 0 1 ∷ []), 20 ∷ (firstByte 2 ++ (9 ∷ [])))
+    ∷ (net 2 [], 16 ∷ 0 ∷ 0 ∷ 9 ∷ [])
     ∷ (net 3 (G 0 1 ∷ T 1 2 ∷ []), 21 ∷ 0 ∷ 0 ∷ (firstByte 6 ++ (9 ∷ [])))
     ∷ (shutBetween, 16 ∷ 2 ∷ 0 ∷ 17 ∷ 0 ∷ 0 ∷ 18 ∷ 2 ∷ 0 ∷ 9 ∷ [])
     ∷ (net 2 (shutReach (G 0 1) ∷ G 0 1 ∷ []), 21 ∷ 1 ∷ 0 ∷ (firstByte 2 ++ (9 ∷ [])))
+    ∷ (net 5 (G 1 3 ∷ []), 21 ∷ 0 ∷ 0 ∷ (firstByte 8 ++ (9 ∷ [])))
+    ∷ (net 5 (F 1 3 ∷ []), 20 ∷ (firstByte 8 ++ (9 ∷ [])))
     ∷ []
