@@ -1,9 +1,9 @@
-//! The lister of document 01, with item 1 of document 02, in plain Rust: the yardstick for the project's own lister, written from the papers alone.
+//! The lister of document 01, with items 1 and 3 of document 02, in plain Rust: the yardstick for the project's own lister, written from the papers alone.
 //!
 //! It reads a network file on standard input and prints the plans in order, or the refusal. Nothing here is proved.
 //! Build: `rustc -O bench/lister.rs`. It uses only the standard library.
 //!
-//! A gate that is not yet decided passes both ways. If every basin then reaches every other, hanging one more gate
+//! A gate that is not yet decided passes both ways. If every wet basin then reaches every other, hanging one more gate
 //! from A to B keeps it so exactly if B still reaches A without it: one search decides a gate. The first plan takes
 //! the gates in order, each as drawn if that works and else turned; the next plan frees gates from the last one
 //! backwards until one that was as drawn can be turned, and decides those after it afresh.
@@ -115,7 +115,6 @@ struct HalfEdge {
 
 /// The network as adjacency lists, and which half-edges may be taken at present.
 struct Graph {
-    basins: usize,
     /// The list of basin v is half_edges[starts[v]..starts[v + 1]].
     starts: Vec<u32>,
     half_edges: Vec<HalfEdge>,
@@ -151,7 +150,7 @@ impl Graph {
             open.push(true);
             open.push(reach.kind != FLAP);
         }
-        Graph { basins, starts, half_edges, open, seen: vec![0; basins], searches: 0, queue: vec![0; basins] }
+        Graph { starts, half_edges, open, seen: vec![0; basins], searches: 0, queue: vec![0; basins] }
     }
 
     /// Breadth first from a basin until the goal is found. How many basins were found, and whether the goal was.
@@ -187,9 +186,11 @@ impl Graph {
         self.search(from, Some(to), 0).1
     }
 
-    /// Whether every basin reaches every other: basin 0 reaches all, and all reach it.
+    /// Whether every wet basin reaches every other: one of them reaches all, and all reach it. A basin with an empty list is dry.
     fn strong(&mut self) -> bool {
-        self.search(0, None, 0).0 == self.basins && self.search(0, None, 1).0 == self.basins
+        let wet = self.starts.windows(2).filter(|list| list[0] < list[1]).count();
+        let from = self.half_edges.first().map_or(0, |half| half.to);
+        wet == 0 || self.search(from, None, 0).0 == wet && self.search(from, None, 1).0 == wet
     }
 
     fn hang(&mut self, gate: &Gate, as_drawn: bool, turned: bool) {
