@@ -94,6 +94,12 @@ def grid(side):
     return side * side, result
 
 
+def dug_ahead():
+    """The pasture numbered among basins that are dug and not joined: 0 to 2, 9, and 15 to 17. A gate to one of these, 16, is reach 19, still shut."""
+    table = [(kind, *(v + 3 if v < 6 else v + 4 for v in ends)) for kind, *ends in reaches(NETWORKS["pasture"][1])]
+    return 18, table + [("g", 14, 16)]
+
+
 def limits():
     """256 basins and 1,024 gates, ends from a fixed sequence; every fourth is one of a ring, so that no reach is lone."""
     x = 1
@@ -129,6 +135,7 @@ def examples():
     for name, (whole, i) in SHUT.items():
         basins, text = NETWORKS[whole]
         result[name] = network_file(basins, shut(reaches(text), i))
+    result["dug-ahead"] = network_file(*dug_ahead())
     result["grid-16"] = network_file(*grid(16))
     result["limits"] = network_file(*limits())
     return result
