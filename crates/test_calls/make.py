@@ -1,9 +1,9 @@
 #!/usr/bin/env python3
 """Writes the case file `stdin` and the expected output `stdout` of the program test_calls, into the folder that this file stands in.
 
-What is expected is worked out here from document 01 and items 1 and 2 of document 02 alone. Small networks are planned by trying every setting and every
-division of the basins, and their bound gates are looked up in all their plans; larger ones go by the theorem, gate by gate. Where both can be had they are
-compared. The pseudo-random sequence is fixed: the files never change by themselves.
+What is expected is worked out here from document 01 and items 1, 2 and 3 of document 02 alone. Small networks are planned by trying every setting, from every
+wet basin, and every division of the wet basins, and their bound gates are looked up in all their plans; larger ones go by the theorem, gate by gate. Where
+both can be had they are compared. The pseudo-random sequence is fixed: the files never change by themselves.
 """
 import os
 from bisect import bisect
@@ -19,16 +19,19 @@ SHUT = 3                            # is added to the kind of a reach that is sh
 # ---- networks
 
 class Network:
-    """An accepted network: basins, and by number the reaches (kind, a, b) in service. Its plans and findings are those of these."""
+    """An accepted network: by number the reaches (kind, a, b) in service, and in order the wet basins, in which these have an end. Its plans and findings
+    are those of these reaches and basins; how many basins are dry, and which, does not enter. `all` are the wet basins as the ones of a number."""
 
-    def __init__(self, basins, reaches, try_all=True):
-        self.basins, self.all = basins, 2 ** basins - 1
+    def __init__(self, reaches, try_all=True):
         self.reaches = {i: r for i, r in enumerate(reaches) if r[0] < SHUT}
         self.gates = [i for i, r in self.reaches.items() if r[0] == GATED]
-        self.small = len(self.gates) <= 12 and basins <= 7
+        self.wet = sorted({v for _, a, b in self.reaches.values() for v in (a, b)})
+        self.all = sum(1 << v for v in self.wet)
+        self.small = len(self.gates) <= 12 and len(self.wet) <= 7
         self.kept = {}
         self.finding = self.find()
-        if self.small and try_all:      # the theorem, and the two ways to look for a lone reach
+        if self.small and try_all:      # the theorem, and the two ways to tell what is passable and to look for a lone reach
+            assert self.strong(()) == self.strong((), by_last=True)
             self.plans = [s for s in product((0, 1), repeat=len(self.gates)) if self.strong(s)]
             assert bool(self.plans) == (self.finding is None)
             assert self.finding == self.find(by_divisions=True)
@@ -52,7 +55,7 @@ class Network:
 
     def reached(self, arcs, start):
         """The basins reached, as the ones of a number."""
-        to = [0] * self.basins
+        to = [0] * (self.wet[-1] + 1)
         for a, b in arcs:
             to[a] |= 1 << b
         seen, left = 1 << start, [start]
@@ -64,9 +67,12 @@ class Network:
                 new ^= 1 << left[-1]
         return seen
 
-    def strong(self, setting):
+    def strong(self, setting, by_last=False):
+        """Whether every wet basin reaches all wet basins. In a large network only the last is looked at, along the arcs and against them."""
         arcs = self.arcs(setting)
-        return self.reached(arcs, 0) == self.all == self.reached([(b, a) for a, b in arcs], 0)
+        if self.small and not by_last:
+            return all(self.reached(arcs, v) == self.all for v in self.wet)
+        return all(self.reached(way, v) == self.all for v in self.wet[-1:] for way in (arcs, [(b, a) for a, b in arcs]))
 
     def is_plan(self, setting):
         setting = tuple(setting)
@@ -78,7 +84,7 @@ class Network:
         """None where there is a plan, else (9, 0, marked) or (10, reach, marked), the marked basins as the ones of a number."""
         arcs = self.arcs(())
         if not self.strong(()):
-            for v in range(self.basins):
+            for v in self.wet:
                 seen = self.reached(arcs, v)
                 if seen != self.all:
                     return 9, 0, seen
@@ -87,20 +93,23 @@ class Network:
 
     def lone_by_divisions(self):
         found = {}
-        for side in range(2, 2 ** self.basins, 2):          # the sides without basin 0
+        for others in product((0, 1), repeat=len(self.wet[1:])):          # the sides without the lowest wet basin
+            side = sum(1 << v for v, other in zip(self.wet[1:], others) if other)
             crossing = [i for i, (k, a, b) in self.reaches.items() if (side >> a & 1) != (side >> b & 1)]
             if len(crossing) == 1 and self.reaches[crossing[0]][0] == GATED:
+                assert crossing[0] not in found
                 found[crossing[0]] = side
         return min(found.items()) if found else None
 
     def lone_by_removal(self):
         for i in self.gates:
             rest = [(a, b) for j, (k, a, b) in self.reaches.items() if j != i]
-            seen = self.reached(rest + [(b, a) for a, b in rest], 0)
+            seen = self.reached(rest + [(b, a) for a, b in rest], self.wet[0])
             if seen != self.all:
                 return i, self.all - seen
         return None
 
+    @lru_cache(maxsize=None)
     def complete(self, start):
         """The earliest plan that starts so, where some plan does."""
         s = list(start)
@@ -129,6 +138,7 @@ class Network:
     def bound_in_plans(self):
         return [ways[0] if len(set(ways)) == 1 else 2 for ways in zip(*self.plans)]
 
+    @lru_cache(maxsize=None)
     def bound_by_theorem(self):
         """No reach is lone: so a gate can be hung a way exactly if the network is passable with it hung so."""
         drawn, turned = ([self.strong((2,) * i + (way,)) for i in range(len(self.gates))] for way in (0, 1))
@@ -137,8 +147,8 @@ class Network:
 
 
 @lru_cache(maxsize=None)
-def network(basins, reaches):
-    return Network(basins, reaches)
+def network(reaches):
+    return Network(reaches)
 
 
 def table_fault(basins, reaches):
@@ -165,7 +175,7 @@ def mark_bytes(marked):
 
 def check(basins, reaches, setting):
     return table_fault(basins, reaches) or (8 if misfits(reaches, setting) else 0) or \
-        ('y' if network(basins, reaches).is_plan(setting) else 'n')
+        ('y' if network(reaches).is_plan(setting) else 'n')
 
 
 def plan_call(basins, reaches, setting, p, m):
@@ -174,7 +184,7 @@ def plan_call(basins, reaches, setting, p, m):
         (7 if p < gates_of(reaches) or m < 32 else 0)
     if number:
         return number, (), (), ()
-    net = network(basins, reaches)
+    net = network(reaches)
     if net.finding:
         number, reach, marked = net.finding
         return number, (reach, bin(marked).count('1')), (), mark_bytes(marked)
@@ -185,7 +195,7 @@ def plan_call(basins, reaches, setting, p, m):
 def bound_call(basins, reaches, p, m):
     """Bound gates: as first plan, but for the bytes where there is a plan."""
     number, values, plan, marks = plan_call(basins, reaches, None, p, m)
-    return number, values, plan if number else network(basins, reaches).bound(), marks
+    return number, values, plan if number else network(reaches).bound(), marks
 
 
 def step_call(held, basins, reaches, p, m):
@@ -278,7 +288,7 @@ def read_sheet(basins, reaches, sheet, p):
         return 8
     if at + 1 < len(sheet):
         return 6
-    if not network(basins, reaches).is_plan(setting):
+    if not network(reaches).is_plan(setting):
         return 8
     return 7 if p < len(gates) else setting
 
@@ -288,8 +298,8 @@ def plan_sheet(reaches, setting):
     return [16] + two(len(gates)) + [x for i, s in zip(gates, setting) for x in [17 + s] + two(i)] + [9]
 
 
-def reply_sheet(basins, reaches):
-    net = network(basins, reaches)
+def reply_sheet(reaches):
+    net = network(reaches)
     if not net.finding:
         return plan_sheet(reaches, net.next_plan())
     number, reach, marked = net.finding
@@ -304,7 +314,7 @@ def write(call, basins, reaches, setting, room):
     if call == 'write sheet' and check(basins, reaches, setting) != 'y':
         return 8
     out = network_file(basins, reaches) if call == 'write network' else \
-        plan_sheet(reaches, setting) if call == 'write sheet' else reply_sheet(basins, reaches)
+        plan_sheet(reaches, setting) if call == 'write sheet' else reply_sheet(reaches)
     return 7 if room < len(out) else out
 
 
@@ -312,7 +322,7 @@ def listing(file):
     got = read_network(file[:8000])
     if isinstance(got, int):
         return 'refused %d\n' % got
-    net = network(*got)
+    net = network(got[1])
     if net.finding:
         return 'refused %d\n' % net.finding[0]
     lines, plan = [], net.next_plan()
@@ -634,11 +644,11 @@ def whole(title, basins, reaches):
     gr.case('write network', basins, p=len(file))
     gr.case('read network', 0, file, k=len(reaches), x=len(reaches) + 1, y=len(reaches) + 2)
     gr.case('write reply', basins, p=38)
-    gr.case('write reply', basins, vary=[('p', 3, len(reply_sheet(basins, reaches)) - 1)])
+    gr.case('write reply', basins, vary=[('p', 3, len(reply_sheet(reaches)) - 1)])
     gr.case('write sheet', basins, zeros, p=4 + 3 * g, vary=settings(g))
     sheet = plan_sheet(reaches, zeros)
     gr.case('read sheet', basins, sheet, p=g, vary=[(3 + 3 * i, 2, 17) for i in range(g)])
-    gr.case('read sheet', basins, reply_sheet(basins, reaches), p=g + 1)
+    gr.case('read sheet', basins, reply_sheet(reaches), p=g + 1)
     gr.case('list', 0, file, p=len(listing(file)) + 16)
 
 
@@ -741,7 +751,7 @@ for title, reaches in (('', grid), (' with reach 100 shut', grid[:100] + [(SG,) 
     gr.case('walk', 256, p=g, limit=10)
     gr.case('walker', 256, [0] * g, p=g, limit=10)
     gr.case('bound', 256, p=g)
-    gr.case('check', 256, network(256, gr.reaches).next_plan(), vary=[(g - 1, 2, 0)])
+    gr.case('check', 256, network(gr.reaches).next_plan(), vary=[(g - 1, 2, 0)])
     gr.case('write reply', 256, p=4 + 3 * g)
 
 
@@ -757,7 +767,7 @@ def bound(title, basins, reaches, *expected):
     gr = group('bound gates: ' + title, reaches)
     for k, text in enumerate(expected, len(reaches) - len(expected) + 1):
         g = len(text)
-        assert network(basins, gr.reaches[:k]).bound() == [int(x) for x in text]
+        assert network(gr.reaches[:k]).bound() == [int(x) for x in text]
         gr.case('bound', basins, p=g, k=k)
         gr.case('bound', basins, p=g - 1, k=k, vary=[('p', 3, (g - 1) % 256), ('m', 3, 31)])
         gr.case('walk', basins, p=g, k=k, limit=7)
@@ -779,7 +789,7 @@ bound('a line of 256 basins and a flap back, then a gate beside the flap', 256, 
 # with flaps at three corners of the grid, which bind the other reach of each; at the fourth a reach of each kind, and shut
 corners = [(F,) + r[1:] if i in (30, 449, 479) else r for i, r in enumerate(grid)]
 for kind, more in ((G, {}), (F, {15: 1}), (T, {})):
-    net = network(256, ((kind, 0, 1),) + tuple(corners[1:]))
+    net = network(((kind, 0, 1),) + tuple(corners[1:]))
     assert {i: x for i, x in zip(net.gates, net.bound()) if x < 2} == {14: 0, 464: 1, 465: 0, **more}
 gr = group('bound gates: a 16 by 16 grid with flaps at its corners', [])
 gr.case('bound', 256, table_bytes(corners), p=480, k=480, x=480, y=480, vary=[(2, 4, 0)], mode=FULL, listed=True)
@@ -824,7 +834,7 @@ for title, reaches in TABLES:
 
 # ---- small networks of a fixed sequence, all different
 
-NUMBERS = Sequence(20261116)
+NUMBERS = Sequence(20261126)
 DRAWN = {}
 
 
@@ -837,24 +847,30 @@ def are_new(networks):
     return True
 
 
-def draw_reaches(basins, gates, size):
+def draw_ends(basins):
+    """The basins that ends may name: all, or one time in three some by lot, so that the others are dry."""
+    some = [v for v in range(basins) if NUMBERS.below(4)] if NUMBERS.below(3) == 0 else []
+    return some or list(range(basins))
+
+
+def draw_reaches(ends, gates, size):
     """Reaches of which so many are gated, the others flaps, two-way reaches and shut ones of any number; places, kinds and ends by lot."""
     kinds = [G] * gates + [(F, F, T, T, SHUT + NUMBERS.below(3), SHUT + NUMBERS.below(253))[NUMBERS.below(6)] for _ in range(size - gates)]
     for i in reversed(range(size)):
         j = NUMBERS.below(i + 1)
         kinds[i], kinds[j] = kinds[j], kinds[i]
-    return tuple((kind, NUMBERS.below(basins), NUMBERS.below(basins)) for kind in kinds)
+    return tuple((kind, ends[NUMBERS.below(len(ends))], ends[NUMBERS.below(len(ends))]) for kind in kinds)
 
 
-def outcome(basins, reaches):
-    return (Network(basins, reaches, try_all=False).finding or (0,))[0]
+def outcome(reaches):
+    return (Network(reaches, try_all=False).finding or (0,))[0]
 
 
 def draw_network(basins, gates, number):
     """A new network of up to twelve reaches whose first-plan reply has this number."""
     while True:
-        reaches = draw_reaches(basins, gates, gates + NUMBERS.below(13 - gates))
-        if outcome(basins, reaches) == number and are_new([(basins, reaches)]):
+        reaches = draw_reaches(draw_ends(basins), gates, gates + NUMBERS.below(13 - gates))
+        if outcome(reaches) == number and are_new([(basins, reaches)]):
             return reaches
 
 
@@ -878,13 +894,13 @@ for basins, g in product(range(1, 7), range(11)):
     gr.case('first', basins, p=g)
     gr.case('bound', basins, p=g)
     gr.case('check', basins, zeros, vary=settings(g))
-    if network(basins, reaches).finding is None:
+    if network(reaches).finding is None:
         gr.case('walk', basins, p=g, limit=1100, mode=BRIEF)
         if g <= 6:
             gr.case('next', basins, zeros, p=g, vary=settings(g))
         if g <= 4:
             gr.case('step', basins, zeros, p=g, vary=settings(g))
-    gr.case('write reply', basins, vary=[('p', 3, len(reply_sheet(basins, reaches)) - 1)])
+    gr.case('write reply', basins, vary=[('p', 3, len(reply_sheet(reaches)) - 1)])
 
 # twenty more of each, ten with plans: the first replies, and the sums of all others
 
@@ -903,12 +919,14 @@ for f, (basins, g) in enumerate(product(range(2, 7), range(11))):
     gr.case('write reply', basins, p=40, mode=QUIET)
 
 # many more, 168 from each eleven reaches: the first two of all kinds, and shut (the first of all kinds, the second by number 255), and cut at five to
-# eleven; the sums of all their plans and of the bytes of their gates
+# eleven; the sums of all their plans and of the bytes of their gates. Of the first for each number of basins the other nine are shut, so that most are dry
 
-def draw_base(basins):
+def draw_base(basins, all_shut):
     """Eleven reaches from which only new networks are so made."""
     while True:
-        base = draw_reaches(basins, 0, 2) + draw_reaches(basins, NUMBERS.below(9), 9)
+        ends = draw_ends(basins)
+        base = draw_reaches(ends, 0, 2) + draw_reaches(ends, NUMBERS.below(9), 9)
+        base = tuple((k + SHUT if all_shut and k < SHUT else k, a, b) for k, a, b in base)
         varied = [tuple((k, a, b) for k, (_, a, b) in zip(kinds, base)) + base[2:] for kinds in product(range(6), (255, G, F, T))]
         if are_new([(basins, reaches[:cut]) for reaches in varied for cut in range(5, 12)]):
             return base
@@ -916,8 +934,8 @@ def draw_base(basins):
 
 gr = group('tables of eleven reaches, the first two of all kinds and shut, cut at five to eleven reaches', [])
 for basins in range(2, 7):
-    for _ in range(25):
-        gr.case('walk', basins, table_bytes(draw_base(basins)), p=10, k=0, x=11, y=11, limit=1100,
+    for i in range(25):
+        gr.case('walk', basins, table_bytes(draw_base(basins, i == 0)), p=10, k=0, x=11, y=11, limit=1100,
                 vary=[('call', 2, CODES['walk']), ('k', 7, 5), (2, 6, 0), (3, 4, 255)], mode=QUIET, listed=True, name='%d basins' % basins)
 
 
@@ -929,18 +947,18 @@ def made_flap(reaches, i, turned):
     return reaches[:i] + ((F, b, a) if turned else (F, a, b),) + reaches[i + 1:]
 
 
-def law_holds(basins, reaches):
+def law_holds(reaches):
     """Of a network with a plan: "a reach made a flap as drawn leaves a plan exactly if its byte isn't 1, made a flap turned exactly if it isn't 0"."""
-    net = network(basins, reaches)
-    return all(bool(network(basins, made_flap(reaches, i, turned)).plans) == (byte != 1 - turned)
+    net = network(reaches)
+    return all(bool(network(made_flap(reaches, i, turned)).plans) == (byte != 1 - turned)
                for i, byte in zip(net.gates, net.bound()) for turned in (0, 1))
 
 
 def draw_law(basins):
     """The twenty networks, all new; of the first some gates are bound each way, and some are free."""
     while True:
-        reaches = draw_reaches(basins, 9, 9 + NUMBERS.below(4))
-        net = Network(basins, reaches, try_all=False)
+        reaches = draw_reaches(draw_ends(basins), 9, 9 + NUMBERS.below(4))
+        net = Network(reaches, try_all=False)
         if not net.finding and len(set(net.bound_by_theorem())) == 3:
             flaps = [made_flap(reaches, i, turned) for i in net.gates for turned in (0, 1)]
             tables = [reaches] + flaps + [tuple((k, b, a) if k == G else (k, a, b) for k, a, b in reaches)]
@@ -954,8 +972,8 @@ for f in range(9):
     gr = family('%d basins, %s; each gate a flap' % (basins, letters(tables[0])), tables, 55 + f)
     gr.case('bound', basins, p=9)
     gr.case('walk', basins, p=9, limit=600, mode=QUIET)
-    assert law_holds(basins, tables[0])
-    assert network(basins, tables[-1]).bound() == [(1, 0, 2)[byte] for byte in network(basins, tables[0]).bound()]
+    assert law_holds(tables[0])
+    assert network(tables[-1]).bound() == [(1, 0, 2)[byte] for byte in network(tables[0]).bound()]
 
 
 # all are different, and each shape and each state came often
@@ -972,13 +990,18 @@ def put_back(reaches, kind):
 
 def traits(basins, reaches):
     joins = [frozenset((a, b)) for _, a, b in served(reaches) if a != b]
-    reply, shut = outcome(basins, reaches), len(reaches) - len(served(reaches))
-    gets = set(network(basins, reaches).bound()) if reply == 0 else set()
+    reply, shut = outcome(reaches), len(reaches) - len(served(reaches))
+    gets = set(network(reaches).bound()) if reply == 0 else set()
+    wet = network(reaches).wet
+    dry = [v for v in range(basins) if v not in wet]
+    places = {'below' if v < wet[0] else 'between' if v < wet[-1] else 'above' for v in dry} if wet else {'all'}
     return ['%d basins' % basins, '%d gates' % gates_of(reaches), 'reply %d' % reply] + ['first %d' % k for k, _, _ in reaches[:1]] + \
         ['loops' if len(joins) < len(served(reaches)) else 'no loops', 'parallel' if len(set(joins)) < len(joins) else 'not parallel'] + \
         ['number %d' % k for k in {min(k, 6) for k, _, _ in reaches}] + ['%d shut' % min(shut, 3)] + \
         ['byte %d' % x for x in gets] + ['all bytes'] * (len(gets) == 3) + ['bound and shut'] * (shut > 0 and bool(gets - {2})) + \
-        ['%d for want of %d' % (reply, k) for k in (G, F, T) if reply > 0 and outcome(basins, put_back(reaches, k)) != reply]
+        ['%d with dry %s' % (reply, place) for place in places or {'none'}] + ['bound and dry'] * (len(dry) > 0 and bool(gets - {2})) + \
+        ['dry end'] * any(v in dry for _, a, b in reaches for v in (a, b)) + \
+        ['%d for want of %d' % (reply, k) for k in (G, F, T) if shut and outcome(put_back(reaches, k)) != reply]
 
 
 def often(least, *names):
@@ -992,6 +1015,8 @@ assert often(3000, 'reply 0', 'reply 9', 'reply 10', 'loops', 'no loops', 'paral
 assert often(5000, *('number %d' % k for k in range(7))) and often(3000, *('%d shut' % n for n in range(4)))
 assert often(800, 'byte 0', 'byte 1', 'bound and shut') and often(300, 'all bytes') and often(7000, 'byte 2')
 assert often(100, *('%d for want of %d' % (n, k) for n in (9, 10) for k in (G, F, T))) and len({(basins, served(r)) for basins, r in DRAWN}) > 12000
+assert often(400, *('%d with dry %s' % (n, place) for n in (0, 9, 10) for place in ('none', 'below', 'between', 'above'))) and often(100, '0 with dry all')
+assert often(1000, 'dry end') and often(400, 'bound and dry') and often(100, *('0 for want of %d' % k for k in (G, F, T)))
 
 
 # ---- all networks of a few reaches: their plans in order, and the bytes of their gates. Each gate made a flap is again one of these networks
@@ -1003,7 +1028,7 @@ def networks(basins, size, kinds, mode):
         gr.case(call, basins, table_bytes([(G, 0, 0)] * size), p=size, k=size, x=size, y=size, limit=1100, vary=vary, mode=mode, listed=True,
                 name='%s, %d basins, %d reaches of kinds below %d' % (call, basins, size, kinds))
     for reaches in product(product(range(kinds), range(basins), range(basins)), repeat=size):
-        assert network(basins, reaches).finding or law_holds(basins, reaches)
+        assert network(reaches).finding or law_holds(reaches)
 
 
 gr = group('all networks of a few reaches', [])
@@ -1071,7 +1096,7 @@ def joined(v, gates):
 OVER, BACK, HOME = (1, 0), (0, -1), (1, -1)          # from v + 1 to v, from v to 0, from v + 1 to 0
 thousand = [r for v in (1, 3, 5) for r in joined(v, [HOME, BACK, OVER])] + [(G, 0, 0)] * 3                           # 5 times 5 times 5 times 8
 one_more = joined(1, [HOME, HOME, OVER, BACK]) + joined(3, [HOME, BACK, OVER, OVER]) + [(F, 0, 5)] + [(G, 5, 0)] * 3   # 13 times 11 times 7
-assert len(network(7, tuple(thousand)).plans) == 1000 and len(network(6, tuple(one_more)).plans) == 1001
+assert len(network(tuple(thousand)).plans) == 1000 and len(network(tuple(one_more)).plans) == 1001
 
 gr = group('listings', [])
 listed('512 plans', 1, [(G, 0, 0)] * 9 + [(T, 0, 0)])
@@ -1093,7 +1118,7 @@ def ditch(length, first=1):
 for title, basins, reaches in [
         ('40 bound gates last', 41, [(G, 0, 0)] * 8 + ditch(40)), ('40 bound gates among free ones', 41, [(G, 0, 0)] * 3 + ditch(40) + [(G, 5, 5), (G, 0, 0)]),
         ('40 bound gates, then a ring of 36', 76, [(G, 0, 0)] * 3 + ditch(40) + [(G, a, b) for a, b in zip([0, *range(41, 76)], [*range(41, 76), 0])])]:
-    assert sorted(set(network(basins, tuple(reaches)).bound())) == [0, 1, 2]
+    assert sorted(set(network(tuple(reaches)).bound())) == [0, 1, 2]
     listed(title, basins, reaches)
 gr.case('list', 0, SMALL + [7], p=11, vary=[(2, 2, 0), (4, 2, 2), (18, 2, 8), ('n', 4, 17)], name='list, refused 1, 3, 4, 5, 6')
 gr.case('list', 0, file, p=20, name='list, 1,025 reaches')
