@@ -672,8 +672,8 @@ whole('case 1 with shut loops of every kind, and of numbers 6 and 255', 1, [(k, 
 whole('case 2 with its gate shut', 2, [(SG, 0, 1)])
 whole('case 3 with its first gate shut', 2, [(SG, 0, 1), (G, 0, 1)])
 whole('case 3 with a shut reach of every kind between', 2, [(G, 0, 1), (SG, 1, 0), (SF, 0, 1), (ST, 0, 1), (G, 0, 1)])
-for k in (ST, 6, 127, 128, 254, 255):
-    whole('case 4 with its reach shut, by number %d' % k, 2, [(k, 0, 1)])
+for k in (ST, 6, 255):
+    whole('case 2 with a shut two-way reach beside its gate, by number %d' % k, 2, [(G, 0, 1), (k, 1, 0)])
 whole('case 5 with a shut flap back', 2, [(F, 0, 1), (SF, 1, 0)])
 whole('case 7 with reach 1 shut', 3, [(G, 0, 1), (SG, 1, 2), (G, 2, 0)])
 whole('case 8 with its flap shut', 2, [(SF, 1, 0), (G, 0, 1)])
@@ -681,6 +681,70 @@ whole('case 9 with its gate shut', 1, [(SG, 0, 0)])
 whole('case 10 with a shut two-way reach beside its gate', 3, [(ST, 0, 1), (G, 0, 1), (T, 1, 2)])
 whole('case 11 with a shut two-way reach back', 3, [(F, 0, 1), (ST, 2, 0), (G, 1, 2)])
 whole('case 13 with its third gate shut', 4, [(SG if (a, b) == (0, 3) else G, a, b) for a in range(4) for b in range(a + 1, 4)])
+gr = group('case 2 with a reach of each number beside its gate', [])
+for call in ('walk', 'bound', 'write network', 'write reply'):
+    gr.case(call, 2, table_bytes([(G, 0, 1), (G, 1, 0)]), p=38, k=2, x=2, y=2, limit=3, vary=[(3, 256, 0)], mode=QUIET, listed=True)
+
+
+# ---- dry basins (document 02, item 3): with no reach in service, below, between and above the wet ones, and with ends of shut reaches
+
+def moved(reaches, first, step=1):
+    """The same reaches with basin v numbered first + step * v."""
+    return [(kind, first + step * a, first + step * b) for kind, a, b in reaches]
+
+
+def cuts(title, basins, reaches):
+    """Every call on a table, cut at each length, with as many basins and with one more, from every setting of every length."""
+    reaches = tuple(reaches)
+    gr, g = group(title, reaches), gates_of(reaches)
+    zeros, sheet = [0] * g, plan_sheet(reaches, [0] * g)
+    vary = [('k', len(reaches) + 1, 0), ('basins', 2, basins % 256)]
+    any_setting = vary + [('n', g + 1, 0)] + settings(g)
+    gr.case('table', basins, vary=vary)
+    gr.case('first', basins, p=g, vary=vary, mode=FULL)
+    gr.case('bound', basins, p=g, vary=vary)
+    gr.case('walk', basins, p=g, limit=20, vary=vary)
+    gr.case('check', basins, zeros, vary=any_setting)
+    gr.case('next', basins, zeros, p=g, vary=any_setting, mode=QUIET)
+    gr.case('make', basins, zeros, p=g, vary=any_setting, mode=QUIET)
+    gr.case('walker', basins, zeros, p=g, limit=20, vary=any_setting, mode=QUIET)
+    gr.case('write network', basins, p=60, vary=vary)
+    gr.case('write reply', basins, p=38, vary=vary, mode=FULL)
+    gr.case('write sheet', basins, zeros, p=4 + 3 * g, vary=any_setting, mode=QUIET)
+    gr.case('read sheet', basins, [16, 0, 0, 9], p=g, vary=vary)
+    gr.case('read sheet', basins, sheet, p=g, vary=vary + [(3 + 3 * i, 2, 17) for i in range(g)])
+
+
+whole('case 4 with its reach shut', 2, [(ST, 0, 1)])
+whole('two basins, a gated loop at 1', 2, [(G, 1, 1)])
+whole('two basins, a gated loop at each', 2, [(G, 0, 0), (G, 1, 1)])
+whole('seven basins, case 7 at 1, 3 and 5, and shut reaches', 7, [(SG, 0, 3)] + moved([(G, 0, 1), (G, 1, 2), (G, 2, 0)], 1, 2) + [(ST, 2, 6)])
+whole('seven basins, case 10 at 1, 3 and 5', 7, moved([(G, 0, 1), (T, 1, 2)], 1, 2))
+whole('seven basins, case 11 at 1, 3 and 5', 7, moved([(F, 0, 1), (G, 1, 2)], 1, 2))
+whole('256 basins, no reach', 256, [])
+cuts('dry basins: loops at the second of two, then at the first', 2, [(SG, 0, 1), (F, 1, 1), (T, 1, 1), (G, 1, 1), (F, 0, 0), (T, 1, 0)])
+cuts('dry basins: lone reaches', 8, [(ST, 0, 3), (G, 5, 3), (T, 5, 6), (G, 3, 5), (G, 6, 2), (SF, 7, 1), (F, 2, 5)])
+cuts('dry basins: shut in', 9, [(T, 6, 6), (F, 6, 3), (G, 3, 6), (F, 3, 5), (SG, 0, 8), (F, 1, 7), (T, 7, 5), (F, 6, 1), (G, 5, 3)])
+cuts('256 basins: shut reaches, then a flap and gates at the last two', 256, [(SG, 0, 255), (255, 254, 1), (F, 255, 254), (G, 254, 255), (G, 254, 254)])
+cuts('256 basins: gates at the last two', 256, [(G, 255, 254), (G, 255, 254)])
+
+line = moved([(T, v, v + 1) for v in range(42) if v != 20] + [(SG, 20, 21), (G, 21, 20), (F, 20, 21)], 3, 6)
+gr = group('256 basins: two lines at every sixth, then a shut gate, a gate and a flap between', line)
+for call in ('first', 'bound', 'write reply'):
+    gr.case(call, 256, p=38, vary=[('k', 4, 41)], mode=FULL)
+
+file = network_file(4, [(G, 1, 3), (G, 3, 1)])
+gr = group('dry basins: files of G1-3 and another reach, with four and five basins', [])
+for call, more in (('list', dict(p=20)), ('read network', dict(k=2, x=2, y=2, mode=QUIET))):
+    gr.case(call, 0, file, vary=[(1, 2, 4), (8, 3, 2), (9, 4, 0), (11, 4, 0)], **more)
+
+# a table gets the same replies at every basin count that is over its ends
+gr = group('dry basins: each basin count to 511', [(SG, 0, 3), (G, 5, 3), (F, 5, 3), (G, 2, 5), (G, 3, 2)])
+counts = [('basins high', 2, 0), ('basins', 256, 0)]
+for call in ('first', 'bound', 'write reply'):
+    gr.case(call, 0, p=38, vary=[('k', 6, 0)] + counts, mode=QUIET)
+gr.case('check', 0, [0, 0, 0], vary=[(0, 2, 0), (2, 2, 0)] + counts)
+gr.case('next', 0, [0, 0, 0], p=3, vary=[(0, 2, 0), (2, 2, 0)] + counts, mode=QUIET)
 
 
 # ---- case 12: the limits
@@ -780,6 +844,7 @@ bound('case 8 with loops of every kind, and two shut gates', 2, reaches_of('g0-1
 bound('case 7 with reach 0 a flap and reach 2 the other way, then a gate beside the flap', 3, reaches_of('F0-1 G1-2 G0-2 G0-1'), '01', '222')
 bound('two rings of gates, one with a flap', 5, reaches_of('G1-2 G3-4 F0-1 G0-2 G4-0 G0-3'), '02122')
 bound('the example bound-gates', 6, reaches_of('G1-4 F3-0 G0-1 G4-5 G2-1 g0-2 G5-1 G2-3 G1-5'), '2021202')
+bound('case 7 with a flap among dry basins, then a gate beside the flap', 9, reaches_of('t0-4 g6-8 F3-5 G7-5 G7-3 G3-5'), '10', '222')
 
 # every third gate of the line is drawn the other way; on it are loops, and beside it shut gates; a gate beside the flap frees all
 line = [r for v in range(255) for r in [(G, v + 1, v) if v % 3 == 0 else (G, v, v + 1)] + [(SG, v, v + 1), (G, v, v)] * (v % 50 == 7)] + [(F, 255, 0)]
@@ -902,7 +967,7 @@ for basins, g in product(range(1, 7), range(11)):
             gr.case('step', basins, zeros, p=g, vary=settings(g))
     gr.case('write reply', basins, vary=[('p', 3, len(reply_sheet(reaches)) - 1)])
 
-# twenty more of each, ten with plans: the first replies, and the sums of all others
+# twenty more of each, ten with plans: the first replies, and the sums of all others; steps and reply sheets with a basin more too, which is dry
 
 for f, (basins, g) in enumerate(product(range(2, 7), range(11))):
     numbers = outcomes(basins, g)
@@ -915,8 +980,8 @@ for f, (basins, g) in enumerate(product(range(2, 7), range(11))):
     gr.case('check', basins, setting, vary=vary, mode=QUIET)
     gr.case('next', basins, setting, p=g, vary=vary, mode=QUIET)
     gr.case('walker', basins, [0] * g, p=g, limit=40, mode=QUIET)
-    gr.case('step', basins, setting, p=g, vary=vary[-3:], mode=QUIET)
-    gr.case('write reply', basins, p=40, mode=QUIET)
+    gr.case('step', basins, setting, p=g, vary=[('basins', 2, basins)] + vary[-3:], mode=QUIET)
+    gr.case('write reply', basins, p=40, vary=[('basins', 2, basins)], mode=QUIET)
 
 # many more, 168 from each eleven reaches: the first two of all kinds, and shut (the first of all kinds, the second by number 255), and cut at five to
 # eleven; the sums of all their plans and of the bytes of their gates. Of the first for each number of basins the other nine are shut, so that most are dry
@@ -1120,6 +1185,7 @@ for title, basins, reaches in [
         ('40 bound gates, then a ring of 36', 76, [(G, 0, 0)] * 3 + ditch(40) + [(G, a, b) for a, b in zip([0, *range(41, 76)], [*range(41, 76), 0])])]:
     assert sorted(set(network(tuple(reaches)).bound())) == [0, 1, 2]
     listed(title, basins, reaches)
+listed('40 bound gates last, at every sixth of 256 basins', 256, moved([(G, 0, 0)] * 8 + ditch(40), 5, 6))
 gr.case('list', 0, SMALL + [7], p=11, vary=[(2, 2, 0), (4, 2, 2), (18, 2, 8), ('n', 4, 17)], name='list, refused 1, 3, 4, 5, 6')
 gr.case('list', 0, file, p=20, name='list, 1,025 reaches')
 
