@@ -22,7 +22,7 @@ use Rattle.network.proofs.Networks.{wet-by}
 use Rattle.tables.specs.Rows.{netOf}
 use Rattle.tables.proofs.Laws.{row-length, table-at}
 use Rattle.half_edges.specs.Chains.{Table}
-use Rattle.basins.specs.Wet.{atEnd}
+use Rattle.basins.specs.Wet.{servesAt}
 
 -- the network with its first i reaches only
 abbrev pub firsts : Network → ℕ → Network
@@ -79,7 +79,7 @@ module _ (n : ℕ) (ks xs ys : List ℕ) (t : Table n xs ys) (e : length ks ≡ 
     pub row-wet-all : length ks ≤ i → isWet (firsts (netOf n ks xs ys) i) v ≡ isWet (netOf n ks xs ys) v
     row-wet-all h = wet-all (netOf n ks xs ys) v i (omega (arith, rows-long))
 
-    pub row-wet-more : i < length ks → isWet (firsts (netOf n ks xs ys) (i + 1)) v ≡ isWet (firsts (netOf n ks xs ys) i) v || atEnd (getD ks i 0) (getD xs i 0) (getD ys i 0) v
+    pub row-wet-more : i < length ks → isWet (firsts (netOf n ks xs ys) (i + 1)) v ≡ isWet (firsts (netOf n ks xs ys) i) v || servesAt (getD ks i 0) (getD xs i 0) (getD ys i 0) v
     row-wet-more h =
         let l : i < length (netOf n ks xs ys .reaches) = omega (arith, rows-long) in
         wet-more (netOf n ks xs ys) v i l ∙ ap (λ r. isWet (firsts (netOf n ks xs ys) i) v || endsAt v r) (table-at i ks xs ys l)

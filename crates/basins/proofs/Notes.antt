@@ -16,7 +16,7 @@ use Rattle.network.proofs.Networks.{state-in-service, state-shut}
 use Rattle.network.specs.Networks.{isWet}
 use Rattle.tables.specs.Rows.{netOf}
 use Rattle.half_edges.specs.Chains.{Table}
-use Rattle.basins.specs.Wet.{anyBasin, Lowest, atEnd, otherByte, OthersNoted, FarSideNoted}
+use Rattle.basins.specs.Wet.{anyBasin, Lowest, servesAt, otherByte, OthersNoted, FarSideNoted}
 use Rattle.basins.proofs.Firsts.{firsts, wet-none, wet-any, row-wet-below, row-wet-more, row-wet-all}
 use Rattle.basins.proofs.Lows.{lowest-one}
 
@@ -66,10 +66,10 @@ module _ (x v : ℕ) (s : List ℕ) where
 
 -- both ends of a reach
 module _ {x : ℕ} (k v w : ℕ) where
-  pub noted-shut : (s : List ℕ) → 3 ≤ k → OthersNoted x (atEnd k v w) s s
+  pub noted-shut : (s : List ℕ) → 3 ≤ k → OthersNoted x (servesAt k v w) s s
   noted-shut s l = noted-none s (λ u. rw (state-shut k l))
 
-  pub noted-ends : {s s′ s″ : List ℕ} → k < 3 → OthersNoted x (eqb v) s s′ → OthersNoted x (eqb w) s′ s″ → OthersNoted x (atEnd k v w) s s″
+  pub noted-ends : {s s′ s″ : List ℕ} → k < 3 → OthersNoted x (eqb v) s s′ → OthersNoted x (eqb w) s′ s″ → OthersNoted x (servesAt k v w) s s″
   noted-ends l o m = noted-same (λ u. rw (state-in-service k l)) (noted-more o m)
 
 -- the reaches one after the other
@@ -78,7 +78,7 @@ module _ {x : ℕ} (n : ℕ) (ks xs ys : List ℕ) where
   noted-first s = noted-none s (wet-none (netOf n ks xs ys))
 
   module _ (t : Table n xs ys) (e : length ks ≡ length xs) {s s′ : List ℕ} (i : ℕ) where
-    pub noted-reach : {s″ : List ℕ} → i < length ks → OthersNoted x (isWet (firsts (netOf n ks xs ys) i)) s s′ → OthersNoted x (atEnd (getD ks i 0) (getD xs i 0) (getD ys i 0)) s′ s″
+    pub noted-reach : {s″ : List ℕ} → i < length ks → OthersNoted x (isWet (firsts (netOf n ks xs ys) i)) s s′ → OthersNoted x (servesAt (getD ks i 0) (getD xs i 0) (getD ys i 0)) s′ s″
         → OthersNoted x (isWet (firsts (netOf n ks xs ys) (i + 1))) s s″
     noted-reach h o m = noted-same (λ v. row-wet-more n ks xs ys t e v i h) (noted-more o m)
 

@@ -36,8 +36,8 @@ withEnds test low kind v w = cond (inService (stateOf kind)) (lowered test (lowe
 -- ---- the other side
 
 -- A reach of the kind, with ends v and w, has an end at basin u and is in service.
-abbrev pub atEnd : ℕ → ℕ → ℕ → ℕ → Bool
-atEnd kind v w u = inService (stateOf kind) && (eqb v u || eqb w u)
+abbrev pub servesAt : ℕ → ℕ → ℕ → ℕ → Bool
+servesAt kind v w u = inService (stateOf kind) && (eqb v u || eqb w u)
 
 -- Of a basin's byte y: 2 if the basin is asked for and y is not x, and otherwise y.
 abbrev pub otherByte : ℕ → Bool → ℕ → ℕ

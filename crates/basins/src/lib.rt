@@ -7,7 +7,7 @@ ghost use lib.Dec.{eqb};
 ghost use Rattle.network.specs.Networks.{isWet};
 ghost use Rattle.tables.specs.Rows.{netOf};
 ghost use Rattle.half_edges.specs.Chains.{Table};
-ghost use Rattle.basins.specs.Wet.{anyBasin, byteIs0, Lowest, lowered, withEnds, atEnd, OthersNoted, FarSideNoted};
+ghost use Rattle.basins.specs.Wet.{anyBasin, byteIs0, Lowest, lowered, withEnds, servesAt, OthersNoted, FarSideNoted};
 
 // The lower of the lowest so far and a basin.
 fn lower(low: usize, v: u16) -> usize
@@ -87,7 +87,7 @@ fn note_end(v: u16, x: u8, seen: &mut [u8])
 fn note_ends(kind: u8, v: u16, w: u16, x: u8, seen: &mut [u8])
     requires { ⌜ v < length (now seen) ⌝ }
     requires { ⌜ w < length (now seen) ⌝ }
-    ensures { λ _. ⌜ OthersNoted x (atEnd kind v w) (now (seen .entry)) (now (seen .exit)) ⌝ }
+    ensures { λ _. ⌜ OthersNoted x (servesAt kind v w) (now (seen .entry)) (now (seen .exit)) ⌝ }
 {
     if kind < 3 {
         note_end(v, x, seen);

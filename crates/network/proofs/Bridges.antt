@@ -245,7 +245,7 @@ cut-unique N h str i S S′ f f′ low b m =
     closed : (c d : ℕ) → List·Memᴰ (arc c d) (arcsUnder N h) → Bool·beq (S c) (S′ c) ≡ true → Bool·beq (S d) (S′ d) ≡ true
     closed c d m′ e = sym (arc-alike (λ x. Bool·beq (S x) (S′ x)) (N .reaches) (ways (N .reaches) h) (shut-out (N .reaches) h) alike c d m′) ∙ e
 
--- ---- the side of a lone reach without the lowest basin
+-- ---- the side of a lone reach without the lowest wet basin
 
 pub alone-rest : (N : Network) (S : ℕ → Bool) (i : ℕ) → Alone N S i → Alone N (λ b. not (S b)) i
 alone-rest N S i f = record { crossing = alike i ∙ f .crossing; others = λ j l n. alike j ∙ f .others j l n }

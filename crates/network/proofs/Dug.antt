@@ -7,13 +7,13 @@ use mathlib.Core.Path.{_≡_, refl, sym, ap, _∙_}
 use mathlib.Core.Bool.{Bool, true, false, cond, not, _&&_, false≢true}
 use mathlib.Core.Logic.{⊎-elim}
 use mathlib.Core.Option.{Option, none, some, Option·getD}
-use mathlib.Core.List.{List, [], _++_, append-nil}
+use mathlib.Core.List.{List, [], _++_, append-nil, map}
 use lib.ListN.{length, getD}
-use lib.Dec.{ltb}
+use lib.Dec.{ltb, eqb}
 use borrow.Author.Tests.{le-leb, ltb-true, lt-ltb, eq-eqb}
 use mathlib.Mathlib.Data.Bool.Basic.{and-elim-left, and-elim-right, and-intro, bool-eq-false}
 use Rattle.network.specs.declared.Refusal.the-variants.{LastPlan}
-use Rattle.lists.specs.Lists.{range, some?, find, keep, elem}
+use Rattle.lists.specs.Lists.{range, every, some?, find, keep, elem}
 use Rattle.lists.proofs.Bools.{clash}
 use Rattle.lists.proofs.Searches.{every-make, every-at, find-yes, find-same, keep-same, keep-append, keep-none}
 use Rattle.lists.proofs.Ranges.{range-add, range-in}
@@ -24,6 +24,7 @@ use Rattle.network.specs.Plans.{stronglyConnected, stronglyConnectedUnde
 use Rattle.network.specs.Bridges.{sides, isCut, reachAt, crossesAlone, isBridge, lowestBridge}
 use Rattle.network.specs.Marks.{marksOf, onesIn}
 use Rattle.network.specs.Replies.{plan, lone, refused, shutInBasin, shutInSide, bridgeSide, shutInFinding, loneFinding, orLone, answer, firstAnswer, nextAnswer, roomFault, firstReply, nextReply}
+use Rattle.network.specs.Choices.{plans, boundByte, boundBytes}
 use Rattle.network.specs.Dug.{dug}
 use Rattle.network.proofs.Ways.{gate-at, gated-in-service}
 use Rattle.network.proofs.Networks.{endsBelow, fault-none, tests-passed, accepted, wet-by, basin-below, basin-wet, end-a-in}
@@ -84,6 +85,17 @@ module _ (N : Network) (ok : Accepted N) (m : ℕ) (more : N .basins ≤ m) wher
   pub dug-next : (s : List ℕ) → nextPlan (dug N m) s ≡ nextPlan N s
   unfolding nextPlan
   dug-next s = find-same (λ p. before s p && isPlan (dug N m) p) (λ p. before s p && isPlan N p) (settings (gateCount N)) (λ p mem. rw (dug-plan p))
+
+  -- the same plans, and so the same bound gates
+  pub dug-plans : plans (dug N m) ≡ plans N
+  unfolding plans
+  dug-plans = keep-same (isPlan (dug N m)) (isPlan N) (settings (gateCount N)) (λ s mem. dug-plan s)
+
+  pub dug-bound : boundBytes (dug N m) ≡ boundBytes N
+  unfolding boundBytes boundByte
+  dug-bound =
+      ap (λ (ps : List (List ℕ)). map (λ k. cond (every (λ p. eqb (getD p k 2) 0) ps) 0 (cond (every (λ p. eqb (getD p k 2) 1) ps) 1 2)) (range 0 (gateCount N)))
+      dug-plans
 
   -- the same findings, with the same marks
   pub dug-shut-in : shutInFinding (dug N m) ≡ shutInFinding N
