@@ -8,7 +8,6 @@ use lib.ListN.{length}
 use Rattle.network.specs.Networks.{Network, maxBasins, Accepted}
 use Rattle.network.specs.Dug.{dug}
 use Rattle.replies.specs.declared.Answer.{Answer}
-use Rattle.replies.specs.Answers.{FirstCall, NextCall}
 use Rattle.planner_laws.specs.Demands.{readReply}
 
 -- An accepted network N, the network M with more basins at the end, no more than the limit, and lent buffers for M as long as those for N, whatever they hold.
@@ -24,15 +23,3 @@ pub record DugAhead (N M : Network) (plan₁ marks₁ plan₂ marks₂ : List �
 abbrev pub SameWithDug : Network → Network → List ℕ → List ℕ → List ℕ → List ℕ → List ℕ → List ℕ → List ℕ → List ℕ → Answer → Answer → Type 0
 SameWithDug N M plan₁ marks₁ plan₂ marks₂ plan₁′ marks₁′ plan₂′ marks₂′ r₁ r₂ =
     DugAhead N M plan₁ marks₁ plan₂ marks₂ → readReply M r₂ plan₂′ marks₂′ ≡ readReply N r₁ plan₁′ marks₁′
-
--- What asking for the first plan of N and of M promises: of either what first promises of any input, and the law.
-pub record FirstWithDug (N M : Network) (plan₁ marks₁ plan₂ marks₂ plan₁′ marks₁′ plan₂′ marks₂′ : List ℕ) (r₁ r₂ : Answer) : Type 0 where
-  pub first-call : FirstCall N plan₁ marks₁ r₁ plan₁′ marks₁′
-  pub second-call : FirstCall M plan₂ marks₂ r₂ plan₂′ marks₂′
-  pub same : SameWithDug N M plan₁ marks₁ plan₂ marks₂ plan₁′ marks₁′ plan₂′ marks₂′ r₁ r₂
-
--- The same of the next plan of the setting s.
-pub record NextWithDug (N M : Network) (s plan₁ marks₁ plan₂ marks₂ plan₁′ marks₁′ plan₂′ marks₂′ : List ℕ) (r₁ r₂ : Answer) : Type 0 where
-  pub first-call : NextCall N s plan₁ marks₁ r₁ plan₁′ marks₁′
-  pub second-call : NextCall M s plan₂ marks₂ r₂ plan₂′ marks₂′
-  pub same : SameWithDug N M plan₁ marks₁ plan₂ marks₂ plan₁′ marks₁′ plan₂′ marks₂′ r₁ r₂

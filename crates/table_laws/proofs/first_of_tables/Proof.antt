@@ -1,10 +1,10 @@
--- `service_laws::first_in_service` meets its contract: the law follows from what the two calls promise.
+-- `table_laws::first_of_tables` meets its contract: the laws follow from what the two calls promise.
 -- Assumes nothing.
 use Rattle.tables.specs.Rows.{netOf}
-use Rattle.service_laws.proofs.Services.{first-in-service}
+use Rattle.table_laws.proofs.Tables.{first-of-tables}
 use borrow.Author.Needs.{needs}
-use Rattle.service_laws.proofs.first_in_service.Statement.{statement}
-use Rattle.service_laws.proofs.first_in_service.Tie as tie
+use Rattle.table_laws.proofs.first_of_tables.Statement.{statement}
+use Rattle.table_laws.proofs.first_of_tables.Tie as tie
 
 first-plan-requires : tie.Need-first-plan-requires
 first-plan-requires c κs = tt
@@ -27,10 +27,10 @@ same-length-4 c = search needs
 returns : tie.Need-returns
 returns c =
     let s = c .before .before .before .before .before .before .before .before .before .before .before .before .before .before .before .before .before .before .before .before .before .before .before .before .args in
-    first-in-service (netOf (s .basins) (s .kinds .now) (s .a .now) (s .b .now)) (netOf (s .basins) (s .kinds2 .now) (s .a2 .now) (s .b2 .now)) (c .before .before .before .before .before .before .before .before .before .before .before .first-plan .ensures) (c .before .before .before .before .first-plan2 .ensures)
+    first-of-tables (netOf (s .basins) (s .kinds .now) (s .a .now) (s .b .now)) (netOf (s .basins2) (s .kinds2 .now) (s .a2 .now) (s .b2 .now)) (c .before .before .before .before .before .before .before .before .before .before .before .first-plan .ensures) (c .before .before .before .before .first-plan2 .ensures)
 
-pub first-in-service-spec : {M : Type 1} → statement M
-first-in-service-spec =
+pub first-of-tables-spec : {M : Type 1} → statement M
+first-of-tables-spec =
     tie.close
     (tie.spec
     first-plan-requires

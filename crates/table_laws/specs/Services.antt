@@ -7,7 +7,6 @@ use lib.ListN.{length}
 use Rattle.network.specs.Networks.{Network, Accepted}
 use Rattle.network.specs.Services.{serviceNet, renumbered}
 use Rattle.replies.specs.declared.Answer.{Answer}
-use Rattle.replies.specs.Answers.{FirstCall, NextCall}
 use Rattle.planner_laws.specs.Demands.{readReply}
 
 -- An accepted network N, the network M of its reaches in service, and lent buffers for M as long as those for N, whatever they hold.
@@ -21,15 +20,3 @@ pub record Dropped (N M : Network) (plan₁ marks₁ plan₂ marks₂ : List ℕ
 abbrev pub InServiceOver : Network → Network → List ℕ → List ℕ → List ℕ → List ℕ → List ℕ → List ℕ → List ℕ → List ℕ → Answer → Answer → Type 0
 InServiceOver N M plan₁ marks₁ plan₂ marks₂ plan₁′ marks₁′ plan₂′ marks₂′ r₁ r₂ =
     Dropped N M plan₁ marks₁ plan₂ marks₂ → readReply M r₂ plan₂′ marks₂′ ≡ renumbered N (readReply N r₁ plan₁′ marks₁′)
-
--- What asking for the first plan of N and of M promises: of either what first promises of any input, and the law.
-pub record FirstInService (N M : Network) (plan₁ marks₁ plan₂ marks₂ plan₁′ marks₁′ plan₂′ marks₂′ : List ℕ) (r₁ r₂ : Answer) : Type 0 where
-  pub first-call : FirstCall N plan₁ marks₁ r₁ plan₁′ marks₁′
-  pub second-call : FirstCall M plan₂ marks₂ r₂ plan₂′ marks₂′
-  pub same : InServiceOver N M plan₁ marks₁ plan₂ marks₂ plan₁′ marks₁′ plan₂′ marks₂′ r₁ r₂
-
--- The same of the next plan of the setting s.
-pub record NextInService (N M : Network) (s plan₁ marks₁ plan₂ marks₂ plan₁′ marks₁′ plan₂′ marks₂′ : List ℕ) (r₁ r₂ : Answer) : Type 0 where
-  pub first-call : NextCall N s plan₁ marks₁ r₁ plan₁′ marks₁′
-  pub second-call : NextCall M s plan₂ marks₂ r₂ plan₂′ marks₂′
-  pub same : InServiceOver N M plan₁ marks₁ plan₂ marks₂ plan₁′ marks₁′ plan₂′ marks₂′ r₁ r₂

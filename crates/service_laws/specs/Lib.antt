@@ -1,2 +1,0 @@
--- Item 1 of document 02, said of what a caller gets.
-pub mod Services
