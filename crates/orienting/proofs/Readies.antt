@@ -105,8 +105,8 @@ module _ (N : Network) (A : List Arc) where
     none-lower u m l = true≢false (low .lower u l (basin-wet N u m))
 
     -- all are dry
-    pub shut-in-none : w ≡ N .basins → ShutInBasin N A (N .basins)
-    shut-in-none e = record { bound = omega arith; lower = λ u m l. absurd (none-lower u m (omega arith)); at = λ l. absurd (omega arith) }
+    pub shut-in-none : {r : ℕ} → w ≡ N .basins → r ≡ N .basins → ShutInBasin N A r
+    shut-in-none e f = record { bound = omega arith; lower = λ u m l. absurd (none-lower u m (omega arith)); at = λ l. absurd (omega arith) }
 
     module _ (below : w < N .basins) where
       low-in : List·Memᴰ w (basinsOf N)

@@ -13,7 +13,7 @@ lowest-wet-requires c κs = let s = c .before .before .before .before .before .b
 returns : tie.Need-returns
 returns c =
     let v = c .before .before .before .before .before .before .before .before .before .before .args in
-    shut-in-none (netOf (v .n) (v .kinds .now) (v .a .now) (v .b .now)) (arcsOf (v .a .now) (v .b .now) (v .ways .now)) (c .before .lowest-wet .ensures) (omega (arith, c .if1 .taken))
+    shut-in-none (netOf (v .n) (v .kinds .now) (v .a .now) (v .b .now)) (arcsOf (v .a .now) (v .b .now) (v .ways .now)) (c .before .lowest-wet .ensures) (omega (arith, c .if1 .taken)) (omega (arith, c .if1 .taken))
 
 cast-shut-in-from : tie.Need-cast-shut-in-from
 cast-shut-in-from c = omega (arith, c .before .lowest-wet .ensures .bound, c .before .before .before .before .before .before .before .before .before .before .pre .0 .few-basins)
