@@ -5,18 +5,13 @@ use native.Mathlib.Nat.{not-suc-le-zero, le-of-suc-le-suc}
 use native.Mathlib.Numerals.{add-one}
 use native.Mathlib.Omega.{arith}
 use mathlib.Core.Path.{_≡_, refl, sym, ap, _∙_}
-use mathlib.Core.Logic.{_⊎_, inl, inr, ⊎-elim}
+use mathlib.Core.Logic.{⊎-elim}
 use mathlib.Core.Bool.{Bool, true, false, _||_, or-false, or-assoc}
 use mathlib.Core.List.{List, [], _∷_}
 use lib.ListN.{length, getD, take}
 use lib.Seq.{take-all}
-use lib.Dec.{eqb}
-use borrow.Author.Tests.{eqb-true, eq-eqb}
-use mathlib.Mathlib.Data.Bool.Basic.{and-elim-left, and-elim-right, and-intro, or-inl, or-inr}
 use Rattle.lists.specs.Lists.{some?}
-use Rattle.lists.proofs.Bools.{or-cases}
-use Rattle.network.specs.Networks.{Network, net, inService, endsAt, isWet}
-use Rattle.network.specs.Tables.{stateOf}
+use Rattle.network.specs.Networks.{Network, net, endsAt, isWet}
 use Rattle.network.specs.Bridges.{noReach}
 use Rattle.network.proofs.Networks.{wet-by}
 use Rattle.tables.specs.Rows.{netOf}
@@ -83,25 +78,3 @@ module _ (n : ℕ) (ks xs ys : List ℕ) (t : Table n xs ys) (e : length ks ≡ 
     row-wet-more h =
         let l : i < length (netOf n ks xs ys .reaches) = omega (arith, rows-long) in
         wet-more (netOf n ks xs ys) v i l ∙ ap (λ r. isWet (firsts (netOf n ks xs ys) i) v || endsAt v r) (table-at i ks xs ys l)
-
-    -- a basin is wet with one more reach if it was, or if the reach is in service and has an end there; and only then
-    module _ (h : i < length ks) where
-      pub row-wet-kept : isWet (firsts (netOf n ks xs ys) i) v ≡ true → isWet (firsts (netOf n ks xs ys) (i + 1)) v ≡ true
-      row-wet-kept w = row-wet-more h ∙ or-inl _ _ w
-
-      pub row-wet-end : inService (stateOf (getD ks i 0)) ≡ true → (getD xs i 0 ≡ v) ⊎ (getD ys i 0 ≡ v) → isWet (firsts (netOf n ks xs ys) (i + 1)) v ≡ true
-      row-wet-end s o =
-          let a = getD xs i 0 in
-          let b = getD ys i 0 in
-          row-wet-more h ∙ or-inr (isWet (firsts (netOf n ks xs ys) i) v) _ (and-intro s (⊎-elim (λ p. or-inl _ _ (eq-eqb a v p)) (λ p. or-inr (eqb a v) _ (eq-eqb b v p)) o))
-
-      pub row-wet-cases : isWet (firsts (netOf n ks xs ys) (i + 1)) v ≡ true
-          → (isWet (firsts (netOf n ks xs ys) i) v ≡ true) ⊎ ((inService (stateOf (getD ks i 0)) ≡ true) × ((getD xs i 0 ≡ v) ⊎ (getD ys i 0 ≡ v)))
-      row-wet-cases w =
-          let a = getD xs i 0 in
-          let b = getD ys i 0 in
-          let s = inService (stateOf (getD ks i 0)) in
-          ⊎-elim
-          (λ p. inl p)
-          (λ p. inr (and-elim-left s _ p, ⊎-elim (λ q. inl (eqb-true a v q)) (λ q. inr (eqb-true b v q)) (or-cases (eqb a v) _ (and-elim-right s _ p))))
-          (or-cases (isWet (firsts (netOf n ks xs ys) i) v) _ (sym (row-wet-more h) ∙ w))

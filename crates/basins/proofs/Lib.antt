@@ -1,4 +1,5 @@
--- The wet basins of a network's first reaches, the lowest of them, and the bytes that they get.
+-- The wet basins by the half-edges that stand there, the lowest of them, and the bytes that they get.
 pub mod Firsts
+pub mod Wets
 pub mod Lows
 pub mod Notes

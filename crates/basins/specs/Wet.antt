@@ -1,14 +1,21 @@
 -- The lowest wet basin, and the wet basins on the side without it. Document 02, item 3: "A basin is dry if no reach in service has an end there; a loop keeps
 -- it wet." `isWet` of network/specs/Networks.antt says so.
 -- Assumes nothing.
-use Prim.Native.Nat.{ℕ, min, _≤_, _<_}
+use Prim.Native.Nat.{ℕ, _≤_, _<_}
 use mathlib.Core.Path.{_≡_}
 use mathlib.Core.Bool.{Bool, true, false, not, cond, _&&_, _||_}
 use mathlib.Core.List.{List}
-use lib.ListN.{getD}
+use lib.ListN.{length, getD}
 use lib.Dec.{eqb}
 use Rattle.network.specs.Networks.{Network, inService, isWet}
 use Rattle.network.specs.Tables.{stateOf}
+use Rattle.half_edges.specs.Chains.{Table, Index}
+
+-- A table of n basins with a kind for each reach, and the index of its half-edges.
+pub record Tabled (n : ℕ) (ks xs ys head next : List ℕ) : Type 0 where
+  pub table : Table n xs ys
+  pub kinds-full : length ks ≡ length xs
+  pub index : Index n xs ys head next
 
 -- ---- the lowest
 
@@ -24,14 +31,6 @@ pub record Lowest (N : Network) (test : ℕ → Bool) (r : ℕ) : Type 0 where
   pub bound : r ≤ N .basins
   pub lower : (v : ℕ) → v < r → isWet N v ≡ true → test v ≡ false
   pub at : r < N .basins → (isWet N r ≡ true) × (test r ≡ true)
-
--- The lower of the lowest so far and a basin that passes the test.
-abbrev pub lowered : (ℕ → Bool) → ℕ → ℕ → ℕ
-lowered test low v = cond (test v) (min low v) low
-
--- The same with both ends of a reach, if it is in service.
-abbrev pub withEnds : (ℕ → Bool) → ℕ → ℕ → ℕ → ℕ → ℕ
-withEnds test low kind v w = cond (inService (stateOf kind)) (lowered test (lowered test low v) w) low
 
 -- ---- the other side
 

@@ -1,76 +1,100 @@
-// Which basins are wet: the lowest, the lowest that a search has not seen, and the side of a lone reach that is marked. One pass over the table each.
+// Which basins are wet: the lowest, and the lowest that a search has not seen, each by a pass over the indexed half-edges that ends where it is found; and the
+// side of a lone reach that is marked, by a pass over the table.
 // The functions with a `requires` are for the crates above, which have checked it.
 ghost use mathlib.Core.Path.{_≡_};
-ghost use Prim.Native.Nat.{_≤_, _<_, min};
+ghost use mathlib.Core.Bool.{_&&_};
+ghost use Prim.Native.Nat.{_≤_, _<_};
 ghost use lib.ListN.{length};
 ghost use lib.Dec.{eqb};
 ghost use Rattle.network.specs.Networks.{isWet};
 ghost use Rattle.tables.specs.Rows.{netOf};
 ghost use Rattle.half_edges.specs.Chains.{Table};
-ghost use Rattle.basins.specs.Wet.{anyBasin, byteIs0, Lowest, lowered, withEnds, servesAt, OthersNoted, FarSideNoted};
+ghost use Rattle.basins.specs.Wet.{Tabled, anyBasin, byteIs0, Lowest, servesAt, OthersNoted, FarSideNoted};
+use half_edges::NONE;
 
-// The lower of the lowest so far and a basin.
-fn lower(low: usize, v: u16) -> usize
-    ensures { λ r. ⌜ r ≡ min low v ⌝ }
+// Whether basin v is wet: whether a reach in service has a half-edge there. Only the contract names the basin count and the ends.
+fn is_wet(
+    n: usize,
+    kinds: &[u8],
+    a: &[u16],
+    b: &[u16],
+    head: &[u16],
+    next: &[u16],
+    v: usize,
+) -> bool
+    requires { ⌜ Tabled n (now kinds) (now a) (now b) (now head) (now next) ⌝ }
+    requires { ⌜ v < n ⌝ }
+    ensures { λ r. ⌜ r ≡ isWet (netOf n (now (kinds .entry)) (now (a .entry)) (now (b .entry))) v ⌝ }
 {
-    if (v as usize) < low { v as usize } else { low }
+    let mut h = head[v];
+    while h != NONE {
+        if kinds[h as usize / 2] < 3 {
+            return true;
+        }
+        h = next[h as usize];
+    }
+    false
 }
 
-// The same if the basin's byte is 0.
-fn lower_unseen(low: usize, v: u16, seen: &[u8]) -> usize
-    requires { ⌜ v < length (now seen) ⌝ }
-    ensures { λ r. ⌜ r ≡ lowered (byteIs0 (now (seen .entry))) low v ⌝ }
+// Whether basin v is wet and its byte is 0.
+fn is_left(
+    n: usize,
+    kinds: &[u8],
+    a: &[u16],
+    b: &[u16],
+    head: &[u16],
+    next: &[u16],
+    seen: &[u8],
+    v: usize,
+) -> bool
+    requires { ⌜ Tabled n (now kinds) (now a) (now b) (now head) (now next) ⌝ }
+    requires { ⌜ n ≤ length (now seen) ⌝ }
+    requires { ⌜ v < n ⌝ }
+    ensures { λ r. ⌜ r ≡ isWet (netOf n (now (kinds .entry)) (now (a .entry)) (now (b .entry))) v && byteIs0 (now (seen .entry)) v ⌝ }
 {
-    if seen[v as usize] == 0 {
-        lower(low, v)
-    } else {
-        low
+    if seen[v] != 0 {
+        return false;
     }
-}
-
-// The lowest of the lowest so far and, if the reach is in service, its ends whose byte is 0.
-fn lower_unseen_ends(low: usize, kind: u8, v: u16, w: u16, seen: &[u8]) -> usize
-    requires { ⌜ v < length (now seen) ⌝ }
-    requires { ⌜ w < length (now seen) ⌝ }
-    ensures { λ r. ⌜ r ≡ withEnds (byteIs0 (now (seen .entry))) low kind v w ⌝ }
-{
-    if kind > 2 {
-        return low;
-    }
-    lower_unseen(lower_unseen(low, v, seen), w, seen)
+    is_wet(n, kinds, a, b, head, next, v)
 }
 
 // The lowest wet basin, or n if all are dry.
-pub fn lowest_wet(n: usize, kinds: &[u8], a: &[u16], b: &[u16]) -> usize
-    requires { ⌜ Table n (now a) (now b) ⌝ }
-    requires { ⌜ length (now kinds) ≡ length (now a) ⌝ }
+pub fn lowest_wet(n: usize, kinds: &[u8], a: &[u16], b: &[u16], head: &[u16], next: &[u16]) -> usize
+    requires { ⌜ Tabled n (now kinds) (now a) (now b) (now head) (now next) ⌝ }
     ensures { λ r. ⌜ Lowest (netOf n (now (kinds .entry)) (now (a .entry)) (now (b .entry))) anyBasin r ⌝ }
 {
-    let mut low = n;
-    let mut i = 0;
-    while i < kinds.len() {
-        if kinds[i] < 3 {
-            low = lower(lower(low, a[i]), b[i]);
+    let mut v = 0;
+    while v < n {
+        if is_wet(n, kinds, a, b, head, next, v) {
+            return v;
         }
-        i += 1;
+        v += 1;
     }
-    low
+    n
 }
 
 // The lowest wet basin whose byte is 0, or n if there is none.
-pub fn lowest_unseen(n: usize, kinds: &[u8], a: &[u16], b: &[u16], seen: &[u8]) -> usize
-    requires { ⌜ Table n (now a) (now b) ⌝ }
-    requires { ⌜ length (now kinds) ≡ length (now a) ⌝ }
+pub fn lowest_unseen(
+    n: usize,
+    kinds: &[u8],
+    a: &[u16],
+    b: &[u16],
+    head: &[u16],
+    next: &[u16],
+    seen: &[u8],
+) -> usize
+    requires { ⌜ Tabled n (now kinds) (now a) (now b) (now head) (now next) ⌝ }
     requires { ⌜ n ≤ length (now seen) ⌝ }
     ensures { λ r. ⌜ Lowest (netOf n (now (kinds .entry)) (now (a .entry)) (now (b .entry))) (byteIs0 (now (seen .entry))) r ⌝ }
 {
-    let mut low = n;
-    let mut i = 0;
-    while i < kinds.len() {
-        low = lower_unseen_ends(low, kinds[i], a[i], b[i], seen);
-        i += 1;
+    let mut v = 0;
+    while v < n {
+        if is_left(n, kinds, a, b, head, next, seen, v) {
+            return v;
+        }
+        v += 1;
     }
-    low
+    n
 }
 
 // Gives basin v the byte 2 unless its byte is x.
@@ -110,13 +134,20 @@ fn note_others(kinds: &[u8], a: &[u16], b: &[u16], x: u8, seen: &mut [u8])
 }
 
 // Gives the byte 2 to each wet basin whose byte is another than that of the lowest wet basin.
-pub fn note_side(n: usize, kinds: &[u8], a: &[u16], b: &[u16], seen: &mut [u8])
-    requires { ⌜ Table n (now a) (now b) ⌝ }
-    requires { ⌜ length (now kinds) ≡ length (now a) ⌝ }
+pub fn note_side(
+    n: usize,
+    kinds: &[u8],
+    a: &[u16],
+    b: &[u16],
+    head: &[u16],
+    next: &[u16],
+    seen: &mut [u8],
+)
+    requires { ⌜ Tabled n (now kinds) (now a) (now b) (now head) (now next) ⌝ }
     requires { ⌜ n ≤ length (now seen) ⌝ }
     ensures { λ _. ⌜ FarSideNoted (netOf n (now (kinds .entry)) (now (a .entry)) (now (b .entry))) (now (seen .entry)) (now (seen .exit)) ⌝ }
 {
-    let low = lowest_wet(n, kinds, a, b);
+    let low = lowest_wet(n, kinds, a, b, head, next);
     if low < n {
         let x = seen[low];
         note_others(kinds, a, b, x, seen);

@@ -3,3 +3,4 @@ pub mod Laws
 pub mod Fills
 pub mod Halves
 pub mod Links
+pub mod Hands

@@ -22,13 +22,17 @@ use Rattle.network.proofs.Networks.{basin-in, basin-below, basin-wet}
 use Rattle.network.proofs.Walks.{walk-trans, walk-reached, reached-walk}
 use Rattle.half_edges.specs.Ends.{arcsOf}
 use Rattle.search.specs.Searches.{Searchable, Noted}
-use Rattle.basins.specs.Wet.{anyBasin, byteIs0, Lowest}
+use Rattle.basins.specs.Wet.{Tabled, anyBasin, byteIs0, Lowest}
 use Rattle.orienting.specs.Ready.{Ready, FirstUnreached, ShutInBasin}
 use Rattle.orienting.specs.Tries.{leftOut, ledRound, Tried, oriented, undecided}
 
 pub searchable : {n : ℕ} {xs ys ws head next seen queue : List ℕ} (start : ℕ) → Ready n xs ys ws head next seen queue → start < n → Searchable n xs ys ws head next start seen queue
 searchable start r l =
     record { table = r .table; ways-room = omega (arith, r .ways-full); index = r .index; starts = l; seen-room = r .seen-room; queue-room = r .queue-room }
+
+-- it is one whose wet basins can be told
+pub tabled : {n : ℕ} {ks xs ys ws head next seen queue : List ℕ} → Ready n xs ys ws head next seen queue → length ks ≡ length xs → Tabled n ks xs ys head next
+tabled r e = record { table = r .table; kinds-full = e; index = r .index }
 
 -- a table stays ready if its ways change, or what a search notes
 pub ready-ways : {n : ℕ} {xs ys ws head next seen queue : List ℕ} (ws′ : List ℕ) → Ready n xs ys ws head next seen queue → length ws′ ≡ length ws → Ready n xs ys ws′ head next seen queue

@@ -32,7 +32,7 @@ fn first_unreached(
         (arcsOf (now (a .entry)) (now (b .entry)) (sided against (now (ways .entry)))) start r ⌝ }
 {
     search::search(n, a, b, ways, head, next, start, against, seen, queue);
-    basins::lowest_unseen(n, kinds, a, b, seen)
+    basins::lowest_unseen(n, kinds, a, b, head, next, seen)
 }
 
 // The lowest wet basin that does not reach all wet basins, or n if all do; low is the lowest: if it reaches all, a basin does exactly if it reaches low.
@@ -79,7 +79,7 @@ pub fn shut_in_basin(
     ensures { λ r. ⌜ ShutInBasin (netOf n (now (kinds .entry)) (now (a .entry)) (now (b .entry)))
         (arcsOf (now (a .entry)) (now (b .entry)) (now (ways .entry))) r ⌝ }
 {
-    let low = basins::lowest_wet(n, kinds, a, b);
+    let low = basins::lowest_wet(n, kinds, a, b, head, next);
     if low == n {
         return n;
     }

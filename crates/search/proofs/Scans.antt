@@ -1,6 +1,6 @@
 -- The scan of a basin: its loop's invariant, a turn, and what holds at the end.
 -- Assumes nothing.
-use Prim.Native.Nat.{ℕ, _+_, _%_, _≤_, _<_}
+use Prim.Native.Nat.{ℕ, _≤_, _<_}
 use mathlib.Core.Path.{_≡_}
 use mathlib.Core.Bool.{true, false}
 use mathlib.Core.List.{List}
@@ -12,6 +12,7 @@ use Rattle.half_edges.specs.Ends.{arcsOf, halves, endOf, otherOf, leaves, Next}
 use Rattle.half_edges.specs.Chains.{none, Last, nothing, last}
 use Rattle.search.specs.Searches.{Seen, Visited, Grown, more, Scanned}
 use Rattle.half_edges.proofs.Halves.{arc-half, half-arc}
+use Rattle.half_edges.proofs.Hands.{Current}
 use Rattle.search.proofs.Visits.{Grew, grew-trans, visited-grew, visited-seen}
 
 -- All half-edges at u from x on are done, and h is the last one below x.
@@ -22,21 +23,6 @@ pub record Scanning (xs ys ws : List ℕ) (u : ℕ) (seen₀ queue₀ : List ℕ
   pub done : (k : ℕ) → x ≤ k → k < halves xs → endOf xs ys k ≡ u → leaves ws k ≡ true → Seen seen (otherOf xs ys k)
   pub grown : Grown (Next (arcsOf xs ys ws) u) seen₀ queue₀ tail seen queue end
   pub grew : Grew seen₀ queue₀ tail seen queue end
-
--- the half-edge in hand is one that stands at u, and no other does between it and x
-pub record Current (xs ys : List ℕ) (x u h : ℕ) : Type 0 where
-  pub below : h < x
-  pub stands : endOf xs ys h ≡ u
-  pub gap : (k : ℕ) → h < k → k < x → endOf xs ys k ≡ u → ⊥
-
-pub current : {xs ys : List ℕ} {x u h : ℕ} → (h ≡ none → ⊥) → Last xs ys x u h → Current xs ys x u h
-current n (nothing e f) = absurd (n e)
-current n (last b s f) = record { below = b; stands = s; gap = f }
-
--- the one before it has a lower number, or there is none
-pub falls : {xs ys : List ℕ} {x v h : ℕ} → h < none → x ≤ h → (c : ℕ) → Last xs ys x v c → (c + 1) % 65536 < (h + 1) % 65536
-falls b l c (nothing e f) = omega arith
-falls b l c (last d e f) = omega arith
 
 module _ {xs ys ws : List ℕ} {u : ℕ} {seen₀ queue₀ : List ℕ} {tail : ℕ} where
   -- a turn: what h leads to, if it passes, is seen now

@@ -42,7 +42,7 @@ fn orient_all(
 {
     let r = completing::greedy(n, kinds, a, b, ways, head, next, 0, seen, queue);
     if r < a.len() {
-        basins::note_side(n, kinds, a, b, seen);
+        basins::note_side(n, kinds, a, b, head, next, seen);
         Found::Bridge(r)
     } else {
         Found::Oriented

@@ -3,7 +3,7 @@
 use native.Mathlib.Omega.{arith}
 use Rattle.half_edges.specs.Ends.{arcsOf, sided}
 use Rattle.tables.specs.Rows.{netOf}
-use Rattle.orienting.proofs.Readies.{searchable, unreached-first}
+use Rattle.orienting.proofs.Readies.{searchable, tabled, unreached-first}
 use Rattle.orienting.proofs.first_unreached.Statement.{statement}
 use Rattle.orienting.proofs.first_unreached.Tie as tie
 
@@ -13,7 +13,7 @@ search-requires c κs = let s = c .before .before .before .before .before .befor
 lowest-unseen-requires : tie.Need-lowest-unseen-requires
 lowest-unseen-requires c κs =
     let s = c .before .before .before .before .before .before .before .before .before .before .before .before .before .before .before .before in
-    (s .pre .0 .table, (s .pre .1 .0, omega (arith, s .pre .0 .seen-room, c .before .before .before .before .before .search .kept .1 .1 .1 .1 .1 .1 .1 .1 .0)))
+    (tabled (s .pre .0) (s .pre .1 .0), omega (arith, s .pre .0 .seen-room, c .before .before .before .before .before .search .kept .1 .1 .1 .1 .1 .1 .1 .1 .0))
 
 same-length : tie.Need-same-length
 same-length c = c .before .before .before .before .before .before .search .kept .1 .1 .1 .1 .1 .1 .1 .1 .0

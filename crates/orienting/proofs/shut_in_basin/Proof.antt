@@ -3,12 +3,12 @@
 use native.Mathlib.Omega.{arith}
 use Rattle.half_edges.specs.Ends.{arcsOf}
 use Rattle.tables.specs.Rows.{netOf}
-use Rattle.orienting.proofs.Readies.{shut-in-none}
+use Rattle.orienting.proofs.Readies.{tabled, shut-in-none}
 use Rattle.orienting.proofs.shut_in_basin.Statement.{statement}
 use Rattle.orienting.proofs.shut_in_basin.Tie as tie
 
 lowest-wet-requires : tie.Need-lowest-wet-requires
-lowest-wet-requires c κs = let s = c .before .before .before .before .before .before .before .before in (s .pre .0 .table, s .pre .1)
+lowest-wet-requires c κs = let s = c .before .before .before .before .before .before .before .before in tabled (s .pre .0) (s .pre .1)
 
 returns : tie.Need-returns
 returns c =

@@ -12,7 +12,8 @@ use Rattle.half_edges.proofs.Halves.{end-below}
 use Rattle.half_edges.proofs.Laws.{table-turned}
 use Rattle.search.proofs.Sides.{length-sided}
 use Rattle.search.proofs.Visits.{grew-none}
-use Rattle.search.proofs.Scans.{Scanning, Current, current, falls, turn-past, turn-through, renamed, scanned}
+use Rattle.half_edges.proofs.Hands.{Current, current, falls}
+use Rattle.search.proofs.Scans.{Scanning, turn-past, turn-through, renamed, scanned}
 use Rattle.search.proofs.scan.Statement.{statement}
 use Rattle.search.proofs.scan.Tie as tie
 

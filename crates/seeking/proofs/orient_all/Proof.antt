@@ -2,6 +2,7 @@
 -- Assumes nothing.
 use native.Mathlib.Omega.{arith}
 use mathlib.Core.Path.{sym, _∙_}
+use Rattle.orienting.proofs.Readies.{tabled}
 use Rattle.seeking.proofs.Rows.{open-completable, row-bridge, row-plan}
 use Rattle.seeking.proofs.orient_all.Statement.{statement}
 use Rattle.seeking.proofs.orient_all.Tie as tie
@@ -10,13 +11,13 @@ greedy-requires : tie.Need-greedy-requires
 greedy-requires c κs = let s = c .before .before .before .before .before .before .before .before .before .before .before in (s .pre .0, open-completable (s .args .n) (s .args .kinds .now) (s .args .a .now) (s .args .b .now) (s .pre .1))
 
 note-side-requires : tie.Need-note-side-requires
-note-side-requires c κs = let s = c .before .before .before .before .before .before .before .before .before .before .before .before .before .before .before .before .before .before .before .before in (s .pre .0 .table, (sym (s .pre .1 .level .ends-a), omega (arith, s .pre .0 .seen-room, c .before .before .before .before .before .before .before .before .greedy .kept .1 .1 .1 .1 .1 .1 .1 .1 .0)))
+note-side-requires c κs = let s = c .before .before .before .before .before .before .before .before .before .before .before .before .before .before .before .before .before .before .before .before in (tabled (s .pre .0) (sym (s .pre .1 .level .ends-a)), omega (arith, s .pre .0 .seen-room, c .before .before .before .before .before .before .before .before .greedy .kept .1 .1 .1 .1 .1 .1 .1 .1 .0))
 
 same-length : tie.Need-same-length
 same-length c = c .before .before .before .before .before .before .before .before .before .before .before .greedy .kept .1 .1 .1 .1 .0
 
 same-length-2 : tie.Need-same-length-2
-same-length-2 c = c .before .before .note-side .kept .1 .1 .1 .1 .0 ∙ c .before .before .before .before .before .before .before .before .before .before .before .greedy .kept .1 .1 .1 .1 .1 .1 .1 .1 .0
+same-length-2 c = c .before .before .note-side .kept .1 .1 .1 .1 .1 .1 .0 ∙ c .before .before .before .before .before .before .before .before .before .before .before .greedy .kept .1 .1 .1 .1 .1 .1 .1 .1 .0
 
 same-length-3 : tie.Need-same-length-3
 same-length-3 c = c .before .before .before .before .before .before .before .before .before .before .before .greedy .kept .1 .1 .1 .1 .1 .1 .1 .1 .1 .0
