@@ -87,7 +87,7 @@ shutCases =
     -- Case 3 with a third gate, shut, between the two: it has no byte.
     row (net 2 (G 0 1 ∷ shutReach (G 0 1) ∷ G 0 1 ∷ [])) (plan (0 ∷ 1 ∷ []))
     (comes (0 ∷ 0 ∷ []) (plan (0 ∷ 1 ∷ [])) ∷ comes (0 ∷ 1 ∷ []) (plan (1 ∷ 0 ∷ [])) ∷ comes (1 ∷ 0 ∷ []) (refused LastPlan) ∷ []) ∷
-    -- Case 4 shut: the same. With a loop at each basin they are wet, and nothing joins them: 9, marked {0}.
+    -- Case 4 shut: both are dry again. With a loop at each basin they are wet, and nothing joins them: 9, marked {0}.
     row (net 2 (shutReach (T 0 1) ∷ [])) (plan []) [] ∷
     row (net 2 (T 0 0 ∷ shutReach (T 0 1) ∷ F 1 1 ∷ [])) (shutIn (firstByte 1) 1) [] ∷
     -- Case 7 with reach 2 shut: the other two are lone, reach 0 the lower.
@@ -105,7 +105,7 @@ dryCases =
     row (net 2 (F 1 1 ∷ [])) (plan []) (comes [] (refused LastPlan) ∷ []) ∷
     -- A loop keeps its basin wet: three basins, T 0-2 and a loop at 1 are 9, marked {0, 2}.
     row (net 3 (T 0 2 ∷ F 1 1 ∷ [])) (shutIn (firstByte 5) 2) [] ∷
-    -- A shut reach keeps no basin wet: beside case 3 it leaves its far end dry, and alone both.
+    -- A shut reach keeps no basin wet: beside case 3 it leaves its far end dry, beside case 4 both its ends.
     row (net 3 (G 0 1 ∷ G 0 1 ∷ shutReach (T 1 2) ∷ [])) (plan (0 ∷ 1 ∷ [])) (comes (0 ∷ 1 ∷ []) (plan (1 ∷ 0 ∷ [])) ∷ []) ∷
     row (net 4 (T 0 1 ∷ shutReach (F 2 3) ∷ [])) (plan []) [] ∷
     -- A lone reach whose lowest wet basin is not 0, drawn either way: the side without basin 1, and no dry basin marked.
