@@ -4,12 +4,10 @@ use Prim.Native.Nat.{ℕ, _+_, _≤_, _<_}
 use native.Mathlib.Omega.{arith}
 use native.Mathlib.Decide.{ℕ-discrete}
 use mathlib.Core.Path.{_≡_, refl, sym, _∙_}
-use mathlib.Core.Logic.{⊎-elim}
 use mathlib.Core.Bool.{Bool, true, false, _&&_}
-use lib.Dec.{ltb, eqb}
-use borrow.Author.Tests.{ltb-true, ltb-false, eq-eqb, ne-eqb}
+use lib.Dec.{eqb}
+use borrow.Author.Tests.{eq-eqb, ne-eqb}
 use mathlib.Mathlib.Data.Bool.Basic.{and-elim-left, and-elim-right}
-use Rattle.lists.proofs.Bools.{decide, clash}
 use Rattle.network.specs.Networks.{Network, isWet}
 use Rattle.basins.specs.Wet.{Lowest}
 
@@ -54,14 +52,3 @@ module _ (N : Network) (test : ℕ → Bool) where
 
   pub lowest-none : (v : ℕ) → N .basins ≤ v → NoneBelow N test v → Lowest N test (N .basins)
   lowest-none v l f = record { bound = omega arith; lower = λ u b w. fails u (f u (omega arith)) w; at = λ b. absurd (omega arith) }
-
--- there is only one
-none-below : (N : Network) (test : ℕ → Bool) (r s : ℕ) → Lowest N test r → Lowest N test s → r < s → ⊥
-none-below N test r s l m h = let k = l .at (omega (arith, m .bound)) in clash (k .1) (m .lower r h (k .0))
-
-pub lowest-one : (N : Network) (test : ℕ → Bool) (r s : ℕ) → Lowest N test r → Lowest N test s → r ≡ s
-lowest-one N test r s l m =
-    ⊎-elim
-    (λ b. absurd (none-below N test r s l m (ltb-true r s b)))
-    (λ b. ⊎-elim (λ d. absurd (none-below N test s r m l (ltb-true s r d))) (λ d. omega (arith, ltb-false r s b, ltb-false s r d)) (decide (ltb s r)))
-    (decide (ltb r s))

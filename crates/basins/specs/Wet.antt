@@ -3,12 +3,11 @@
 -- Assumes nothing.
 use Prim.Native.Nat.{ℕ, _≤_, _<_}
 use mathlib.Core.Path.{_≡_}
-use mathlib.Core.Bool.{Bool, true, false, not, cond, _&&_, _||_}
+use mathlib.Core.Bool.{Bool, true, false, not, cond, _&&_}
 use mathlib.Core.List.{List}
-use lib.ListN.{length, getD}
+use lib.ListN.{length, getD, set}
 use lib.Dec.{eqb}
-use Rattle.network.specs.Networks.{Network, inService, isWet}
-use Rattle.network.specs.Tables.{stateOf}
+use Rattle.network.specs.Networks.{Network, isWet, lowestBasin}
 use Rattle.half_edges.specs.Chains.{Table, Index}
 
 -- A table of n basins with a kind for each reach, and the index of its half-edges.
@@ -34,19 +33,19 @@ pub record Lowest (N : Network) (test : ℕ → Bool) (r : ℕ) : Type 0 where
 
 -- ---- the other side
 
--- A reach of the kind, with ends v and w, has an end at basin u and is in service.
-abbrev pub servesAt : ℕ → ℕ → ℕ → ℕ → Bool
-servesAt kind v w u = inService (stateOf kind) && (eqb v u || eqb w u)
-
--- Of a basin's byte y: 2 if the basin is asked for and y is not x, and otherwise y.
+-- Of a basin's byte y: 2 if the basin is wet and y is not x, and otherwise y.
 abbrev pub otherByte : ℕ → Bool → ℕ → ℕ
-otherByte x asked y = cond (asked && not (eqb y x)) 2 y
+otherByte x wet y = cond (wet && not (eqb y x)) 2 y
 
--- The basins that are asked for and have another byte than x get the byte 2; every other byte is kept.
-pub record OthersNoted (x : ℕ) (asked : ℕ → Bool) (seen seen′ : List ℕ) : Type 0 where
-  pub bytes : (v : ℕ) → getD seen′ v 0 ≡ otherByte x (asked v) (getD seen v 0)
+-- The bytes with basin v's so changed.
+abbrev pub notedAt : Network → ℕ → ℕ → List ℕ → List ℕ
+notedAt N x v seen = cond (isWet N v && not (eqb (getD seen v 0) x)) (set seen v 2) seen
+
+-- The wet basins that have another byte than x get the byte 2; every other basin's byte is kept. What stands past the basins is free.
+pub record OthersNoted (N : Network) (x : ℕ) (seen seen′ : List ℕ) : Type 0 where
+  pub bytes : (v : ℕ) → v < N .basins → getD seen′ v 0 ≡ otherByte x (isWet N v) (getD seen v 0)
 
 -- What is marked of a lone reach is its side "without basin 0", which item 3 has "read as without the lowest wet basin". The bytes tell the sides apart: each wet
--- basin with another byte than the lowest wet basin gets the byte 2, and every other byte is kept. If all basins are dry, all bytes are.
-pub record FarSideNoted (N : Network) (seen seen′ : List ℕ) : Type 0 where
-  pub without : (w : ℕ) → Lowest N anyBasin w → OthersNoted (getD seen w 0) (isWet N) seen seen′
+-- basin with another byte than the lowest wet basin gets the byte 2.
+abbrev pub FarSideNoted : Network → List ℕ → List ℕ → Type 0
+FarSideNoted N seen seen′ = OthersNoted N (getD seen (lowestBasin N) 0) seen seen′

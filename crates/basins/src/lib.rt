@@ -1,15 +1,12 @@
-// Which basins are wet: the lowest, and the lowest that a search has not seen, each by a pass over the indexed half-edges that ends where it is found; and the
-// side of a lone reach that is marked, by a pass over the table.
+// Which basins are wet, by the indexed half-edges: the lowest, the lowest that a search has not seen, and the side of a lone reach that is marked.
 // The functions with a `requires` are for the crates above, which have checked it.
 ghost use mathlib.Core.Path.{_≡_};
 ghost use mathlib.Core.Bool.{_&&_};
 ghost use Prim.Native.Nat.{_≤_, _<_};
 ghost use lib.ListN.{length};
-ghost use lib.Dec.{eqb};
 ghost use Rattle.network.specs.Networks.{isWet};
 ghost use Rattle.tables.specs.Rows.{netOf};
-ghost use Rattle.half_edges.specs.Chains.{Table};
-ghost use Rattle.basins.specs.Wet.{Tabled, anyBasin, byteIs0, Lowest, servesAt, OthersNoted, FarSideNoted};
+ghost use Rattle.basins.specs.Wet.{Tabled, anyBasin, byteIs0, Lowest, notedAt, OthersNoted, FarSideNoted};
 use half_edges::NONE;
 
 // Whether basin v is wet: whether a reach in service has a half-edge there. Only the contract names the basin count and the ends.
@@ -97,39 +94,51 @@ pub fn lowest_unseen(
     n
 }
 
-// Gives basin v the byte 2 unless its byte is x.
-fn note_end(v: u16, x: u8, seen: &mut [u8])
-    requires { ⌜ v < length (now seen) ⌝ }
-    ensures { λ _. ⌜ OthersNoted x (eqb v) (now (seen .entry)) (now (seen .exit)) ⌝ }
+// Gives basin v the byte 2 if it is wet and its byte is not x.
+fn note_at(
+    n: usize,
+    kinds: &[u8],
+    a: &[u16],
+    b: &[u16],
+    head: &[u16],
+    next: &[u16],
+    v: usize,
+    x: u8,
+    seen: &mut [u8],
+)
+    requires { ⌜ Tabled n (now kinds) (now a) (now b) (now head) (now next) ⌝ }
+    requires { ⌜ n ≤ length (now seen) ⌝ }
+    requires { ⌜ v < n ⌝ }
+    ensures { λ _. ⌜ now (seen .exit) ≡ notedAt (netOf n (now (kinds .entry)) (now (a .entry)) (now (b .entry))) x v (now (seen .entry)) ⌝ }
 {
-    if seen[v as usize] != x {
-        seen[v as usize] = 2;
+    if seen[v] == x {
+        return;
     }
+    if !is_wet(n, kinds, a, b, head, next, v) {
+        return;
+    }
+    seen[v] = 2;
 }
 
-// Does so at both ends of a reach in service.
-fn note_ends(kind: u8, v: u16, w: u16, x: u8, seen: &mut [u8])
-    requires { ⌜ v < length (now seen) ⌝ }
-    requires { ⌜ w < length (now seen) ⌝ }
-    ensures { λ _. ⌜ OthersNoted x (servesAt kind v w) (now (seen .entry)) (now (seen .exit)) ⌝ }
+// Does so at each basin.
+fn note_others(
+    n: usize,
+    kinds: &[u8],
+    a: &[u16],
+    b: &[u16],
+    head: &[u16],
+    next: &[u16],
+    x: u8,
+    seen: &mut [u8],
+)
+    requires { ⌜ Tabled n (now kinds) (now a) (now b) (now head) (now next) ⌝ }
+    requires { ⌜ n ≤ length (now seen) ⌝ }
+    ensures { λ _. ⌜ OthersNoted (netOf n (now (kinds .entry)) (now (a .entry)) (now (b .entry))) x (now (seen .entry)) (now (seen .exit)) ⌝ }
 {
-    if kind < 3 {
-        note_end(v, x, seen);
-        note_end(w, x, seen);
-    }
-}
-
-// Gives the byte 2 to each wet basin whose byte is not x.
-fn note_others(kinds: &[u8], a: &[u16], b: &[u16], x: u8, seen: &mut [u8])
-    requires { ⌜ Table (length (now seen)) (now a) (now b) ⌝ }
-    requires { ⌜ length (now kinds) ≡ length (now a) ⌝ }
-    ensures { λ _. ⌜ OthersNoted x (isWet (netOf (length (now (seen .entry))) (now (kinds .entry)) (now (a .entry)) (now (b .entry))))
-        (now (seen .entry)) (now (seen .exit)) ⌝ }
-{
-    let mut i = 0;
-    while i < kinds.len() {
-        note_ends(kinds[i], a[i], b[i], x, seen);
-        i += 1;
+    let mut v = 0;
+    while v < n {
+        note_at(n, kinds, a, b, head, next, v, x, seen);
+        v += 1;
     }
 }
 
@@ -150,6 +159,6 @@ pub fn note_side(
     let low = lowest_wet(n, kinds, a, b, head, next);
     if low < n {
         let x = seen[low];
-        note_others(kinds, a, b, x, seen);
+        note_others(n, kinds, a, b, head, next, x, seen);
     }
 }

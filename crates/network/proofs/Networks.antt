@@ -2,7 +2,6 @@
 -- Assumes nothing.
 use Prim.Native.Nat.{ℕ, zero, suc, _≤_, _<_}
 use native.Mathlib.Omega.{arith}
-use native.Mathlib.Decide.{decLt}
 use mathlib.Core.Path.{_≡_, refl, sym, ap, subst, _∙_}
 use mathlib.Core.Bool.{Bool, true, false, not, cond, _&&_}
 use mathlib.Core.Logic.{_⊎_, inl, inr, ⊎-elim}
@@ -12,9 +11,9 @@ use lib.ListN.{length, getD}
 use lib.Dec.{leb, ltb, eqb}
 use borrow.Author.Tests.{leb-true, ltb-true, eqb-true, eq-eqb}
 use mathlib.Mathlib.Data.Bool.Basic.{and-elim-left, and-elim-right, and-intro, or-inl, or-inr}
-use Rattle.lists.proofs.Bools.{or-cases, clash}
+use Rattle.lists.proofs.Bools.{or-cases}
 use Rattle.lists.proofs.Lists.{length-cond-le}
-use Rattle.lists.proofs.Searches.{every-getD, some-getD, some-at, find-none, find-first, keep-in, keep-has, keep-same, keep-keep, find-keep, keep-first}
+use Rattle.lists.proofs.Searches.{every-getD, some-getD, some-at, find-lowest, keep-in, keep-has, keep-same, keep-keep, find-keep, keep-first}
 use Rattle.network.specs.declared.Kind.the-variants.{TwoWay}
 use Rattle.network.specs.declared.State.the-variants.{Shut}
 use Rattle.network.specs.declared.Reach.{Reach}
@@ -184,21 +183,10 @@ head-in (x ∷ l) m = List·Memᴰ·head refl
 pub lowest-in : (N : Network) {b : ℕ} → List·Memᴰ b (basinsOf N) → List·Memᴰ (lowestBasin N) (basinsOf N)
 lowest-in N m = head-in (basinsOf N) m
 
--- and none is lower
-pub lowest-least : (N : Network) (b : ℕ) → List·Memᴰ b (basinsOf N) → lowestBasin N ≤ b
+-- a wet basin with none below it is the lowest
+pub lowest-is : (N : Network) (w : ℕ) → w < N .basins → isWet N w ≡ true → ((v : ℕ) → v < w → isWet N v ≡ false) → lowestBasin N ≡ w
 unfolding basinsOf
-lowest-least N b m = go (find (isWet N) (range 0 (N .basins))) refl
-  where
-    wet : List·Memᴰ b (range 0 (N .basins)) × (isWet N b ≡ true)
-    wet = keep-in (isWet N) (range 0 (N .basins)) m
-
-    go : (o : Option ℕ) → find (isWet N) (range 0 (N .basins)) ≡ o → lowestBasin N ≤ b
-    go none e = clash (wet .1) (find-none (isWet N) e (wet .0))
-    go (some k) e = rw (keep-first (isWet N) 0 (range 0 (N .basins)) e) (least (decLt b k))
-      where
-        least : Dec (b < k) → k ≤ b
-        least (yes l) = clash (wet .1) (find-first (isWet N) 0 (N .basins) e b (omega arith) l)
-        least (no l) = omega arith
+lowest-is N w l wet lower = keep-first (isWet N) 0 (range 0 (N .basins)) (find-lowest (isWet N) 0 (N .basins) w (omega arith) (omega arith) wet (λ j a b. lower j b))
 
 -- ---- the ends of arcs
 

@@ -25,11 +25,11 @@ use Rattle.lists.proofs.Ranges.{range-in}
 use Rattle.network.proofs.Marks.{marks-same, bit-is}
 use Rattle.network.proofs.Walks.{reached-walk}
 use Rattle.network.proofs.Ways.{gated-in-service, shut-out}
-use Rattle.network.proofs.Networks.{basin-in, basin-below, basin-wet, basins-kept, basins-found, end-a-in, lowest-in, lowest-least, walk-in-basins}
+use Rattle.network.proofs.Networks.{basin-in, basin-below, basin-wet, basins-kept, basins-found, end-a-in, lowest-in, walk-in-basins}
 use Rattle.network.proofs.Bridges.{Alone, LoneSide, alone-facts, alone-rest, alone-same, side-basins, cut-unique, bridge-below, bridge-gated, bridge-blocks, bridge-side}
 use Rattle.tables.proofs.Laws.{ways-unoriented}
 use Rattle.marks.specs.Sets.{markedSet}
-use Rattle.basins.specs.Wet.{anyBasin, Lowest, otherByte, FarSideNoted}
+use Rattle.basins.specs.Wet.{otherByte, FarSideNoted}
 use Rattle.orienting.specs.Ready.{ShutInBasin}
 use Rattle.completing.specs.Greedy.{Greedy, all-oriented, bridge-at}
 use Rattle.orientations.proofs.Least.{least-first}
@@ -155,14 +155,6 @@ module _ (N : Network) where
           low-in : List·Memᴰ low (basinsOf N)
           low-in = lowest-in N (end-a-in N ok r below (gated-in-service ((reachAt N r) .state) (bridge-gated N r e)))
 
-          lowest : Lowest N anyBasin low
-          lowest =
-              record {
-                bound = omega (arith, basin-below N low low-in);
-                lower = λ v l wet. absurd (omega (arith, lowest-least N v (basin-in N v (omega (arith, basin-below N low low-in)) wet)));
-                at = λ l. (basin-wet N low low-in, refl);
-              }
-
           x : ℕ
           x = getD seen low 0
 
@@ -181,7 +173,7 @@ module _ (N : Network) where
           side =
               basins-kept N P
               ∙ keep-same (λ b. isWet N b && P b) (λ b. eqb (getD seen′ b 0) 2) (range 0 (N .basins))
-              (λ b m. sym (ap (λ (y : ℕ). eqb y 2) (noted .without low lowest .bytes b) ∙ noted-byte x (isWet N b) (getD seen b 0) (small b (omega (arith, (range-in 0 (N .basins) m) .1)))))
+              (λ b m. sym (ap (λ (y : ℕ). eqb y 2) (noted .bytes b (omega (arith, (range-in 0 (N .basins) m) .1))) ∙ noted-byte x (isWet N b) (getD seen b 0) (small b (omega (arith, (range-in 0 (N .basins) m) .1)))))
 
     -- ---- the three ends of the search
 
