@@ -13,4 +13,4 @@ pub mod Marks
 pub mod Order
 pub mod Services
 pub mod Choices
-pub mod Dug
+pub mod Enlarged

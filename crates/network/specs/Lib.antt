@@ -9,5 +9,5 @@ pub mod Marks
 pub mod Replies
 pub mod Services
 pub mod Choices
-pub mod Dug
+pub mod Enlarged
 pub mod Cases

@@ -1,4 +1,4 @@
 -- Items 1 and 3 of document 02 over the running calls.
 pub mod Services
-pub mod Dug
+pub mod Enlarged
 pub mod Tables

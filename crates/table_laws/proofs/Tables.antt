@@ -5,13 +5,13 @@ use mathlib.Core.List.{List}
 use Rattle.network.specs.Networks.{Network}
 use Rattle.network.specs.Replies.{firstReply, nextReply}
 use Rattle.network.proofs.Services.{service-first-reply, service-next-reply}
-use Rattle.network.proofs.Dug.{dug-first-reply, dug-next-reply}
+use Rattle.network.proofs.Enlarged.{enlarged-first-reply, enlarged-next-reply}
 use Rattle.replies.specs.declared.Answer.{Answer}
 use Rattle.replies.specs.Answers.{FirstCall, NextCall}
 use Rattle.planner_laws.proofs.Demands.{first-read, next-read}
 use Rattle.table_laws.specs.Tables.{FirstOfTables, NextOfTables}
 use Rattle.table_laws.proofs.Services.{service-over}
-use Rattle.table_laws.proofs.Dug.{dug-over}
+use Rattle.table_laws.proofs.Enlarged.{enlarged-over}
 
 module _ (N M : Network) {plan₁ marks₁ plan₂ marks₂ plan₁′ marks₁′ plan₂′ marks₂′ : List ℕ} {r₁ r₂ : Answer} where
   pub first-of-tables :
@@ -21,7 +21,7 @@ module _ (N M : Network) {plan₁ marks₁ plan₂ marks₂ plan₁′ marks₁�
         first-call = c;
         second-call = d;
         in-service = service-over N M firstReply (service-first-reply N) (first-read N c) (first-read M d);
-        with-dug = dug-over N M firstReply (λ ok more few. dug-first-reply N ok (M .basins) more few) (first-read N c) (first-read M d);
+        with-more = enlarged-over N M firstReply (λ ok more few. enlarged-first-reply N ok (M .basins) more few) (first-read N c) (first-read M d);
       }
 
   pub next-of-tables :
@@ -31,5 +31,5 @@ module _ (N M : Network) {plan₁ marks₁ plan₂ marks₂ plan₁′ marks₁�
         first-call = c;
         second-call = d;
         in-service = service-over N M (λ L. nextReply L s) (λ ok. service-next-reply N ok s) (next-read N s c) (next-read M s d);
-        with-dug = dug-over N M (λ L. nextReply L s) (λ ok more few. dug-next-reply N ok (M .basins) more few s) (next-read N s c) (next-read M s d);
+        with-more = enlarged-over N M (λ L. nextReply L s) (λ ok more few. enlarged-next-reply N ok (M .basins) more few s) (next-read N s c) (next-read M s d);
       }

@@ -25,7 +25,7 @@ use Rattle.network.specs.Bridges.{sides, isCut, reachAt, crossesAlone, i
 use Rattle.network.specs.Marks.{marksOf, onesIn}
 use Rattle.network.specs.Replies.{plan, lone, refused, shutInBasin, shutInSide, bridgeSide, shutInFinding, loneFinding, orLone, answer, firstAnswer, nextAnswer, roomFault, firstReply, nextReply}
 use Rattle.network.specs.Choices.{plans, boundByte, boundBytes}
-use Rattle.network.specs.Dug.{dug}
+use Rattle.network.specs.Enlarged.{enlarged}
 use Rattle.network.proofs.Ways.{gate-at, gated-in-service}
 use Rattle.network.proofs.Networks.{endsBelow, fault-none, tests-passed, accepted, wet-by, basin-below, basin-wet, end-a-in}
 use Rattle.network.proofs.Replies.{first-given, last-plan}
@@ -45,23 +45,23 @@ module _ (N : Network) (ok : Accepted N) (m : ℕ) (more : N .basins ≤ m) wher
   none-past : (i k : ℕ) → N .basins ≤ i → keep (isWet N) (range i k) ≡ []
   none-past i k l = keep-same (isWet N) (λ b. false) (range i k) (λ b mem. dry-past N ok b (omega (arith, (range-in i k mem) .0))) ∙ keep-none (range i k)
 
-  pub dug-accepted : m ≤ maxBasins → Accepted (dug N m)
-  dug-accepted few =
+  pub enlarged-accepted : m ≤ maxBasins → Accepted (enlarged N m)
+  enlarged-accepted few =
       let good = tests-passed N ok in
-      let count : goodCount (dug N m) ≡ true = and-intro (le-leb 1 m (omega (arith, (accepted N ok) .some-basin))) (le-leb m maxBasins few) in
-      let ends : goodEnds (dug N m) ≡ true =
+      let count : goodCount (enlarged N m) ≡ true = and-intro (le-leb 1 m (omega (arith, (accepted N ok) .some-basin))) (le-leb m maxBasins few) in
+      let ends : goodEnds (enlarged N m) ≡ true =
       every-make (endsBelow m) (N .reaches)
       (λ r mem.
       let low = every-at (endsBelow (N .basins)) (good .2) mem in
       and-intro
       (lt-ltb (r .a) m (omega (arith, ltb-true (r .a) (N .basins) (and-elim-left (ltb (r .a) (N .basins)) _ low))))
       (lt-ltb (r .b) m (omega (arith, ltb-true (r .b) (N .basins) (and-elim-right (ltb (r .a) (N .basins)) _ low))))) in
-      fault-none (dug N m) count (good .1) ends
+      fault-none (enlarged N m) count (good .1) ends
 
   -- "Such a basin doesn't count": those that count are the same
-  pub dug-basins : basinsOf (dug N m) ≡ basinsOf N
+  pub enlarged-basins : basinsOf (enlarged N m) ≡ basinsOf N
   unfolding basinsOf isWet
-  dug-basins =
+  enlarged-basins =
       let n = N .basins in
       let split : m ≡ n + (m - n) = omega (arith, more) in
       ap (λ (k : ℕ). keep (isWet N) (range 0 k)) split
@@ -70,66 +70,66 @@ module _ (N : Network) (ok : Accepted N) (m : ℕ) (more : N .basins ≤ m) wher
       ∙ ap (λ (l : List ℕ). keep (isWet N) (range 0 n) ++ l) (none-past (0 + n) (m - n) (omega arith))
       ∙ append-nil (keep (isWet N) (range 0 n))
 
-  pub dug-plan : (s : List ℕ) → isPlan (dug N m) s ≡ isPlan N s
+  pub enlarged-plan : (s : List ℕ) → isPlan (enlarged N m) s ≡ isPlan N s
   unfolding isPlan isSetting stronglyConnectedUnder
-  dug-plan s = ap (λ (bs : List ℕ). isSetting N s && stronglyConnected bs (arcsUnder N s)) dug-basins
+  enlarged-plan s = ap (λ (bs : List ℕ). isSetting N s && stronglyConnected bs (arcsUnder N s)) enlarged-basins
 
-  pub dug-passable : passable (dug N m) ≡ passable N
+  pub enlarged-passable : passable (enlarged N m) ≡ passable N
   unfolding passable stronglyConnectedUnder
-  dug-passable = ap (λ (bs : List ℕ). stronglyConnected bs (arcsUnder N (unoriented N))) dug-basins
+  enlarged-passable = ap (λ (bs : List ℕ). stronglyConnected bs (arcsUnder N (unoriented N))) enlarged-basins
 
-  pub dug-first : firstPlan (dug N m) ≡ firstPlan N
+  pub enlarged-first : firstPlan (enlarged N m) ≡ firstPlan N
   unfolding firstPlan
-  dug-first = find-same (isPlan (dug N m)) (isPlan N) (settings (gateCount N)) (λ s mem. dug-plan s)
+  enlarged-first = find-same (isPlan (enlarged N m)) (isPlan N) (settings (gateCount N)) (λ s mem. enlarged-plan s)
 
-  pub dug-next : (s : List ℕ) → nextPlan (dug N m) s ≡ nextPlan N s
+  pub enlarged-next : (s : List ℕ) → nextPlan (enlarged N m) s ≡ nextPlan N s
   unfolding nextPlan
-  dug-next s = find-same (λ p. before s p && isPlan (dug N m) p) (λ p. before s p && isPlan N p) (settings (gateCount N)) (λ p mem. rw (dug-plan p))
+  enlarged-next s = find-same (λ p. before s p && isPlan (enlarged N m) p) (λ p. before s p && isPlan N p) (settings (gateCount N)) (λ p mem. rw (enlarged-plan p))
 
   -- the same plans, and so the same bound gates
-  pub dug-plans : plans (dug N m) ≡ plans N
+  pub enlarged-plans : plans (enlarged N m) ≡ plans N
   unfolding plans
-  dug-plans = keep-same (isPlan (dug N m)) (isPlan N) (settings (gateCount N)) (λ s mem. dug-plan s)
+  enlarged-plans = keep-same (isPlan (enlarged N m)) (isPlan N) (settings (gateCount N)) (λ s mem. enlarged-plan s)
 
-  pub dug-bound : boundBytes (dug N m) ≡ boundBytes N
+  pub enlarged-bound : boundBytes (enlarged N m) ≡ boundBytes N
   unfolding boundBytes boundByte
-  dug-bound =
+  enlarged-bound =
       ap (λ (ps : List (List ℕ)). map (λ k. cond (every (λ p. eqb (getD p k 2) 0) ps) 0 (cond (every (λ p. eqb (getD p k 2) 1) ps) 1 2)) (range 0 (gateCount N)))
-      dug-plans
+      enlarged-plans
 
   -- the same findings, with the same marks
-  pub dug-shut-in : shutInFinding (dug N m) ≡ shutInFinding N
+  pub enlarged-shut-in : shutInFinding (enlarged N m) ≡ shutInFinding N
   unfolding shutInFinding shutInSide shutInBasin
-  dug-shut-in = rw dug-basins
+  enlarged-shut-in = rw enlarged-basins
 
-  pub dug-bridge : (i : ℕ) → isBridge (dug N m) i ≡ isBridge N i
+  pub enlarged-bridge : (i : ℕ) → isBridge (enlarged N m) i ≡ isBridge N i
   unfolding isBridge crossesAlone
-  dug-bridge i = ap (λ (bs : List ℕ). isGated ((reachAt N i) .state) && some? (λ S. isCut bs S && crossesAlone N S i) (sides bs)) dug-basins
+  enlarged-bridge i = ap (λ (bs : List ℕ). isGated ((reachAt N i) .state) && some? (λ S. isCut bs S && crossesAlone N S i) (sides bs)) enlarged-basins
 
-  pub dug-lone : (i : ℕ) → loneFinding (dug N m) i ≡ loneFinding N i
+  pub enlarged-lone : (i : ℕ) → loneFinding (enlarged N m) i ≡ loneFinding N i
   unfolding loneFinding bridgeSide crossesAlone
-  dug-lone i =
+  enlarged-lone i =
       ap (λ (bs : List ℕ). let marks = marksOf (Option·getD (find (λ S. not (elem (getD bs 0 0) S) && (isCut bs S && crossesAlone N S i)) (sides bs)) []) in lone i marks (onesIn marks))
-      dug-basins
+      enlarged-basins
 
-  pub dug-answer : (p : Option (List ℕ)) → answer (dug N m) p ≡ answer N p
+  pub enlarged-answer : (p : Option (List ℕ)) → answer (enlarged N m) p ≡ answer N p
   unfolding answer lowestBridge
-  dug-answer p = rw (dug-passable, find-same (isBridge (dug N m)) (isBridge N) (range 0 (length (N .reaches))) (λ i mem. dug-bridge i)) (go (passable N) (lowestBridge N))
+  enlarged-answer p = rw (enlarged-passable, find-same (isBridge (enlarged N m)) (isBridge N) (range 0 (length (N .reaches))) (λ i mem. enlarged-bridge i)) (go (passable N) (lowestBridge N))
     where
-      go : (b : Bool) (o : Option ℕ) → cond b (orLone (dug N m) o p) (shutInFinding (dug N m)) ≡ cond b (orLone N o p) (shutInFinding N)
-      go false o = dug-shut-in
+      go : (b : Bool) (o : Option ℕ) → cond b (orLone (enlarged N m) o p) (shutInFinding (enlarged N m)) ≡ cond b (orLone N o p) (shutInFinding N)
+      go false o = enlarged-shut-in
       go true none = refl
-      go true (some i) = dug-lone i
+      go true (some i) = enlarged-lone i
 
   -- what first and next reply to any input with an accepted table
   module _ (few : m ≤ maxBasins) where
-    pub dug-first-reply : (planLength marksLength : ℕ) → firstReply (dug N m) planLength marksLength ≡ firstReply N planLength marksLength
+    pub enlarged-first-reply : (planLength marksLength : ℕ) → firstReply (enlarged N m) planLength marksLength ≡ firstReply N planLength marksLength
     unfolding firstReply firstAnswer roomFault
-    dug-first-reply planLength marksLength = rw (dug-accepted few, ok, dug-first, dug-answer)
+    enlarged-first-reply planLength marksLength = rw (enlarged-accepted few, ok, enlarged-first, enlarged-answer)
 
-    pub dug-next-reply : (s : List ℕ) (planLength marksLength : ℕ) → nextReply (dug N m) s planLength marksLength ≡ nextReply N s planLength marksLength
+    pub enlarged-next-reply : (s : List ℕ) (planLength marksLength : ℕ) → nextReply (enlarged N m) s planLength marksLength ≡ nextReply N s planLength marksLength
     unfolding nextReply nextAnswer roomFault settingFault isSetting
-    dug-next-reply s planLength marksLength = rw (dug-accepted few, ok, dug-next s, dug-answer)
+    enlarged-next-reply s planLength marksLength = rw (enlarged-accepted few, ok, enlarged-next s, enlarged-answer)
 
 -- ---- all basins dry
 
