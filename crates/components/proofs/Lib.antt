@@ -1,0 +1,2 @@
+-- Laws of components and of the contracted network.
+pub mod Cases
