@@ -2,7 +2,7 @@
 use network::MAX_REACHES;
 ghost use Prim.Native.Nat.{_≤_};
 ghost use Rattle.network.specs.Networks.{maxReaches};
-ghost use Rattle.netfile_format.specs.Answers.{roomOf};
+ghost use Rattle.tables.specs.Rows.{roomOf};
 ghost use Rattle.lines.specs.Listings.{listing};
 ghost use Rattle.lines.specs.Puts.{Put};
 

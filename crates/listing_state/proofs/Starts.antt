@@ -17,12 +17,12 @@ use Rattle.network.specs.Networks.{maxReaches, Accepted}
 use Rattle.network.specs.Tables.{stateNumber, tableOf}
 use Rattle.network.specs.Replies.{refusalNumber}
 use Rattle.network.proofs.Networks.{accepted}
-use Rattle.tables.specs.Rows.{netOf}
+use Rattle.tables.specs.Rows.{netOf, roomOf, RowsFilled}
 use Rattle.netfile_format.specs.declared.ReadAnswer.{ReadAnswer}
 use Rattle.netfile_format.specs.declared.ReadAnswer.the-variants.{Refused, Read}
 use lib.Pow.{areBytes}
 use Rattle.netfile_format.specs.Files.{Reading, refused, read, readFile}
-use Rattle.netfile_format.specs.Answers.{roomOf, withRoom, reachesRead, RowsFilled, NetworkRead}
+use Rattle.netfile_format.specs.Answers.{withRoom, reachesRead, NetworkRead}
 use Rattle.tables.proofs.Laws.{table-of-rows}
 use Rattle.netfile_format.proofs.Files.{write-read}
 use Rattle.netfile_format.proofs.Calls.{room-kept, answer-refused, Counted, answer-read}

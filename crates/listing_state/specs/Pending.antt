@@ -8,9 +8,9 @@ use lib.ListN.{length, take, drop}
 use Rattle.network.specs.Networks.{Network, maxReaches}
 use Rattle.network.specs.Marks.{markBytes}
 use Rattle.network.specs.Replies.{nextReply}
-use Rattle.tables.specs.Rows.{netOf, gatesHeld}
+use Rattle.tables.specs.Rows.{netOf, gatesHeld, roomOf, RowsFilled}
 use Rattle.netfile_format.specs.Files.{Reading, readFile}
-use Rattle.netfile_format.specs.Answers.{roomOf, withRoom, reachesRead, RowsFilled}
+use Rattle.netfile_format.specs.Answers.{withRoom, reachesRead}
 use Rattle.lines.specs.declared.Due.{Due}
 use Rattle.lines.specs.declared.Due.the-variants as D
 use Rattle.lines.specs.Listings.{maxBytes, line, planText, endText, moreText, refusedText, replyLines, readingLines}

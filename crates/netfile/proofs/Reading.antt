@@ -17,10 +17,11 @@ use Rattle.network.specs.Networks.{Network, maxReaches}
 use Rattle.network.specs.Tables.{stateNumber, tableOf}
 use Rattle.network.proofs.Networks.{accepted}
 use Rattle.tables.proofs.Laws.{table-of-rows}
+use Rattle.tables.specs.Rows.{roomOf, RowsFilled}
 use Rattle.netfile_format.specs.declared.ReadAnswer.{ReadAnswer}
 use lib.Pow.{areBytes}
 use Rattle.netfile_format.specs.Files.{Reading, refused, read, readFile}
-use Rattle.netfile_format.specs.Answers.{roomOf, readAnswer, readingNumber, withRoom, reachesRead, RowsFilled, NetworkRead, leftIn}
+use Rattle.netfile_format.specs.Answers.{readAnswer, readingNumber, withRoom, reachesRead, NetworkRead, leftIn}
 use Rattle.netfile_format.proofs.Files.{write-read}
 use Rattle.packing.specs.declared.Packed.{Packed}
 use Rattle.packing.specs.Rows.{unpackedInto}

@@ -15,14 +15,14 @@ use Rattle.network.specs.declared.Refusal.the-variants.{ShortBuffer}
 use Rattle.network.specs.declared.Reach.{Reach}
 use Rattle.network.specs.Networks.{Network, tableFault}
 use Rattle.network.specs.Tables.{stateNumber, tableOf}
-use Rattle.tables.specs.Rows.{netOf}
+use Rattle.tables.specs.Rows.{netOf, roomOf, RowsFilled}
 use Rattle.tables.proofs.Laws.{table-of-rows}
 use Rattle.netfile_format.specs.declared.ReadAnswer.the-variants.{Refused, Read}
 use Rattle.file_records.specs.declared.WriteAnswer.the-variants.{Refused as Unwritten, Written}
 use lib.Pow.{areBytes}
 use Rattle.file_records.specs.Records.{twoBytes}
 use Rattle.netfile_format.specs.Files.{Reading, refused, read, readFile, reachRecords, fileOf}
-use Rattle.netfile_format.specs.Answers.{roomOf, readAnswer, withRoom, reachesRead, RowsFilled, NetworkRead, reachesAt, spanOf, Fills, NetworkWritten, readNumber, readingNumber}
+use Rattle.netfile_format.specs.Answers.{readAnswer, withRoom, reachesRead, NetworkRead, reachesAt, spanOf, Fills, NetworkWritten, readNumber, readingNumber}
 use Rattle.file_records.specs.declared.WriteAnswer.{WriteAnswer}
 use Rattle.file_records.specs.Puts.{Wrote, roomFor, WroteWhole}
 use Rattle.network.specs.Replies.{firstOf}

@@ -13,32 +13,15 @@ use Rattle.network.specs.declared.Reach.{Reach}
 use Rattle.network.specs.Bridges.{noReach}
 use Rattle.network.specs.Tables.{stateNumber}
 use Rattle.lists.specs.Words.{wordOf}
+use Rattle.tables.specs.Rows.{RowsFilled}
+use Rattle.tables.proofs.Filling.{RowFilled, filled-none, filled-more, filled-all}
 use Rattle.netfile_format.specs.Files.{recordState}
-use Rattle.netfile_format.specs.Answers.{recordLength, reachesAt, spanOf, RowsFilled, Fills}
+use Rattle.netfile_format.specs.Answers.{recordLength, reachesAt, spanOf, Fills}
 use Rattle.netfile_format.proofs.Steps.{reachFrom, front-ends}
 
 length-reaches : (n : ℕ) (f : List ℕ) → length (reachesAt n f) ≡ n
 length-reaches zero f = refl
 length-reaches (suc n) f = ap suc (length-reaches n (drop (recordLength (getD f 0 0)) f))
-
--- one row, of which the first i entries are the table's
-pub record RowFilled (g : Reach → ℕ) (t : List Reach) (row₀ row : List ℕ) (i : ℕ) : Type 0 where
-  pub is : row ≡ paste row₀ 0 (map g t) i
-  pub long : length row ≡ length row₀
-
-module _ (g : Reach → ℕ) (t : List Reach) (row₀ row : List ℕ) where
-  filled-none : RowFilled g t row₀ row₀ 0
-  filled-none = record { is = refl; long = refl }
-
-  filled-more :
-      (i v : ℕ) → RowFilled g t row₀ row i → i < length t → i < length row₀ → v ≡ g (getD t i noReach) → RowFilled g t row₀ (set row i v) (i + 1)
-  filled-more i v f p q e =
-      let value : getD (map g t) i (g noReach) ≡ v = List·getD-map g t i noReach ∙ sym e in
-      let next = paste-suc row₀ 0 (map g t) i (g noReach) (omega arith) (rw length-map p) in
-      record { is = ap (λ l. set l i v) (f .is) ∙ rw (zero-add i, add-one) (rw (zero-add i, value) at next); long = length-set row i v ∙ f .long }
-
-  filled-all : (i : ℕ) → RowFilled g t row₀ row i → i ≡ length t → row ≡ map g t ++ drop (length t) row₀
-  filled-all i f e = f .is ∙ rw (zero-add, e, take-all (length t) (map g t) (omega (arith, length-map t g)))
 
 -- the three rows after i reaches, the next of which stands at a position: the records that are left are those from there on, and the file has them whole
 pub record RowsFilling (file : List ℕ) (n : ℕ) (kinds₀ a₀ b₀ kinds a b : List ℕ) (i at : ℕ) : Type 0 where

@@ -1,9 +1,9 @@
 -- What the calls answer, and what they leave in the rows and buffers that they are lent.
 -- Assumes nothing.
-use Prim.Native.Nat.{ℕ, zero, suc, _+_, _≤_, min}
+use Prim.Native.Nat.{ℕ, zero, suc, _+_, _≤_}
 use mathlib.Core.Path.{_≡_}
 use mathlib.Core.Bool.{cond}
-use mathlib.Core.List.{List, [], _∷_, _++_, map}
+use mathlib.Core.List.{List, [], _∷_, _++_}
 use mathlib.Core.Option.{Option}
 use lib.ListN.{length, getD, drop}
 use lib.Dec.{leb, eqb}
@@ -12,7 +12,7 @@ use Rattle.network.specs.declared.Reach.{Reach}
 use Rattle.network.specs.declared.Refusal.{Refusal}
 use Rattle.network.specs.declared.Refusal.the-variants.{ShortBuffer}
 use Rattle.network.specs.Networks.{Network, inService, tableFault}
-use Rattle.network.specs.Tables.{stateNumber}
+use Rattle.tables.specs.Rows.{roomOf, RowsFilled}
 use Rattle.network.specs.Replies.{refusalNumber, firstOf}
 use Rattle.netfile_format.specs.declared.ReadAnswer.{ReadAnswer}
 use Rattle.netfile_format.specs.declared.ReadAnswer.the-variants.{Refused, Read}
@@ -34,10 +34,6 @@ abbrev pub readingNumber : Reading → ℕ
 readingNumber (refused r) = refusalNumber r
 readingNumber (read N) = 0
 
--- The room of three rows, which stand for the lent row of records: as many records as the shortest of them has entries.
-abbrev pub roomOf : List ℕ → List ℕ → List ℕ → ℕ
-roomOf kinds a b = min (length kinds) (min (length a) (length b))
-
 -- The reader, lent rows of so much room: 7 comes last. "Readers need a record for each reach".
 abbrev pub withRoom : ℕ → Reading → Reading
 withRoom room (refused r) = refused r
@@ -47,12 +43,6 @@ withRoom room (read N) = cond (leb (length (N .reaches)) room) (read N) (refused
 abbrev pub reachesRead : Reading → List Reach
 reachesRead (refused r) = []
 reachesRead (read N) = N .reaches
-
--- What writing a table leaves in the three rows: its numbers in the first entries; "all beyond is untouched".
-pub record RowsFilled (t : List Reach) (kinds a b kinds′ a′ b′ : List ℕ) : Type 0 where
-  pub kind-row : kinds′ ≡ map (λ r. stateNumber (r .state)) t ++ drop (length t) kinds
-  pub a-row : a′ ≡ map (λ r. r .a) t ++ drop (length t) a
-  pub b-row : b′ ≡ map (λ r. r .b) t ++ drop (length t) b
 
 -- What the reader answers to a file, its number, and what it leaves in the rows that it is lent.
 pub record NetworkRead (file kinds a b : List ℕ) (r : ReadAnswer) (kinds′ a′ b′ : List ℕ) : Type 0 where

@@ -15,10 +15,10 @@ use Rattle.netfile_format.specs.declared.ReadAnswer.{ReadAnswer}
 use Rattle.netfile_format.specs.declared.ReadAnswer.the-variants.{Refused, Read}
 use Rattle.file_records.specs.declared.WriteAnswer.{WriteAnswer}
 use Rattle.file_records.specs.declared.WriteAnswer.the-variants.{Refused as Unwritten, Written}
-use Rattle.tables.specs.Rows.{netOf}
+use Rattle.tables.specs.Rows.{netOf, roomOf, RowsFilled}
 use lib.Pow.{areBytes}
 use Rattle.netfile_format.specs.Files.{fileOf, Reading, refused, readFile}
-use Rattle.netfile_format.specs.Answers.{roomOf, readAnswer, withRoom, reachesRead, RowsFilled, NetworkRead, leftIn, ReadTable, writeFault, NetworkWritten}
+use Rattle.netfile_format.specs.Answers.{readAnswer, withRoom, reachesRead, NetworkRead, leftIn, ReadTable, writeFault, NetworkWritten}
 use Rattle.file_records.specs.Puts.{Wrote, roomFor, WroteWhole}
 use Rattle.network.specs.Replies.{firstOf}
 use Rattle.netfile_laws.specs.Laws.{networkAgain, NetworkWriteRead, TableWriteRead, fileAgain, NetworkReadWrite, TableReadWrite}

@@ -9,10 +9,11 @@ use lib.ListN.{length, drop}
 use Rattle.network.specs.declared.Reach.{Reach}
 use Rattle.network.specs.declared.Refusal.{Refusal}
 use Rattle.network.specs.Networks.{Network}
+use Rattle.tables.specs.Rows.{roomOf, RowsFilled}
 use Rattle.netfile_format.specs.declared.ReadAnswer.{ReadAnswer}
 use Rattle.file_records.specs.declared.WriteAnswer.{WriteAnswer}
 use Rattle.netfile_format.specs.Files.{Reading, refused, read, readFile, fileOf}
-use Rattle.netfile_format.specs.Answers.{roomOf, readAnswer, withRoom, reachesRead, RowsFilled, leftIn, writeFault}
+use Rattle.netfile_format.specs.Answers.{readAnswer, withRoom, reachesRead, leftIn, writeFault}
 use Rattle.file_records.specs.Puts.{bytesWritten, Wrote, roomFor}
 
 -- What a network is read as that was written: refused where the writer refuses it, else the network itself.

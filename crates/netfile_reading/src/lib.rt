@@ -4,6 +4,7 @@ use file_records::END;
 use file_records::Taken;
 use file_records::take_record;
 use file_records::word_at;
+ghost use Rattle.tables.specs.Rows.{RowsFilled};
 use netfile_format::FLAP;
 use netfile_format::GATED;
 use netfile_format::HEAD_DUE;
@@ -23,7 +24,7 @@ ghost use Rattle.network.specs.declared.State.the-variants.{InService};
 ghost use Rattle.network.specs.Tables.{stateNumber};
 ghost use Rattle.file_records.specs.Records.{takeRecord, takenAnswer};
 ghost use Rattle.netfile_format.specs.Files.{knownKind, reachDue, recordKind, recordState, goodInner, readReaches, readFile};
-ghost use Rattle.netfile_format.specs.Answers.{readAnswer, recordLength, reachesAt, Fills, RowsFilled};
+ghost use Rattle.netfile_format.specs.Answers.{readAnswer, recordLength, reachesAt, Fills};
 
 // The record at a position after the head, a reach or the end.
 fn reach_or_end(file: &[u8], at: usize) -> Taken

@@ -5,3 +5,4 @@ pub mod Faults
 pub mod Hangs
 pub mod Gathers
 pub mod Cuts
+pub mod Filling

@@ -6,10 +6,11 @@ use mathlib.Core.Path.{_≡_, sym, _∙_}
 use mathlib.Core.Bool.{true}
 use borrow.Author.Needs.{needs}
 use Rattle.tables.proofs.Laws.{table-short}
+use Rattle.tables.specs.Rows.{roomOf}
 use Rattle.netfile_format.specs.declared.ReadAnswer.the-variants.{Read}
 use lib.Pow.{areBytes}
 use Rattle.netfile_format.specs.Files.{readFile}
-use Rattle.netfile_format.specs.Answers.{readAnswer, roomOf}
+use Rattle.netfile_format.specs.Answers.{readAnswer}
 use Rattle.file_records.proofs.Records.{bytes-make}
 use Rattle.netfile_format.proofs.Calls.{call-refused, call-short, call-fills, call-read}
 use Rattle.netfile_rows.proofs.read_network.Statement.{statement}

@@ -1,0 +1,2 @@
+-- What stays of a table, written into rows.
+pub mod Filling

@@ -1,0 +1,2 @@
+-- What the calls that contract a network promise.
+pub mod Calls

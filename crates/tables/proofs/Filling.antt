@@ -1,0 +1,31 @@
+-- Rows that are filled from the front with the numbers of a table's reaches.
+-- Assumes nothing.
+use Prim.Native.Nat.{ℕ, _+_, _<_}
+use native.Mathlib.Nat.{zero-add}
+use native.Mathlib.Numerals.{add-one}
+use native.Mathlib.Omega.{arith}
+use mathlib.Core.Path.{_≡_, refl, sym, ap, _∙_}
+use mathlib.Core.List.{List, _++_, map}
+use lib.ListN.{length, getD, drop, set, length-set, length-map, List·getD-map}
+use lib.Seq.{take-all, paste, paste-suc}
+use Rattle.network.specs.declared.Reach.{Reach}
+use Rattle.network.specs.Bridges.{noReach}
+
+-- one row, of which the first i entries are the table's
+pub record RowFilled (g : Reach → ℕ) (t : List Reach) (row₀ row : List ℕ) (i : ℕ) : Type 0 where
+  pub is : row ≡ paste row₀ 0 (map g t) i
+  pub long : length row ≡ length row₀
+
+module _ (g : Reach → ℕ) (t : List Reach) (row₀ row : List ℕ) where
+  pub filled-none : RowFilled g t row₀ row₀ 0
+  filled-none = record { is = refl; long = refl }
+
+  pub filled-more :
+      (i v : ℕ) → RowFilled g t row₀ row i → i < length t → i < length row₀ → v ≡ g (getD t i noReach) → RowFilled g t row₀ (set row i v) (i + 1)
+  filled-more i v f p q e =
+      let value : getD (map g t) i (g noReach) ≡ v = List·getD-map g t i noReach ∙ sym e in
+      let next = paste-suc row₀ 0 (map g t) i (g noReach) (omega arith) (rw length-map p) in
+      record { is = ap (λ l. set l i v) (f .is) ∙ rw (zero-add i, add-one) (rw (zero-add i, value) at next); long = length-set row i v ∙ f .long }
+
+  pub filled-all : (i : ℕ) → RowFilled g t row₀ row i → i ≡ length t → row ≡ map g t ++ drop (length t) row₀
+  filled-all i f e = f .is ∙ rw (zero-add, e, take-all (length t) (map g t) (omega (arith, length-map t g)))

@@ -1,0 +1,2 @@
+-- Components by union-find.
+pub mod Forests
