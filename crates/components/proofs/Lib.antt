@@ -1,2 +1,3 @@
 -- Laws of components and of the contracted network.
+pub mod Components
 pub mod Cases
