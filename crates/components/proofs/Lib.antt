@@ -1,3 +1,5 @@
 -- Laws of components and of the contracted network.
 pub mod Components
+pub mod Kept
+pub mod Contracted
 pub mod Cases

@@ -1,0 +1,2 @@
+-- The laws of the contracted network.
+-- Assumes nothing.
