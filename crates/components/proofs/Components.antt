@@ -11,7 +11,7 @@ use mathlib.Core.Option.{Option, none, some}
 use mathlib.Mathlib.Data.Bool.Basic.{and-elim-left, and-elim-right, and-intro, bool-eq-false}
 use lib.ListN.{length, getD}
 use lib.Dec.{eqb}
-use borrow.Author.Tests.{eqb-true, eqb-false, eq-eqb, not-true}
+use borrow.Author.Tests.{eqb-true, eqb-false, eq-eqb, not-true, not-false}
 use Rattle.lists.specs.Lists.{range, some?, find, keep}
 use Rattle.lists.proofs.Bools.{decide, clash, same-test}
 use Rattle.lists.proofs.Ranges.{range-has, range-in, range-add, length-range}
@@ -82,6 +82,30 @@ two-way-arc : (t : List Reach) (i : ℕ) → i < length t → isTwoWay ((getD t 
 two-way-arc [] i l e = absurd (not-suc-le-zero l)
 two-way-arc (r ∷ t) zero l e = Memᴰ·append-left (twoWayArcs t) (arc-here (isTwoWay (r .state)) (r .a) (r .b) e)
 two-way-arc (r ∷ t) (suc i) l e = Memᴰ·append-right (cond (isTwoWay (r .state)) (passing 2 (r .a) (r .b)) []) (two-way-arc t i (le-of-suc-le-suc l) e)
+
+-- an arc comes from a two-way reach that has one of its ends there
+pub record TwoWayAt (t : List Reach) (c : ℕ) : Type 0 where
+  pub number : ℕ
+  pub below : number < length t
+  pub two-way : isTwoWay ((getD t number noReach) .state) ≡ true
+  pub ends : ((getD t number noReach) .a ≡ c) ⊎ ((getD t number noReach) .b ≡ c)
+
+pub arc-source : (t : List Reach) (c d : ℕ) → List·Memᴰ (arc c d) (twoWayArcs t) → TwoWayAt t c
+arc-source [] c d m = absurd (List·Memᴰ·not-nil m)
+arc-source (r ∷ t) c d m = ⊎-elim first (λ n. let k = arc-source t c d n in record { number = suc (k .number); below = omega (arith, k .below); two-way = k .two-way; ends = k .ends })
+    (List·Memᴰ·append-cases (cond (isTwoWay (r .state)) (passing 2 (r .a) (r .b)) []) m)
+  where
+    first : List·Memᴰ (arc c d) (cond (isTwoWay (r .state)) (passing 2 (r .a) (r .b)) []) → TwoWayAt (r ∷ t) c
+    first n =
+        ⊎-elim
+        (λ y. record {
+          number = 0;
+          below = omega arith;
+          two-way = y;
+          ends = ⊎-elim (λ e. inl (sym (arc-from e))) (λ o. ⊎-elim (λ e. inr (sym (arc-from e))) (λ z. absurd (List·Memᴰ·not-nil z)) (List·Memᴰ·cases-cons o)) (List·Memᴰ·cases-cons (rw y at n));
+        })
+        (λ y. absurd (List·Memᴰ·not-nil (rw y at n)))
+        (decide (isTwoWay (r .state)))
 
 -- ---- connected basins
 
@@ -210,6 +234,14 @@ module _ (N : Network) where
       let among : List·Memᴰ v (range 0 (N .basins)) = range-has 0 (N .basins) (omega arith) (omega arith) in
       let no-other = some-none (λ w. connected N b w && not (eqb w b)) (not-true _ e) among in
       ⊎-elim (λ y. eqb-true v b y) (λ n. clash (and-intro f (ap not n)) no-other) (decide (eqb v b))
+
+  -- in a component that is not of one there is another
+  pub singleton-other : (b : ℕ) → isSingleton N b ≡ false → (v : ℕ) × (v < N .basins) × (connected N b v ≡ true) × (v ≡ b → ⊥)
+  unfolding isSingleton
+  singleton-other b e =
+      let k = some-has (λ w. connected N b w && not (eqb w b)) (range 0 (N .basins)) (not-false _ e) in
+      let c = connected N b (k .0) in
+      (k .0, omega (arith, range-in 0 (N .basins) (k .1)), and-elim-left c _ (k .2), eqb-false (k .0) b (not-true _ (and-elim-right c _ (k .2))))
 
   pub singleton-is : (b : ℕ) → ((v : ℕ) → v < N .basins → connected N b v ≡ true → v ≡ b) → isSingleton N b ≡ true
   unfolding isSingleton

@@ -40,7 +40,7 @@ module _ (N : Network) where
   stays-serves i (InService k) a b e = refl
   stays-serves i (Shut k) a b e = absurd (false≢true e)
 
-  inner : (a b : ℕ) (s : Bool) → not (connected N a b) || s ≡ false → connected N a b ≡ true
+  pub inner : (a b : ℕ) (s : Bool) → not (connected N a b) || s ≡ false → connected N a b ≡ true
   inner a b s e = ⊎-elim (λ y. y) (λ n. clash (ap (λ (x : Bool). not x || s) n) e) (decide (connected N a b))
 
   dropped-alike : (i : ℕ) (d : State) (a b : ℕ) → (isTwoWay d ≡ true → connected N a b ≡ true) → inService d ≡ true → stays N i d a b ≡ false → componentNumber N a ≡ componentNumber N b
