@@ -1,6 +1,7 @@
 -- Laws of components: being connected is an equivalence, the representative is the lowest member, and the numbers of components tell them apart.
 -- Assumes nothing.
 use Prim.Native.Nat.{ℕ, zero, suc, _+_, _-_, _≤_, _<_}
+use native.Mathlib.Numerals.{add-one}
 use native.Mathlib.Omega.{arith}
 use mathlib.Core.Path.{_≡_, refl, sym, ap, subst, _∙_}
 use mathlib.Core.Bool.{Bool, true, false, cond, not, _&&_}
@@ -38,6 +39,9 @@ module _ (p : ℕ → Bool) where
 
   pub count-no : (i : ℕ) → p i ≡ false → length (keep p (range 0 (i + 1))) ≡ length (keep p (range 0 i))
   count-no i e = count-more i 1 ∙ rw e (omega arith)
+
+  pub count-next : (i : ℕ) → p i ≡ true → length (keep p (range 0 (suc i))) ≡ suc (length (keep p (range 0 i)))
+  count-next i e = ap (λ (k : ℕ). length (keep p (range 0 k))) (sym (add-one i)) ∙ count-yes i e ∙ add-one (length (keep p (range 0 i)))
 
   -- above one that passes there are more
   pub count-rises : (i j : ℕ) → p i ≡ true → i < j → length (keep p (range 0 i)) < length (keep p (range 0 j))
@@ -83,27 +87,27 @@ two-way-arc [] i l e = absurd (not-suc-le-zero l)
 two-way-arc (r ∷ t) zero l e = Memᴰ·append-left (twoWayArcs t) (arc-here (isTwoWay (r .state)) (r .a) (r .b) e)
 two-way-arc (r ∷ t) (suc i) l e = Memᴰ·append-right (cond (isTwoWay (r .state)) (passing 2 (r .a) (r .b)) []) (two-way-arc t i (le-of-suc-le-suc l) e)
 
--- an arc comes from a two-way reach that has one of its ends there
-pub record TwoWayAt (t : List Reach) (c : ℕ) : Type 0 where
+-- an arc comes from a two-way reach between its ends
+pub record TwoWayArc (t : List Reach) (c d : ℕ) : Type 0 where
   pub number : ℕ
   pub below : number < length t
   pub two-way : isTwoWay ((getD t number noReach) .state) ≡ true
-  pub ends : ((getD t number noReach) .a ≡ c) ⊎ ((getD t number noReach) .b ≡ c)
+  pub ends : (((getD t number noReach) .a ≡ c) × ((getD t number noReach) .b ≡ d)) ⊎ (((getD t number noReach) .b ≡ c) × ((getD t number noReach) .a ≡ d))
 
-pub arc-source : (t : List Reach) (c d : ℕ) → List·Memᴰ (arc c d) (twoWayArcs t) → TwoWayAt t c
+pub arc-source : (t : List Reach) (c d : ℕ) → List·Memᴰ (arc c d) (twoWayArcs t) → TwoWayArc t c d
 arc-source [] c d m = absurd (List·Memᴰ·not-nil m)
 arc-source (r ∷ t) c d m = ⊎-elim first (λ n. let k = arc-source t c d n in record { number = suc (k .number); below = omega (arith, k .below); two-way = k .two-way; ends = k .ends })
     (List·Memᴰ·append-cases (cond (isTwoWay (r .state)) (passing 2 (r .a) (r .b)) []) m)
   where
-    first : List·Memᴰ (arc c d) (cond (isTwoWay (r .state)) (passing 2 (r .a) (r .b)) []) → TwoWayAt (r ∷ t) c
+    ends : List·Memᴰ (arc c d) (passing 2 (r .a) (r .b)) → ((r .a ≡ c) × (r .b ≡ d)) ⊎ ((r .b ≡ c) × (r .a ≡ d))
+    ends n =
+        ⊎-elim (λ e. inl (sym (arc-from e), sym (arc-to e)))
+        (λ o. ⊎-elim (λ e. inr (sym (arc-from e), sym (arc-to e))) (λ z. absurd (List·Memᴰ·not-nil z)) (List·Memᴰ·cases-cons o)) (List·Memᴰ·cases-cons n)
+
+    first : List·Memᴰ (arc c d) (cond (isTwoWay (r .state)) (passing 2 (r .a) (r .b)) []) → TwoWayArc (r ∷ t) c d
     first n =
         ⊎-elim
-        (λ y. record {
-          number = 0;
-          below = omega arith;
-          two-way = y;
-          ends = ⊎-elim (λ e. inl (sym (arc-from e))) (λ o. ⊎-elim (λ e. inr (sym (arc-from e))) (λ z. absurd (List·Memᴰ·not-nil z)) (List·Memᴰ·cases-cons o)) (List·Memᴰ·cases-cons (rw y at n));
-        })
+        (λ y. record { number = 0; below = omega arith; two-way = y; ends = ends (rw y at n) })
         (λ y. absurd (List·Memᴰ·not-nil (rw y at n)))
         (decide (isTwoWay (r .state)))
 

@@ -2,9 +2,9 @@
 -- changes nothing.
 -- Assumes nothing.
 use Prim.Native.Nat.{ℕ, zero, suc, _+_, _≤_, _<_}
-use native.Mathlib.Nat.{zero-add}
+use native.Mathlib.Nat.{not-suc-le-zero, le-of-suc-le-suc, zero-add}
 use native.Mathlib.Omega.{arith}
-use mathlib.Core.Path.{_≡_, refl, sym, ap, subst, _∙_}
+use mathlib.Core.Path.{_≡_, refl, sym, ap, ap₂, subst, _∙_}
 use mathlib.Core.Bool.{Bool, true, false, cond, not, _&&_, _||_, true≢false, false≢true}
 use mathlib.Core.Logic.{_⊎_, inl, inr, ⊎-elim}
 use mathlib.Core.Option.{Option, none, some}
@@ -16,7 +16,7 @@ use lib.Dec.{leb, ltb, eqb}
 use borrow.Author.Tests.{leb-true, ltb-true, le-leb, lt-ltb, eqb-true, eqb-false, eq-eqb, not-true}
 use Rattle.lists.specs.Lists.{range, every, some?, find, keep}
 use Rattle.lists.proofs.Bools.{or-cases, decide, clash, same-test}
-use Rattle.lists.proofs.Ranges.{range-has, range-in, length-range}
+use Rattle.lists.proofs.Ranges.{range-has, range-in, map-range-same}
 use Rattle.lists.proofs.Searches.{every-at, every-make, every-from, some-make, some-has, some-at, some-getD, find-some, find-none, find-first, find-same, keep-same}
 use Rattle.network.specs.declared.Kind.the-variants.{Gated, Flap, TwoWay}
 use Rattle.network.specs.declared.State.{State}
@@ -34,7 +34,7 @@ use Rattle.network.proofs.Cuts.{strong-walks, walks-strong}
 use Rattle.network.proofs.Networks.{endsBelow, tests-passed, fault-none, accepted, WetBy, wet-make, wet-by, basin-in, basin-wet, basin-below, arcs-in-basins}
 use Rattle.components.specs.Components.{isTwoWay, twoWayArcs, connected, representative, isRepresentative, componentNumber, componentCount, isSingleton}
 use Rattle.components.specs.Contracted.{noneBefore, stays, contractedReach, contractedFrom, contracted}
-use Rattle.components.proofs.Components.{connected-refl, connected-sym, connected-trans, connected-walk, two-way-connects, representative-is, number-same, same-number, number-below, count-few, singleton-alone, singleton-other, singleton-is, TwoWayAt, arc-source}
+use Rattle.components.proofs.Components.{count-next, number-at, connected-refl, connected-sym, connected-trans, connected-walk, two-way-connects, representative-is, number-same, same-number, number-below, count-few, singleton-alone, singleton-other, singleton-is, arc-source}
 use Rattle.components.proofs.Kept.{stays-serves, inner, kept-few, KeptFrom, kept-from, kept-has, kept-gates, Mapped, kept-arcs, arcs-kept, two-way-passed}
 
 -- ---- its reaches
@@ -99,17 +99,15 @@ module _ (N : Network) where
     below : number < length (N .reaches)
     joins : joining b (reachAt N number) ≡ true
 
-  joining-at : (b c : ℕ) → connected N c b ≡ true → TwoWayAt (N .reaches) c → Joining b
-  joining-at b c e k =
-      let r = reachAt N (k .number) in
-      let near : connected N (r .a) c ≡ true =
-      ⊎-elim (λ q. rw q (connected-refl N c)) (λ q. subst (λ (x : ℕ). connected N (r .a) x ≡ true) q (two-way-connects N (k .number) (k .below) (k .two-way))) (k .ends) in
-      record { number = k .number; below = k .below; joins = and-intro (k .two-way) (connected-trans N (r .a) c b near e) }
-
-  -- the first step of a way to another basin
+  -- the first step of a way to another basin is along one
   step-out : (b v : ℕ) → Walk (twoWayArcs (N .reaches)) b v → (v ≡ b → ⊥) → Joining b
   step-out b v stay n = absurd (n refl)
-  step-out b v (step {v = d} m p) n = joining-at b b (connected-refl N b) (arc-source (N .reaches) b d m)
+  step-out b v (step {v = d} m p) n =
+      let k = arc-source (N .reaches) b d m in
+      let r = reachAt N (k .number) in
+      let near : connected N (r .a) b ≡ true =
+      ⊎-elim (λ q. rw (q .0) (connected-refl N b)) (λ q. subst (λ (x : ℕ). connected N (r .a) x ≡ true) (q .0) (two-way-connects N (k .number) (k .below) (k .two-way))) (k .ends) in
+      record { number = k .number; below = k .below; joins = and-intro (k .two-way) near }
 
   -- a reach in service that drops is within a component that has a two-way reach
   dropped-joining : (i : ℕ) (d : State) (a b : ℕ) → inService d ≡ true → (isTwoWay d ≡ true → (connected N a b ≡ true) × Joining a) → stays N i d a b ≡ false → (connected N a b ≡ true) × Joining a
@@ -234,3 +232,177 @@ module _ (N : Network) where
       let k = some-has (λ b. isWet N b && eqb (componentNumber N b) c) (range 0 (N .basins)) e in
       let wet = isWet N (k .0) in
       subst (λ (x : ℕ). isWet (contracted N) x ≡ true) (eqb-true (componentNumber N (k .0)) c (and-elim-right wet _ (k .2))) (wet-on (k .0) (and-elim-left wet _ (k .2))))
+
+  -- ---- plans
+
+  -- water gets between the components of basins as between the basins: along what stays, or within a component
+  walk-on : (h : List ℕ) {u v : ℕ} → Walk (arcsUnder N h) u v → Walk (arcsUnder (contracted N) h) (componentNumber N u) (componentNumber N v)
+  unfolding contracted
+  walk-on h stay = stay
+  walk-on h (step {u = c} {v = d} {w = w} m p) =
+      ⊎-elim
+      (λ k. step k (walk-on h p))
+      (λ e. subst (λ (x : ℕ). Walk (arcsUnder (contracted N) h) x (componentNumber N w)) (sym e) (walk-on h p))
+      (arcs-kept N 0 (N .reaches) h (two-way-connects N) c d m)
+
+  -- within a component it gets everywhere, whatever is hung
+  within : (h : List ℕ) (u v : ℕ) → connected N u v ≡ true → Walk (arcsUnder N h) u v
+  within h u v e = walk-within (two-way-passed (N .reaches) h) (connected-walk N u v e)
+
+  mapped : (h : List ℕ) (c d : ℕ) → List·Memᴰ (arc c d) (arcsUnder (contracted N) h) → Mapped N (arcsUnder N h) c d
+  unfolding contracted
+  mapped h c d m = kept-arcs N 0 (N .reaches) h c d m
+
+  module _ (ok : Accepted N) where
+    arc-below : (h : List ℕ) (c d : ℕ) → List·Memᴰ (arc c d) (arcsUnder N h) → (c < N .basins) × (d < N .basins)
+    arc-below h c d m =
+        let k = arcs-in-basins N ok (ways (N .reaches) h) (shut-out (N .reaches) h) c d m in
+        (basin-below N c (k .0), basin-below N d (k .1))
+
+    walk-back : (h : List ℕ) {x y : ℕ} → Walk (arcsUnder (contracted N) h) x y → (u v : ℕ) → u < N .basins → v < N .basins → componentNumber N u ≡ x → componentNumber N v ≡ y → Walk (arcsUnder N h) u v
+    walk-back h stay u v l m e f = within h u v (same-number N u v l m (e ∙ sym f))
+    walk-back h (step {u = c} {v = d} k p) u v l m e f =
+        let a = mapped h c d k in
+        let b = arc-below h (a .from) (a .to) (a .has) in
+        walk-trans (within h u (a .from) (same-number N u (a .from) l (b .0) (e ∙ a .from-is))) (step (a .has) (walk-back h p (a .to) v (b .1) m (sym (a .to-is)) f))
+
+    -- a component counts exactly if a basin in it does
+    counted-on : (b : ℕ) → List·Memᴰ b (basinsOf N) → List·Memᴰ (componentNumber N b) (basinsOf (contracted N))
+    counted-on b m = basin-in (contracted N) (componentNumber N b) (below-count b (basin-below N b m)) (wet-on b (basin-wet N b m))
+
+    counted-back : (c : ℕ) → List·Memᴰ c (basinsOf (contracted N)) → (b : ℕ) × List·Memᴰ b (basinsOf N) × (componentNumber N b ≡ c)
+    counted-back c m = let w = wet-member ok c (basin-wet (contracted N) c m) in (w .basin, basin-in N (w .basin) (w .below) (w .wet), w .is)
+
+    -- so the one is strongly connected exactly if the other is, whatever is hung
+    pub contracted-strong : (h : List ℕ) → stronglyConnectedUnder (contracted N) h ≡ stronglyConnectedUnder N h
+    unfolding stronglyConnectedUnder
+    contracted-strong h =
+        same-test (stronglyConnectedUnder (contracted N) h) (stronglyConnectedUnder N h)
+        (λ e. walks-strong (basinsOf N) (arcsUnder N h)
+        (λ u v mu mv. walk-back h (strong-walks (basinsOf (contracted N)) (arcsUnder (contracted N) h) e (componentNumber N u) (componentNumber N v) (counted-on u mu) (counted-on v mv)) u v (basin-below N u mu) (basin-below N v mv) refl refl))
+        (λ e. walks-strong (basinsOf (contracted N)) (arcsUnder (contracted N) h)
+        (λ c d mc md.
+        let u = counted-back c mc in
+        let v = counted-back d md in
+        rw (← u .2, ← v .2) (walk-on h (strong-walks (basinsOf N) (arcsUnder N h) e (u .0) (v .0) (u .1) (v .1)))))
+
+    -- "A setting is a plan of the folded network exactly if it is one of the first."
+    pub contracted-plan : (s : List ℕ) → isPlan (contracted N) s ≡ isPlan N s
+    unfolding isPlan isSetting
+    contracted-plan s = rw (contracted-gates, contracted-strong s)
+
+    pub contracted-setting : (s : List ℕ) → isSetting (contracted N) s ≡ isSetting N s
+    unfolding isSetting
+    contracted-setting s = rw contracted-gates
+
+    pub contracted-passable : passable (contracted N) ≡ passable N
+    unfolding passable
+    contracted-passable = rw contracted-gates (contracted-strong (unoriented N))
+
+    -- so it has the same first plan, the same next plan of every setting, and the same bound gates
+    pub contracted-first : firstPlan (contracted N) ≡ firstPlan N
+    unfolding firstPlan
+    contracted-first = rw contracted-gates (find-same (isPlan (contracted N)) (isPlan N) (settings (gateCount N)) (λ s m. contracted-plan s))
+
+    pub contracted-next : (s : List ℕ) → nextPlan (contracted N) s ≡ nextPlan N s
+    unfolding nextPlan
+    contracted-next s = rw contracted-gates (find-same (λ p. before s p && isPlan (contracted N) p) (λ p. before s p && isPlan N p) (settings (gateCount N)) (λ p m. ap (λ (b : Bool). before s p && b) (contracted-plan p)))
+
+    contracted-plans : plans (contracted N) ≡ plans N
+    unfolding plans
+    contracted-plans = rw contracted-gates (keep-same (isPlan (contracted N)) (isPlan N) (settings (gateCount N)) (λ s m. contracted-plan s))
+
+    contracted-byte : (k : ℕ) → boundByte (contracted N) k ≡ boundByte N k
+    unfolding boundByte
+    contracted-byte k = rw contracted-plans
+
+    pub contracted-bound : boundBytes (contracted N) ≡ boundBytes N
+    unfolding boundBytes
+    contracted-bound = rw contracted-gates (map-range-same (boundByte (contracted N)) (boundByte N) 0 (gateCount N) (λ k l m. contracted-byte k))
+
+-- ---- contracting again
+
+-- A network whose reaches are in service, its two-way reaches loops, and whose ends are below the basin count.
+record Settled (M : Network) : Type 0 where
+  serves : (i : ℕ) → i < length (M .reaches) → inService ((reachAt M i) .state) ≡ true
+  loops : (i : ℕ) → i < length (M .reaches) → isTwoWay ((reachAt M i) .state) ≡ true → (reachAt M i) .a ≡ (reachAt M i) .b
+  end-a : (i : ℕ) → i < length (M .reaches) → (reachAt M i) .a < M .basins
+  end-b : (i : ℕ) → i < length (M .reaches) → (reachAt M i) .b < M .basins
+
+module _ (M : Network) (settled : Settled M) where
+  -- no basin of it is connected with another
+  arc-loop : (c d : ℕ) → List·Memᴰ (arc c d) (twoWayArcs (M .reaches)) → c ≡ d
+  arc-loop c d m =
+      let k = arc-source (M .reaches) c d m in
+      let same = settled .loops (k .number) (k .below) (k .two-way) in
+      ⊎-elim (λ e. sym (e .0) ∙ same ∙ e .1) (λ e. sym (e .0) ∙ sym same ∙ e .1) (k .ends)
+
+  walk-loop : {u v : ℕ} → Walk (twoWayArcs (M .reaches)) u v → u ≡ v
+  walk-loop stay = refl
+  walk-loop (step {u = c} {v = d} m p) = arc-loop c d m ∙ walk-loop p
+
+  alone : (u v : ℕ) → connected M u v ≡ true → u ≡ v
+  alone u v e = walk-loop (connected-walk M u v e)
+
+  -- so each has its own number, and every reach stays as it is
+  represents : (v : ℕ) → v < M .basins → representative M v ≡ v
+  represents v l = representative-is M v v l (connected-refl M v) (λ u m e. omega (arith, alone v u e))
+
+  all-below : (k : ℕ) → k ≤ M .basins → length (keep (isRepresentative M) (range 0 k)) ≡ k
+  all-below zero l = refl
+  all-below (suc k) l = count-next (isRepresentative M) k (eq-eqb (representative M k) k (represents k (omega arith))) ∙ ap suc (all-below k (omega arith))
+
+  number-own : (v : ℕ) → v < M .basins → componentNumber M v ≡ v
+  number-own v l = number-at M v (represents v l) ∙ all-below v (omega arith)
+
+  single : (v : ℕ) → isSingleton M v ≡ true
+  single v = singleton-is M v (λ u l e. sym (alone v u e))
+
+  all-stay : (i : ℕ) (d : State) (a b : ℕ) → inService d ≡ true → stays M i d a b ≡ true
+  all-stay i (InService Gated) a b e = refl
+  all-stay i (InService Flap) a b e = or-inr (not (connected M a b)) _ (single a)
+  all-stay i (InService TwoWay) a b e = or-inl _ _ (single a)
+  all-stay i (Shut k) a b e = absurd (false≢true e)
+
+  same-reach : (r : Reach) → r .a < M .basins → r .b < M .basins → contractedReach M r ≡ r
+  same-reach r l m = rw (number-own (r .a) l, number-own (r .b) m)
+
+  same-reaches : (o : ℕ) (t : List Reach) → ((i : ℕ) → i < length t → (inService ((getD t i noReach) .state) ≡ true) × ((getD t i noReach) .a < M .basins) × ((getD t i noReach) .b < M .basins)) → contractedFrom M o t ≡ t
+  same-reaches o [] f = refl
+  same-reaches o (r ∷ t) f =
+      let k = f 0 (omega arith) in
+      rw (all-stay o (r .state) (r .a) (r .b) (k .0)) (ap₂ {C = List Reach} (λ x xs. x ∷ xs) (same-reach r (k .1) (k .2)) (same-reaches (suc o) t (λ i l. f (suc i) (omega arith))))
+
+  settled-same : contracted M ≡ M
+  unfolding contracted componentCount
+  settled-same = ap₂ net (all-below (M .basins) (omega arith)) (same-reaches 0 (M .reaches) (λ i l. (settled .serves i l, settled .end-a i l, settled .end-b i l)))
+
+-- what is contracted is such a network
+getD-in : {A : Type 0} (l : List A) (i : ℕ) (d : A) → i < length l → List·Memᴰ (getD l i d) l
+getD-in [] i d h = absurd (not-suc-le-zero h)
+getD-in (x ∷ l) zero d h = List·Memᴰ·head refl
+getD-in (x ∷ l) (suc i) d h = List·Memᴰ·tail (getD-in l i d (le-of-suc-le-suc h))
+
+module _ (N : Network) (ok : Accepted N) where
+  abbrev source : (i : ℕ) → i < length (contracted N .reaches) → KeptFrom N 0 (N .reaches) (reachAt (contracted N) i)
+  source i l = contracted-from N (reachAt (contracted N) i) (getD-in (contracted N .reaches) i noReach l)
+
+  contracted-settled : Settled (contracted N)
+  contracted-settled =
+      let f = accepted (contracted N) (contracted-accepted N ok) in
+      record {
+        serves = λ i l.
+            let k = source i l in
+            let r = reachAt N (k .number) in
+            rw (k .is) (stays-serves N (k .number) (r .state) (r .a) (r .b) (rw zero-add at (k .stayed)));
+        loops = λ i l e.
+            let k = source i l in
+            let r = reachAt N (k .number) in
+            rw (k .is) (number-same N (r .a) (r .b) (two-way-connects N (k .number) (k .below) (subst (λ (x : Reach). isTwoWay (x .state) ≡ true) (k .is) e)));
+        end-a = f .end-a;
+        end-b = f .end-b;
+      }
+
+  -- "Folding again changes nothing."
+  pub contracted-again : contracted (contracted N) ≡ contracted N
+  contracted-again = settled-same (contracted N) contracted-settled
