@@ -2,4 +2,5 @@
 pub mod Components
 pub mod Kept
 pub mod Contracted
+pub mod Replies
 pub mod Cases

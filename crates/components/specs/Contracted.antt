@@ -2,6 +2,7 @@
 -- proofs/Contracted.antt: "A setting is a plan of the folded network exactly if it is one of the first." "Folding again changes nothing."
 -- Assumes nothing.
 use Prim.Native.Nat.{ℕ, suc}
+use mathlib.Core.Path.{_≡_}
 use mathlib.Core.Bool.{Bool, true, false, cond, not, _&&_, _||_}
 use mathlib.Core.List.{List, [], _∷_}
 use lib.ListN.{take}
@@ -11,6 +12,7 @@ use Rattle.network.specs.declared.State.{State}
 use Rattle.network.specs.declared.State.the-variants.{InService, Shut}
 use Rattle.network.specs.declared.Reach.{Reach}
 use Rattle.network.specs.Networks.{Network, net}
+use Rattle.network.specs.Replies.{Outcome, number, planIn}
 use Rattle.components.specs.Components.{isTwoWay, connected, isSingleton, componentNumber, componentCount}
 
 -- No two-way reach in service of b's component has a number below i.
@@ -40,3 +42,8 @@ contractedFrom N i (r ∷ t) = cond (stays N i (r .state) (r .a) (r .b)) (contra
 -- The folded network.
 unfoldable pub contracted : Network → Network
 contracted N = net (componentCount N) (contractedFrom N 0 (N .reaches))
+
+-- "The same choices": two replies give the same plan, or have the same number. What a finding marks is of the network that was asked.
+pub record SameChoice (o o′ : Outcome) : Type 0 where
+  pub same-number : number o ≡ number o′
+  pub same-plan : planIn o ≡ planIn o′

@@ -11,7 +11,7 @@ use Rattle.network.specs.declared.Reach.{Reach}
 use Rattle.network.specs.declared.Refusal.{Refusal}
 use Rattle.network.specs.declared.Refusal.the-variants.{ShortBuffer}
 use Rattle.network.specs.Networks.{Network, tableFault}
-use Rattle.network.specs.Replies.{refusalNumber, firstOf}
+use Rattle.network.specs.Replies.{refusalNumber, faultNumber, firstOf}
 use Rattle.tables.specs.Rows.{roomOf, RowsFilled}
 use Rattle.components.specs.Contracted.{contracted}
 use Rattle.components.specs.Labels.{Joinable}
@@ -29,14 +29,10 @@ abbrev pub contractAnswer : Option Refusal → Network → ContractAnswer
 contractAnswer (some r) M = Refused r
 contractAnswer none M = Contracted (M .basins) (length (M .reaches))
 
--- Document 01's number of the answer, 0 where it is no refusal; and of what is refused.
+-- Document 01's number of the answer, 0 where it is no refusal.
 abbrev pub contractNumber : ContractAnswer → ℕ
 contractNumber (Refused r) = refusalNumber r
 contractNumber (Contracted n m) = 0
-
-abbrev pub faultNumber : Option Refusal → ℕ
-faultNumber (some r) = refusalNumber r
-faultNumber none = 0
 
 -- The reaches that are written: a refusal "writes nothing".
 abbrev pub reachesGiven : Option Refusal → Network → List Reach
