@@ -20,9 +20,13 @@ use Rattle.contraction.specs.declared.ContractAnswer.{ContractAnswer}
 use Rattle.contraction.specs.declared.ContractAnswer.the-variants.{Refused, Contracted}
 use Rattle.contraction.specs.declared.PackedAnswer.{PackedAnswer}
 
--- Document 02, item 4: "the buffer is as long as the table". A shorter one is refused 7, after 1, 2 and 3.
+-- Document 02, item 4: "the buffer is as long as the table". Refusal 7 of a table of so many reaches, where new rows or a buffer of this room are lent; it comes after 1, 2
+-- and 3.
+abbrev pub shortRoom : ℕ → ℕ → Option Refusal
+shortRoom m room = cond (leb m room) none (some ShortBuffer)
+
 unfoldable pub contractFault : Network → ℕ → Option Refusal
-contractFault N room = firstOf (tableFault N) (cond (leb (length (N .reaches)) room) none (some ShortBuffer))
+contractFault N room = firstOf (tableFault N) (shortRoom (length (N .reaches)) room)
 
 -- "The new basin and reach counts come back", or the refusal. M is the contracted network.
 abbrev pub contractAnswer : Option Refusal → Network → ContractAnswer

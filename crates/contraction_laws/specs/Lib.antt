@@ -1,0 +1,2 @@
+-- Item 4 of document 02, said of what a caller gets.
+pub mod Contractions
