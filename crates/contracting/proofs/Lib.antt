@@ -1,1 +1,5 @@
 -- What one turn of the filling does.
+pub mod Numbers
+pub mod Notes
+pub mod Parts
+pub mod Turns

@@ -63,17 +63,7 @@ fn contract_accepted(
 {
     let mut labels = [0u16; MAX_BASINS];
     let mut notes = [0u8; MAX_BASINS];
-    contract_in(
-        n,
-        kinds,
-        a,
-        b,
-        kinds2,
-        a2,
-        b2,
-        &mut labels,
-        &mut notes,
-    )
+    contract_in(n, kinds, a, b, kinds2, a2, b2, &mut labels, &mut notes)
 }
 
 // The contracted network: its reaches into the first entries of the new rows, which keep all others. The new rows must have room for as many reaches as the table has.
