@@ -1,7 +1,7 @@
 -- The notes of components as reaches come, and what they decide.
 -- Assumes nothing.
 use Prim.Native.Nat.{ℕ, suc, _<_}
-use mathlib.Core.Path.{_≡_, refl, sym, ap, ap₂, _∙_}
+use mathlib.Core.Path.{_≡_, refl, sym, ap, ap₂, _∙_, fun-ext}
 use mathlib.Core.Bool.{Bool, true, false, cond, not, _&&_, _||_}
 use mathlib.Core.List.{List, [], _∷_, _++_}
 use lib.ListN.{length, take}
@@ -33,11 +33,6 @@ some-more p (y ∷ xs) x = one (p y) (some? p (xs ++ (x ∷ []))) (some? p xs) (
     one : (b all front last : Bool) → not all ≡ not front && not last → not (b || all) ≡ not (b || front) && not last
     one true all front last e = refl
     one false all front last e = e
-
--- tests that agree find alike
-some-alike : {A : Type 0} (p q : A → Bool) (xs : List A) → ((x : A) → p x ≡ q x) → some? p xs ≡ some? q xs
-some-alike p q [] f = refl
-some-alike p q (x ∷ xs) f = ap₂ (λ a b. a || b) (f x) (some-alike p q xs f)
 
 -- ---- one reach more
 
@@ -76,11 +71,8 @@ module _ (N : Network) (i : ℕ) (l : i < length (N .reaches)) where
 
 none-alike : (N : Network) (i u v : ℕ) → connected N u v ≡ true → noneBefore N i u ≡ noneBefore N i v
 unfolding noneBefore
-none-alike N i u v h = ap not (some-alike (to u) (to v) (take i (N .reaches)) (λ r. ap (λ (b : Bool). isTwoWay (r .state) && b) (alike (r .a))))
+none-alike N i u v h = ap (λ (p : Reach → Bool). not (some? p (take i (N .reaches)))) (fun-ext (λ r. ap (λ (b : Bool). isTwoWay (r .state) && b) (alike (r .a))))
   where
-    to : ℕ → Reach → Bool
-    to w r = isTwoWay (r .state) && connected N (r .a) w
-
     alike : (w : ℕ) → connected N w u ≡ connected N w v
     alike w = same-test (connected N w u) (connected N w v) (λ e. connected-trans N w u v e h) (λ e. connected-trans N w v u e (connected-sym N u v h))
 

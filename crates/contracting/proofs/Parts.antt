@@ -9,11 +9,11 @@ use mathlib.Core.Bool.{Bool, true, false, cond}
 use mathlib.Core.List.{List, [], _∷_, _++_, append-nil}
 use lib.ListN.{length, getD, take, drop, length-take, length-append}
 use lib.Seq.{take-all, take-suc, split-at, getD-append-seam, length-take-le}
-use Rattle.lists.proofs.Lists.{length-cond-le}
 use Rattle.network.specs.declared.Reach.{Reach}
 use Rattle.network.specs.Networks.{Network}
 use Rattle.network.specs.Bridges.{noReach, reachAt}
 use Rattle.components.specs.Contracted.{stays, contractedReach, contractedFrom, contracted}
+use Rattle.components.proofs.Kept.{kept-few, staysAt}
 
 module _ (N : Network) where
   from-append : (i : ℕ) (t u : List Reach) → contractedFrom N i (t ++ u) ≡ contractedFrom N i t ++ contractedFrom N (i + length t) u
@@ -24,10 +24,6 @@ module _ (N : Network) where
       one true xs = refl
       one false xs = refl
 
-  from-short : (i : ℕ) (t : List Reach) → length (contractedFrom N i t) ≤ length t
-  from-short i [] = omega arith
-  from-short i (r ∷ t) = length-cond-le (stays N i (r .state) (r .a) (r .b)) (contractedReach N r) (contractedFrom N (suc i) t) (length t) (from-short (suc i) t)
-
   -- what stays of the first i reaches
   unfoldable pub keptTo : ℕ → List Reach
   keptTo i = contractedFrom N 0 (take i (N .reaches))
@@ -36,9 +32,9 @@ module _ (N : Network) where
   unfolding keptTo
   kept-none = refl
 
-  pub kept-few : (i : ℕ) → length (keptTo i) ≤ i
+  pub few-kept : (i : ℕ) → length (keptTo i) ≤ i
   unfolding keptTo
-  kept-few i = omega (arith, from-short 0 (take i (N .reaches)), length-take i (N .reaches))
+  few-kept i = omega (arith, kept-few N 0 (take i (N .reaches)), length-take i (N .reaches))
 
   pub kept-all : (i : ℕ) → length (N .reaches) ≤ i → keptTo i ≡ contracted N .reaches
   unfolding keptTo contracted
@@ -46,7 +42,7 @@ module _ (N : Network) where
 
   -- whether reach i stays
   abbrev pub staying : ℕ → Bool
-  staying i = stays N i ((reachAt N i) .state) ((reachAt N i) .a) ((reachAt N i) .b)
+  staying i = staysAt N i (reachAt N i)
 
   module _ (i : ℕ) (l : i < length (N .reaches)) where
     place : 0 + length (take i (N .reaches)) ≡ i

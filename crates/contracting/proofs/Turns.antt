@@ -23,7 +23,7 @@ use Rattle.contracting.specs.Filling.{staysBy, noteAfter, FillableOf, Fi
 use Rattle.components.proofs.Components.{number-same, same-number, number-below, count-few}
 use Rattle.contracting.proofs.Numbers.{number-kept}
 use Rattle.contracting.proofs.Notes.{note-here, note-there, note-alike, stays-by}
-use Rattle.contracting.proofs.Parts.{keptTo, kept-none, kept-few, kept-all, staying, kept-drops, kept-stays, kept-below, kept-at}
+use Rattle.contracting.proofs.Parts.{keptTo, kept-none, few-kept, kept-all, staying, kept-drops, kept-stays, kept-below, kept-at}
 
 -- After i reaches: k of them stay, and stand in the new rows; the notes are those after these reaches.
 pub record Filling (n : ℕ) (ks xs ys notes₀ ks₀ xs₀ ys₀ notes ks₂ xs₂ ys₂ : List ℕ) (k i : ℕ) : Type 0 where
@@ -123,7 +123,7 @@ module _ (n : ℕ) (ks xs ys labels notes₀ ks₀ xs₀ ys₀ : List ℕ) (p : 
 
       pub places : Places xs ys labels notes ks₂ xs₂ ys₂ k i
       places =
-          let few : k ≤ i = rw (f .kept) (kept-few N i) in
+          let few : k ≤ i = rw (f .kept) (few-kept N i) in
           record {
             a-here = omega (arith, p .rows .a-full);
             b-here = omega (arith, p .rows .b-full);
