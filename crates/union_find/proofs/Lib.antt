@@ -1,1 +1,2 @@
--- Forests of parents.
+-- The laws of roots, and of what is done to parents.
+pub mod Roots
