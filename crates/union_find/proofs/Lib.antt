@@ -1,2 +1,3 @@
--- The laws of roots, and of what is done to parents.
+-- The laws of roots and forests, and of the numbers that basins get.
 pub mod Roots
+pub mod Forests
