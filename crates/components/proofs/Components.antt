@@ -16,15 +16,12 @@ use borrow.Author.Tests.{eqb-true, eqb-false, eq-eqb, not-true, not-false}
 use Rattle.lists.specs.Lists.{range, some?, find, keep}
 use Rattle.lists.proofs.Bools.{decide, clash, same-test}
 use Rattle.lists.proofs.Ranges.{range-has, range-in, range-add, length-range}
-use Rattle.lists.proofs.Searches.{find-lowest, find-some, find-none, find-first, keep-first, keep-same, count-append, length-keep, some-make, some-has, some-none}
-use Rattle.network.specs.declared.Kind.the-variants.{Gated, Flap, TwoWay}
-use Rattle.network.specs.declared.State.{State}
-use Rattle.network.specs.declared.State.the-variants.{InService, Shut}
+use Rattle.lists.proofs.Searches.{find-lowest, find-some, find-none, find-first, keep-first, keep-same, count-append, length-keep, some-has, some-none}
 use Rattle.network.specs.declared.Reach.{Reach}
 use Rattle.network.specs.Networks.{Network}
-use Rattle.network.specs.Orientations.{Arc, arc, passing, Walk, stay, step, reached}
+use Rattle.network.specs.Orientations.{Arc, arc, passing, Walk, stay, step}
 use Rattle.network.specs.Bridges.{noReach, reachAt}
-use Rattle.network.proofs.Walks.{walk-trans, walk-arc, walk-along, walk-reached, reached-walk, reached-refl, arc-from, arc-to}
+use Rattle.network.proofs.Walks.{walk-trans, walk-arc, walk-reached, reached-walk, arc-from, arc-to}
 use Rattle.components.specs.Components.{isTwoWay, twoWayArcs, connected, component, representative, isRepresentative, componentNumber, componentCount, isSingleton}
 
 -- ---- how many numbers below another pass a test

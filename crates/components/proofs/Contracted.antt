@@ -1,40 +1,40 @@
 -- Laws of the contracted network: it is accepted and never larger, a component is wet exactly if one of its basins is, it has the same plans, and contracting it again
 -- changes nothing.
 -- Assumes nothing.
-use Prim.Native.Nat.{ℕ, zero, suc, _+_, _≤_, _<_}
+use Prim.Native.Nat.{ℕ, zero, suc, _≤_, _<_}
 use native.Mathlib.Nat.{not-suc-le-zero, le-of-suc-le-suc, zero-add}
 use native.Mathlib.Omega.{arith}
 use mathlib.Core.Path.{_≡_, refl, sym, ap, ap₂, subst, _∙_}
-use mathlib.Core.Bool.{Bool, true, false, cond, not, _&&_, _||_, true≢false, false≢true}
+use mathlib.Core.Bool.{Bool, true, false, not, _&&_, true≢false, false≢true}
 use mathlib.Core.Logic.{_⊎_, inl, inr, ⊎-elim}
 use mathlib.Core.Option.{Option, none, some}
-use mathlib.Core.List.{List, [], _∷_, _++_, map, List·Memᴰ, List·Memᴰ·head, List·Memᴰ·tail, List·Memᴰ·not-nil}
+use mathlib.Core.List.{List, [], _∷_, List·Memᴰ, List·Memᴰ·head, List·Memᴰ·tail}
 use mathlib.Mathlib.Data.Bool.Basic.{and-elim-left, and-elim-right, and-intro, or-inl, or-inr, bool-eq-false}
 use lib.ListN.{length, getD, take, length-take}
-use lib.Seq.{getD-take, length-take-le}
-use lib.Dec.{leb, ltb, eqb}
-use borrow.Author.Tests.{leb-true, ltb-true, le-leb, lt-ltb, eqb-true, eqb-false, eq-eqb, not-true}
-use Rattle.lists.specs.Lists.{range, every, some?, find, keep}
+use lib.Seq.{getD-take}
+use lib.Dec.{eqb}
+use borrow.Author.Tests.{le-leb, lt-ltb, eqb-true, eq-eqb}
+use Rattle.lists.specs.Lists.{range, some?, find, keep}
 use Rattle.lists.proofs.Bools.{or-cases, decide, clash, same-test}
 use Rattle.lists.proofs.Ranges.{range-has, range-in, map-range-same}
-use Rattle.lists.proofs.Searches.{every-at, every-make, every-from, some-make, some-has, some-at, some-getD, find-some, find-none, find-first, find-same, keep-same}
+use Rattle.lists.proofs.Searches.{every-make, some-make, some-has, some-at, find-some, find-none, find-first, find-same, keep-same}
 use Rattle.network.specs.declared.Kind.the-variants.{Gated, Flap, TwoWay}
 use Rattle.network.specs.declared.State.{State}
 use Rattle.network.specs.declared.State.the-variants.{InService, Shut}
 use Rattle.network.specs.declared.Reach.{Reach}
-use Rattle.network.specs.Networks.{Network, net, inService, endsAt, isWet, basinsOf, maxBasins, maxReaches, goodCount, goodLength, goodEnds, Accepted}
+use Rattle.network.specs.Networks.{Network, net, inService, endsAt, isWet, basinsOf, maxBasins, maxReaches, Accepted}
 use Rattle.network.specs.Settings.{gateCount, isSetting, before, settings}
-use Rattle.network.specs.Orientations.{Arc, arc, arcsUnder, Walk, stay, step, unoriented, ways}
+use Rattle.network.specs.Orientations.{arc, arcsUnder, Walk, stay, step, unoriented, ways}
 use Rattle.network.specs.Plans.{stronglyConnectedUnder, isPlan, passable, firstPlan, nextPlan}
 use Rattle.network.specs.Bridges.{noReach, reachAt}
 use Rattle.network.specs.Choices.{plans, boundByte, boundBytes}
-use Rattle.network.proofs.Walks.{walk-trans, walk-arc, walk-within}
+use Rattle.network.proofs.Walks.{walk-trans, walk-within}
 use Rattle.network.proofs.Ways.{shut-out}
 use Rattle.network.proofs.Cuts.{strong-walks, walks-strong}
-use Rattle.network.proofs.Networks.{endsBelow, tests-passed, fault-none, accepted, WetBy, wet-make, wet-by, basin-in, basin-wet, basin-below, arcs-in-basins}
+use Rattle.network.proofs.Networks.{endsBelow, fault-none, accepted, wet-make, wet-by, basin-in, basin-wet, basin-below, arcs-in-basins}
 use Rattle.components.specs.Components.{isTwoWay, twoWayArcs, connected, representative, isRepresentative, componentNumber, componentCount, isSingleton}
 use Rattle.components.specs.Contracted.{noneBefore, stays, contractedReach, contractedFrom, contracted}
-use Rattle.components.proofs.Components.{count-next, number-at, connected-refl, connected-sym, connected-trans, connected-walk, two-way-connects, representative-is, number-same, same-number, number-below, count-few, singleton-alone, singleton-other, singleton-is, arc-source}
+use Rattle.components.proofs.Components.{count-next, number-at, connected-refl, connected-trans, connected-walk, two-way-connects, representative-is, number-same, same-number, number-below, count-few, singleton-other, singleton-is, arc-source}
 use Rattle.components.proofs.Kept.{stays-serves, inner, kept-few, KeptFrom, kept-from, kept-has, kept-gates, Mapped, kept-arcs, arcs-kept, two-way-passed}
 
 -- ---- its reaches

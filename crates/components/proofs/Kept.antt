@@ -3,7 +3,7 @@
 use Prim.Native.Nat.{ℕ, zero, suc, _+_, _≤_, _<_}
 use native.Mathlib.Nat.{not-suc-le-zero, le-of-suc-le-suc, add-zero, add-suc, suc-add}
 use native.Mathlib.Omega.{arith}
-use mathlib.Core.Path.{_≡_, refl, sym, ap, ap₂, subst, _∙_}
+use mathlib.Core.Path.{_≡_, refl, sym, ap, ap₂, _∙_}
 use mathlib.Core.Bool.{Bool, true, false, cond, not, _||_, true≢false, false≢true}
 use mathlib.Core.Logic.{_⊎_, inl, inr, ⊎-elim}
 use mathlib.Core.List.{List, [], _∷_, _++_, List·Memᴰ, List·Memᴰ·head, List·Memᴰ·tail, List·Memᴰ·not-nil, List·Memᴰ·cases-cons, Memᴰ·append-left, Memᴰ·append-right, List·Memᴰ·append-cases}
@@ -22,7 +22,7 @@ use Rattle.network.proofs.Walks.{Within, arc-from, arc-to}
 use Rattle.network.proofs.Ways.{reachOf, plain-after}
 use Rattle.network.proofs.Networks.{passing-ends}
 use Rattle.components.specs.Components.{isTwoWay, twoWayArcs, connected, componentNumber, isSingleton}
-use Rattle.components.specs.Contracted.{noneBefore, stays, contractedReach, contractedFrom}
+use Rattle.components.specs.Contracted.{stays, contractedReach, contractedFrom}
 use Rattle.components.proofs.Components.{number-same}
 
 module _ (N : Network) where

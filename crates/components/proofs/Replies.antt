@@ -7,9 +7,9 @@ use mathlib.Core.List.{List}
 use mathlib.Core.Option.{Option, none, some}
 use Rattle.lists.proofs.Bools.{clash}
 use Rattle.network.specs.declared.Refusal.{Refusal}
-use Rattle.network.specs.Networks.{Network, tableFault, Accepted}
-use Rattle.network.specs.Settings.{gateCount, settingFault}
-use Rattle.network.specs.Plans.{isPlan, passable, firstPlan, nextPlan}
+use Rattle.network.specs.Networks.{Network, Accepted}
+use Rattle.network.specs.Settings.{settingFault}
+use Rattle.network.specs.Plans.{isPlan, firstPlan, nextPlan}
 use Rattle.network.specs.Replies.{Outcome, number, planIn, unless, answer, shutInFinding, loneFinding, firstAnswer, nextAnswer, roomFault, firstReply, nextReply}
 use Rattle.network.proofs.Replies.{Trichotomy, plans, no-way, one-bridge, trichotomy}
 use Rattle.components.specs.Contracted.{contracted, SameChoice}

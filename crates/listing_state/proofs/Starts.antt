@@ -6,7 +6,6 @@ use mathlib.Core.Path.{_≡_, refl, sym, ap, subst, _∙_}
 use mathlib.Core.Bool.{true}
 use mathlib.Core.List.{List, [], _∷_, _++_, map}
 use lib.ListN.{length, take, drop, length-append, length-map}
-use lib.Seq.{take-at}
 use lib.Dec.{ltb}
 use borrow.Author.Tests.{le-leb}
 use Rattle.lists.proofs.Lists.{take-min}
@@ -14,18 +13,16 @@ use mathlib.Mathlib.Data.Bool.Basic.{and-elim-left, and-elim-right, and-intro}
 use Rattle.network.specs.declared.Reach.{Reach}
 use Rattle.network.specs.declared.Refusal.{Refusal}
 use Rattle.network.specs.Networks.{maxReaches, Accepted}
-use Rattle.network.specs.Tables.{stateNumber, tableOf}
 use Rattle.network.specs.Replies.{refusalNumber}
 use Rattle.network.proofs.Networks.{accepted}
-use Rattle.tables.specs.Rows.{netOf, roomOf, RowsFilled}
+use Rattle.tables.specs.Rows.{netOf, roomOf}
 use Rattle.netfile_format.specs.declared.ReadAnswer.{ReadAnswer}
 use Rattle.netfile_format.specs.declared.ReadAnswer.the-variants.{Refused, Read}
 use lib.Pow.{areBytes}
 use Rattle.netfile_format.specs.Files.{Reading, refused, read, readFile}
 use Rattle.netfile_format.specs.Answers.{withRoom, reachesRead, NetworkRead}
-use Rattle.tables.proofs.Laws.{table-of-rows}
 use Rattle.netfile_format.proofs.Files.{write-read}
-use Rattle.netfile_format.proofs.Calls.{room-kept, answer-refused, Counted, answer-read}
+use Rattle.netfile_format.proofs.Calls.{room-kept, answer-refused, Counted, counted, same-network}
 use Rattle.listing_state.specs.declared.Lister.{Lister}
 use Rattle.listing_state.specs.declared.Started.{Started}
 use Rattle.lines.specs.Listings.{maxBytes, maxPlans, replyLines, readingLines, listing}
@@ -52,29 +49,10 @@ module _ (file kinds a b kinds′ a′ b′ : List ℕ) where
 
   module _ (n m : ℕ) (c : NetworkRead (take maxBytes file) kinds a b (Read n m) kinds′ a′ b′) where
     C : Counted (fileRead file kinds a b) n m
-    C = answer-read (fileRead file kinds a b) n m (sym (c .answer))
+    C = counted (take maxBytes file) kinds a b kinds′ a′ b′ n m c
 
-    abbrev t : List Reach
-    t = C .network .reaches
-
-    rows : RowsFilled t kinds a b kinds′ a′ b′
-    rows = subst (λ x. RowsFilled (reachesRead x) kinds a b kinds′ a′ b′) (C .is) (c .rows)
-
-    -- a row holds what was read in its first m entries
-    row-front : (g : Reach → ℕ) (row row′ : List ℕ) → row′ ≡ map g t ++ drop (length t) row → take m row′ ≡ map g t
-    row-front g row row′ e = ap (take m) e ∙ take-at (map g t) (drop (length t) row) m (length-map t g ∙ C .reaches)
-
-    same-table : tableOf (take m kinds′) (take m a′) (take m b′) ≡ t
-    same-table =
-        rw (
-          row-front (λ r. stateNumber (r .state)) kinds kinds′ (rows .kind-row),
-          row-front (λ r. r .a) a a′ (rows .a-row),
-          row-front (λ r. r .b) b b′ (rows .b-row),
-        )
-        (table-of-rows t)
-
-    same-network : netOf n (take m kinds′) (take m a′) (take m b′) ≡ C .network
-    same-network = λ i. record { basins = sym (C .basins) i; reaches = same-table i }
+    same : netOf n (take m kinds′) (take m a′) (take m b′) ≡ C .network
+    same = same-network (take maxBytes file) kinds a b kinds′ a′ b′ n m c
 
     -- the file is read
     pub start-read : (l : Lister) → areBytes (take maxBytes file) ≡ true → FirstLine n (take m kinds′) (take m a′) (take m b′) l → Starting file kinds a b (record { lister = l; reaches = m }) kinds′ a′ b′
@@ -86,7 +64,7 @@ module _ (file kinds a b kinds′ a′ b′ : List ℕ) where
               rw (C .is)
               (ap (λ (k : ℕ). pendingOf (netOf k (take m kinds′) (take m a′) (take m b′)) l) (state .basins-kept)
               ∙ state .lines
-              ∙ rw same-network
+              ∙ rw same
               (ap (replyLines (C .network) maxPlans) (first-roomy (C .network) good-table)));
         }
       where

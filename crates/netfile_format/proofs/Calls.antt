@@ -4,19 +4,17 @@ use Prim.Native.Nat.{ℕ, _+_, _-_, _≤_, _<_}
 use native.Mathlib.Omega.{arith}
 use mathlib.Core.Path.{_≡_, refl, sym, ap, subst, _∙_}
 use mathlib.Core.Bool.{Bool, true, false, cond, true≢false}
-use mathlib.Core.List.{List, [], _∷_, _++_, map}
+use mathlib.Core.List.{List, [], _∷_, _++_}
 use mathlib.Core.Option.{none, some}
-use lib.ListN.{length, take, drop, set, length-append, length-map}
-use lib.Seq.{sets, take-at}
+use lib.ListN.{length, take, drop, set}
+use lib.Seq.{sets}
 use lib.Dec.{leb}
 use borrow.Author.Tests.{le-leb, lt-leb}
 use Rattle.network.specs.declared.Refusal.{Refusal}
 use Rattle.network.specs.declared.Refusal.the-variants.{ShortBuffer}
-use Rattle.network.specs.declared.Reach.{Reach}
 use Rattle.network.specs.Networks.{Network, tableFault}
-use Rattle.network.specs.Tables.{stateNumber, tableOf}
 use Rattle.tables.specs.Rows.{netOf, roomOf, RowsFilled}
-use Rattle.tables.proofs.Laws.{table-of-rows}
+use Rattle.tables.proofs.Filling.{filled-long, filled-table}
 use Rattle.netfile_format.specs.declared.ReadAnswer.the-variants.{Refused, Read}
 use Rattle.file_records.specs.declared.WriteAnswer.the-variants.{Refused as Unwritten, Written}
 use lib.Pow.{areBytes}
@@ -119,32 +117,12 @@ module _ (file kinds a b kinds′ a′ b′ : List ℕ) (n m : ℕ) (c : Network
   rows : RowsFilled (counted .network .reaches) kinds a b kinds′ a′ b′
   rows = subst (λ x. RowsFilled (reachesRead x) kinds a b kinds′ a′ b′) (counted .is) (c .rows)
 
-  -- a row holds what was read in its first m entries
-  module _ (g : Reach → ℕ) (row row′ : List ℕ) (e : row′ ≡ map g (counted .network .reaches) ++ drop (length (counted .network .reaches)) row) where
-    row-long : m ≤ length row′
-    row-long =
-        omega
-        (arith, ap length e, length-append (map g (counted .network .reaches)) (drop (length (counted .network .reaches)) row), length-map (counted .network .reaches) g, counted .reaches)
-
-    row-front : take m row′ ≡ map g (counted .network .reaches)
-    row-front =
-        ap (take m) e
-        ∙ take-at (map g (counted .network .reaches)) (drop (length (counted .network .reaches)) row) m (length-map (counted .network .reaches) g ∙ counted .reaches)
-
+  -- they hold what was read in their first m entries
   pub rows-long : (m ≤ length kinds′) × (m ≤ length a′) × (m ≤ length b′)
-  rows-long = (row-long _ kinds kinds′ (rows .kind-row), row-long _ a a′ (rows .a-row), row-long _ b b′ (rows .b-row))
-
-  same-table : tableOf (take m kinds′) (take m a′) (take m b′) ≡ counted .network .reaches
-  same-table =
-      rw (
-        row-front (λ r. stateNumber (r .state)) kinds kinds′ (rows .kind-row),
-        row-front (λ r. r .a) a a′ (rows .a-row),
-        row-front (λ r. r .b) b b′ (rows .b-row),
-      )
-      (table-of-rows (counted .network .reaches))
+  rows-long = filled-long (counted .network .reaches) rows m (counted .reaches)
 
   pub same-network : netOf n (take m kinds′) (take m a′) (take m b′) ≡ counted .network
-  same-network = λ i. record { basins = sym (counted .basins) i; reaches = same-table i }
+  same-network = λ i. record { basins = sym (counted .basins) i; reaches = filled-table (counted .network .reaches) rows m (counted .reaches) i }
 
 -- ---- the writer
 

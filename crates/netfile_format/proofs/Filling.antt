@@ -1,13 +1,12 @@
 -- The second pass of the reader: rows that are filled from the front, and the reaches of a file by number.
 -- Assumes nothing.
 use Prim.Native.Nat.{ℕ, zero, suc, _+_, _-_, _≤_, _<_}
-use native.Mathlib.Nat.{zero-add, sub-zero}
-use native.Mathlib.Numerals.{add-one}
+use native.Mathlib.Nat.{sub-zero}
 use native.Mathlib.Omega.{arith}
 use mathlib.Core.Path.{_≡_, refl, sym, ap, _∙_}
-use mathlib.Core.List.{List, _∷_, _++_, map}
-use lib.ListN.{length, getD, take, drop, set, length-set, length-map, List·getD-map}
-use lib.Seq.{take-all, drop-drop, getD-drop, paste, paste-suc}
+use mathlib.Core.List.{List, _∷_}
+use lib.ListN.{length, getD, take, drop, set}
+use lib.Seq.{drop-drop, getD-drop}
 use Rattle.lists.proofs.Lists.{drop-one}
 use Rattle.network.specs.declared.Reach.{Reach}
 use Rattle.network.specs.Bridges.{noReach}

@@ -1,15 +1,18 @@
 -- Rows that are filled from the front with the numbers of a table's reaches.
 -- Assumes nothing.
-use Prim.Native.Nat.{ℕ, _+_, _<_}
+use Prim.Native.Nat.{ℕ, _+_, _≤_, _<_}
 use native.Mathlib.Nat.{zero-add}
 use native.Mathlib.Numerals.{add-one}
 use native.Mathlib.Omega.{arith}
 use mathlib.Core.Path.{_≡_, refl, sym, ap, _∙_}
 use mathlib.Core.List.{List, _++_, map}
-use lib.ListN.{length, getD, drop, set, length-set, length-map, List·getD-map}
-use lib.Seq.{take-all, paste, paste-suc}
+use lib.ListN.{length, getD, take, drop, set, length-set, length-append, length-map, List·getD-map}
+use lib.Seq.{take-all, take-at, paste, paste-suc}
 use Rattle.network.specs.declared.Reach.{Reach}
 use Rattle.network.specs.Bridges.{noReach}
+use Rattle.network.specs.Tables.{stateNumber, tableOf}
+use Rattle.tables.specs.Rows.{RowsFilled}
+use Rattle.tables.proofs.Laws.{table-of-rows}
 
 -- one row, of which the first i entries are the table's
 pub record RowFilled (g : Reach → ℕ) (t : List Reach) (row₀ row : List ℕ) (i : ℕ) : Type 0 where
@@ -29,3 +32,19 @@ module _ (g : Reach → ℕ) (t : List Reach) (row₀ row : List ℕ) where
 
   pub filled-all : (i : ℕ) → RowFilled g t row₀ row i → i ≡ length t → row ≡ map g t ++ drop (length t) row₀
   filled-all i f e = f .is ∙ rw (zero-add, e, take-all (length t) (map g t) (omega (arith, length-map t g)))
+
+-- Rows that a table was written into hold it in their first entries.
+module _ (t : List Reach) {kinds a b kinds′ a′ b′ : List ℕ} (rows : RowsFilled t kinds a b kinds′ a′ b′) (m : ℕ) (counted : length t ≡ m) where
+  module _ (g : Reach → ℕ) (row row′ : List ℕ) (e : row′ ≡ map g t ++ drop (length t) row) where
+    row-long : m ≤ length row′
+    row-long = omega (arith, ap length e, length-append (map g t) (drop (length t) row), length-map t g, counted)
+
+    row-front : take m row′ ≡ map g t
+    row-front = ap (take m) e ∙ take-at (map g t) (drop (length t) row) m (length-map t g ∙ counted)
+
+  pub filled-long : (m ≤ length kinds′) × (m ≤ length a′) × (m ≤ length b′)
+  filled-long = (row-long _ kinds kinds′ (rows .kind-row), row-long _ a a′ (rows .a-row), row-long _ b b′ (rows .b-row))
+
+  pub filled-table : tableOf (take m kinds′) (take m a′) (take m b′) ≡ t
+  filled-table =
+      rw (row-front (λ r. stateNumber (r .state)) kinds kinds′ (rows .kind-row), row-front (λ r. r .a) a a′ (rows .a-row), row-front (λ r. r .b) b b′ (rows .b-row)) (table-of-rows t)

@@ -1,0 +1,2 @@
+-- Item 4 of document 02 over the running calls.
+pub mod Contractions
