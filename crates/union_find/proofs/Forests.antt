@@ -1,17 +1,15 @@
 -- The parents of a network's basins, one reach after the other.
 -- Assumes nothing.
-use Prim.Native.Nat.{ℕ, min, _+_, _≤_, _<_}
+use Prim.Native.Nat.{ℕ, zero, suc, _+_, _≤_, _<_}
 use native.Mathlib.Omega.{arith}
 use native.Mathlib.Decide.{ℕ-discrete, decLe}
 use native.Mathlib.Numerals.{add-one}
 use mathlib.Core.Path.{_≡_, refl, sym, ap, subst, _∙_}
-use mathlib.Core.Bool.{Bool, true, false, cond, _||_, or-true}
-use mathlib.Core.Logic.{_⊎_, inl, inr, ⊎-elim}
+use mathlib.Core.Bool.{Bool, true, false}
+use mathlib.Core.Logic.{inl, inr, ⊎-elim}
 use mathlib.Core.List.{List, [], _∷_, _++_, append-nil, List·Memᴰ, List·Memᴰ·head, List·Memᴰ·not-nil, List·Memᴰ·append-cases, Memᴰ·append-left, Memᴰ·append-right}
-use lib.ListN.{length, getD, take}
-use lib.Seq.{take-suc, take-all}
-use lib.Dec.{eqb}
-use borrow.Author.Tests.{eq-eqb, ne-eqb}
+use lib.ListN.{length, getD, set, take, length-set}
+use lib.Seq.{getD-set-same, getD-set-other, take-suc, take-all}
 use Rattle.lists.specs.Lists.{range, keep}
 use Rattle.network.specs.declared.Reach.{Reach}
 use Rattle.network.specs.Networks.{Network, net}
@@ -24,9 +22,43 @@ use Rattle.tables.specs.Rows.{netOf}
 use Rattle.tables.proofs.Laws.{reachOf, table-at, row-length}
 use Rattle.components.specs.Components.{isTwoWay, twoWayArcs, connected, component, representative}
 use Rattle.components.specs.Labels.{Joinable}
-use Rattle.components.proofs.Components.{two-way-append, connected-walk, walk-connected, connected-refl, connected-sym, connected-trans, representative-is, representative-same, representative-below, representative-connected, representative-least}
-use Rattle.union_find.specs.Forests.{Separate, Rising, Root, top, joinedRoot, Joined, Forest}
-use Rattle.union_find.proofs.Roots.{root-unique}
+use Rattle.components.proofs.Components.{two-way-append, connected-walk, walk-connected, connected-refl, connected-sym, connected-trans, representative-is, representative-same, representative-connected, representative-least}
+use Rattle.union_find.specs.Forests.{Separate, Root, top, joinedRoot, Joined, Forest}
+use Rattle.union_find.proofs.Roots.{root-unique, joined-one, joined-other}
+
+-- ---- which numbers join
+
+-- only 2 is the number of a two-way reach in service
+pub two-way-test : (b : Bool) (k : ℕ) → (b ≡ true → k ≡ 2) → (b ≡ false → k ≡ 2 → ⊥) → b ≡ isTwoWay (stateOf k)
+two-way-test true k f g = rw (f refl)
+two-way-test false zero f g = refl
+two-way-test false (suc zero) f g = refl
+two-way-test false (suc (suc zero)) f g = absurd (g refl refl)
+two-way-test false (suc (suc (suc zero))) f g = refl
+two-way-test false (suc (suc (suc (suc zero)))) f g = refl
+two-way-test false (suc (suc (suc (suc (suc k))))) f g = refl
+
+-- ---- each basin alone
+
+-- The basins below v are their own parents.
+pub record Separating (n : ℕ) (p₀ p : List ℕ) (v : ℕ) : Type 0 where
+  pub within : v ≤ n
+  pub kept : length p ≡ length p₀
+  pub own : (u : ℕ) → u < v → getD p u 0 ≡ u
+
+module _ {n : ℕ} (p₀ : List ℕ) (long : n ≤ length p₀) where
+  pub separating-none : Separating n p₀ p₀ 0
+  separating-none = record { within = omega arith; kept = refl; own = λ u l. absurd (omega arith) }
+
+  pub separating-more : (p : List ℕ) (v : ℕ) → v < n → Separating n p₀ p v → Separating n p₀ (set p v v) (v + 1)
+  separating-more p v l s = record { within = omega arith; kept = length-set p v v ∙ s .kept; own = λ u m. go u m (ℕ-discrete u v) }
+    where
+      go : (u : ℕ) → u < v + 1 → Dec (u ≡ v) → getD (set p v v) u 0 ≡ u
+      go u m (yes same) = rw same (getD-set-same p v v 0 (omega (arith, s .kept)))
+      go u m (no other) = getD-set-other p v u v 0 other ∙ s .own u (omega arith)
+
+  pub separating-all : (p : List ℕ) (v : ℕ) → n ≤ v → Separating n p₀ p v → Separate n p
+  separating-all p v l s = record { long = omega (arith, s .kept); own = λ u m. s .own u (omega arith) }
 
 -- ---- no reach
 
@@ -34,7 +66,7 @@ walk-nowhere : {u v : ℕ} → Walk [] u v → v ≡ u
 walk-nowhere stay = refl
 walk-nowhere (step m p) = absurd (List·Memᴰ·not-nil m)
 
-pub forest-separate : (n : ℕ) {p : List ℕ} → Separate n p → Forest (net n []) p
+forest-separate : (n : ℕ) {p : List ℕ} → Separate n p → Forest (net n []) p
 forest-separate n {p} s =
     record {
       rising = record { long = s .long; parent = λ v l. omega (arith, s .own v l) };
@@ -49,7 +81,7 @@ unfolding representative component connected
 unjoined-representative n t t′ e v = ap (λ (A : List Arc). getD (keep (reached A v) (range 0 n)) 0 0) e
 
 module _ (n : ℕ) (t : List Reach) (r : Reach) where
-  pub forest-other : {p : List ℕ} → isTwoWay (r .state) ≡ false → Forest (net n t) p → Forest (net n (t ++ r ∷ [])) p
+  forest-other : {p : List ℕ} → isTwoWay (r .state) ≡ false → Forest (net n t) p → Forest (net n (t ++ r ∷ [])) p
   forest-other {p} e f = record { rising = f .rising; roots = λ v l. subst (λ (s : ℕ). Root p v s) (unjoined-representative n t (t ++ r ∷ []) same v) (f .roots v l) }
     where
       same : twoWayArcs t ≡ twoWayArcs (t ++ r ∷ [])
@@ -62,15 +94,8 @@ walk-alike : {A : List Arc} (f : ℕ → ℕ) → ((c d : ℕ) → List·Memᴰ 
 walk-alike f h stay = refl
 walk-alike f h (step {u = c} {v = d} m p) = h c d m ∙ walk-alike f h p
 
--- a joined root is one of the two roots, or another that is kept
-joined-one : (x y w : ℕ) → (w ≡ x) ⊎ (w ≡ y) → joinedRoot x y w ≡ min x y
-joined-one x y w (inl e) = rw (eq-eqb w x e)
-joined-one x y w (inr e) = ap (λ (b : Bool). cond (eqb w x || b) (min x y) w) (eq-eqb w y e) ∙ ap (λ (b : Bool). cond b (min x y) w) (or-true (eqb w x))
-
-joined-other : (x y w : ℕ) → (w ≡ x → ⊥) → (w ≡ y → ⊥) → joinedRoot x y w ≡ w
-joined-other x y w e f = rw (ne-eqb w x e, ne-eqb w y f)
-
 module _ (n : ℕ) (t : List Reach) (r : Reach) (joins : isTwoWay (r .state) ≡ true) (a-in : r .a < n) (b-in : r .b < n) where
+  -- the network without the reach, and with it
   abbrev N : Network
   N = net n t
 
@@ -87,6 +112,7 @@ module _ (n : ℕ) (t : List Reach) (r : Reach) (joins : isTwoWay (r .state) ≡
   across : connected N′ (r .a) (r .b) ≡ true
   across = walk-connected N′ (r .a) (r .b) (subst (λ (A : List Arc). Walk A (r .a) (r .b)) (sym arcs-more) (walk-arc (Memᴰ·append-right (twoWayArcs t) (List·Memᴰ·head refl))))
 
+  -- the lowest members of the components that it joins
   abbrev x : ℕ
   x = representative N (r .a)
 
@@ -155,7 +181,7 @@ module _ (n : ℕ) (t : List Reach) (r : Reach) (joins : isTwoWay (r .state) ≡
       representative-is N′ v (root v) (omega (arith, root-least v l)) (root-connected v l)
       (λ u m e. omega (arith, walk-alike root arc-alike (connected-walk N′ v u e), root-least u m))
 
-  pub forest-joined : {p p′ : List ℕ} → Forest N p → Joined n p (r .a) (r .b) p′ → Forest N′ p′
+  forest-joined : {p p′ : List ℕ} → Forest N p → Joined n p (r .a) (r .b) p′ → Forest N′ p′
   forest-joined {p} {p′} f j = record { rising = j .rising; roots = roots }
     where
       x-is : j .x ≡ x
@@ -179,10 +205,12 @@ pub joining-none : (n : ℕ) (ks xs ys : List ℕ) {p : List ℕ} → Separate n
 joining-none n ks xs ys s = record { within = omega arith; forest = forest-separate n s; kept = refl }
 
 module _ {n : ℕ} {ks xs ys : List ℕ} (j : Joinable n ks xs ys) {p₀ p : List ℕ} {i : ℕ} (h : Joining n ks xs ys p₀ p i) where
+  -- the table is as long as its kinds
   full : length (tableOf ks xs ys) ≡ length ks
   full = row-length ks xs ys (j .a-full) (j .b-full)
 
   module _ (l : i < length ks) where
+    -- the table with reach i, whose ends are basins
     one-more : take (i + 1) (tableOf ks xs ys) ≡ take i (tableOf ks xs ys) ++ reachOf (getD ks i 0) (getD xs i 0) (getD ys i 0) ∷ []
     one-more =
         rw add-one

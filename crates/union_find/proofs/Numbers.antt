@@ -4,7 +4,7 @@ use Prim.Native.Nat.{ℕ, _+_, _≤_, _<_}
 use native.Mathlib.Omega.{arith}
 use native.Mathlib.Decide.{ℕ-discrete}
 use mathlib.Core.Path.{_≡_, refl, sym, ap, subst, _∙_}
-use mathlib.Core.Bool.{Bool, true, false, not, _&&_}
+use mathlib.Core.Bool.{true, false, not, _&&_}
 use mathlib.Core.Logic.{⊎-elim}
 use mathlib.Core.List.{List}
 use mathlib.Mathlib.Data.Bool.Basic.{and-elim-left, and-elim-right}
@@ -12,7 +12,7 @@ use lib.ListN.{length, getD, set, length-set}
 use lib.Seq.{getD-set-same, getD-set-other}
 use lib.Dec.{eqb}
 use borrow.Author.Tests.{eqb-false, eq-eqb, ne-eqb, not-true, not-false}
-use Rattle.lists.specs.Lists.{range, some?, keep}
+use Rattle.lists.specs.Lists.{range, keep}
 use Rattle.lists.proofs.Bools.{decide}
 use Rattle.lists.proofs.Ranges.{range-in}
 use Rattle.lists.proofs.Searches.{some-has}
@@ -20,8 +20,8 @@ use Rattle.network.specs.Networks.{Network}
 use Rattle.components.specs.Components.{connected, representative, isRepresentative, componentNumber, componentCount, isSingleton}
 use Rattle.components.specs.Contracted.{noneBefore}
 use Rattle.components.specs.Labels.{noteAt, Labelled}
-use Rattle.components.proofs.Components.{count-yes, count-no, connected-sym, connected-trans, representative-connected, representative-least, representative-same, number-same, same-number, number-at, singleton-alone}
-use Rattle.union_find.specs.Forests.{Rising, Root, top, Forest, Numbered}
+use Rattle.components.proofs.Components.{count-yes, count-no, connected-sym, connected-trans, representative-connected, representative-least, number-same, same-number, number-at, singleton-alone}
+use Rattle.union_find.specs.Forests.{Rising, top, Forest, Numbered}
 use Rattle.union_find.proofs.Roots.{root-unique, root-parent}
 
 -- ---- a basin's parent
@@ -74,12 +74,14 @@ module _ {n : ℕ} {p₀ notes₀ p notes : List ℕ} {count v : ℕ} (rising : 
   pub parent-at : getD p v 0 ≤ v
   parent-at = omega (arith, h .above v (omega arith), rising .parent v l)
 
+  -- and there is room for its number
   pub here : v < length p
   here = omega (arith, h .kept, rising .long)
 
   -- ---- a parent that is lower
 
   module _ (lower : getD p v 0 < v) where
+    -- what stands at the parent, a number already given
     abbrev c : ℕ
     c = getD p (getD p v 0) 0
 
@@ -179,6 +181,7 @@ module _ {n : ℕ} {p₀ notes₀ p notes : List ℕ} {count v : ℕ} (rising : 
       none-passed : (u : ℕ) → u < v → connected N u v ≡ true → ⊥
       none-passed u m s = omega (arith, lowest, representative-least N v u (omega (arith, m, v-in)) (connected-sym N u v s))
 
+      -- and so none has its number
       new : (u : ℕ) → u < v → componentNumber N u ≡ count → ⊥
       new u m q = none-passed u m (same-number N u v (omega (arith, m, v-in)) v-in (q ∙ count-is))
 
@@ -206,6 +209,7 @@ module _ {n : ℕ} {p₀ notes₀ p notes : List ℕ} {count v : ℕ} (rising : 
 
 -- ---- all basins
 
+-- no reach has come, and the lowest members are counted
 none-yet : (N : Network) (v : ℕ) → noneBefore N 0 v ≡ true
 unfolding noneBefore
 none-yet N v = refl

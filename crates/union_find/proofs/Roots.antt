@@ -1,26 +1,25 @@
 -- Roots: above each basin stands one. What halving a way and joining two roots does to them.
 -- Assumes nothing.
-use Prim.Native.Nat.{ℕ, zero, suc, min, _+_, _≤_, _<_}
+use Prim.Native.Nat.{ℕ, zero, suc, min, _≤_, _<_}
 use native.Mathlib.Omega.{arith}
 use native.Mathlib.Decide.{ℕ-discrete, decLt}
-use mathlib.Core.Path.{_≡_, refl, sym, subst, _∙_}
-use mathlib.Core.Bool.{Bool, true, false, cond, _||_}
+use mathlib.Core.Path.{_≡_, refl, sym, ap, ap₂, subst, _∙_}
+use mathlib.Core.Bool.{Bool, cond, _||_, or-true, or-comm}
+use mathlib.Core.Logic.{_⊎_, inl, inr}
 use mathlib.Core.List.{List}
 use lib.ListN.{length, getD, set, length-set}
 use lib.Seq.{getD-set-same, getD-set-other}
 use lib.Dec.{eqb}
 use borrow.Author.Tests.{eq-eqb, ne-eqb}
-use Rattle.network.specs.Tables.{stateOf}
-use Rattle.components.specs.Components.{isTwoWay}
-use Rattle.union_find.specs.Forests.{Rising, Separate, Root, top, up, Found, joinedRoot, Joined}
+use Rattle.union_find.specs.Forests.{Rising, Root, top, up, Found, joinedRoot, Joined}
 
 module _ {p : List ℕ} where
   -- a root is its own parent, and no higher than the basins below it
-  pub root-own : {v r : ℕ} → Root p v r → getD p r 0 ≡ r
+  root-own : {v r : ℕ} → Root p v r → getD p r 0 ≡ r
   root-own (top e) = e
   root-own (up l h) = root-own h
 
-  pub root-low : {v r : ℕ} → Root p v r → r ≤ v
+  root-low : {v r : ℕ} → Root p v r → r ≤ v
   root-low (top e) = omega arith
   root-low (up l h) = omega (arith, l, root-low h)
 
@@ -36,9 +35,11 @@ module _ {p : List ℕ} where
   root-parent (top {r = r} e) = subst (λ (u : ℕ). Root p u r) (sym e) (top e)
   root-parent (up l h) = h
 
-  pub root-up : (v g : ℕ) {r : ℕ} → getD p v 0 ≡ g → g < v → Root p g r → Root p v r
+  -- a basin whose parent is g has the root above g
+  root-up : (v g : ℕ) {r : ℕ} → getD p v 0 ≡ g → g < v → Root p g r → Root p v r
   root-up v g {r} e l h = up {v = v} (omega arith) (subst (λ (u : ℕ). Root p u r) (sym e) h)
 
+  -- above each basin there is a root, since the parents fall
   module _ {n : ℕ} (rising : Rising n p) where
     root-step : (v : ℕ) → v < n → ((u : ℕ) → u < v → (r : ℕ) × Root p u r) → Dec (getD p v 0 < v) → (r : ℕ) × Root p v r
     root-step v l f (yes d) = let r = f (getD p v 0) d in (r .0, up d (r .1))
@@ -48,7 +49,7 @@ module _ {p : List ℕ} where
     root-below zero v l m = absurd (omega arith)
     root-below (suc k) v l m = root-step v m (λ u d. root-below k u (omega arith) (omega arith)) (decLt (getD p v 0) v)
 
-    pub root-exists : (v : ℕ) → v < n → (r : ℕ) × Root p v r
+    root-exists : (v : ℕ) → v < n → (r : ℕ) × Root p v r
     root-exists v l = root-below (suc v) v (omega arith) l
 
 -- ---- a way halved
@@ -58,6 +59,7 @@ abbrev pub halvedAt : List ℕ → ℕ → List ℕ
 halvedAt p x = set p x (getD p (getD p x 0) 0)
 
 module _ (p : List ℕ) (x : ℕ) (long : x < length p) (below : getD p x 0 < x) where
+  -- x has a new parent, the others have theirs
   here : getD (halvedAt p x) x 0 ≡ getD p (getD p x 0) 0
   here = getD-set-same p x (getD p (getD p x 0) 0) 0 long
 
@@ -69,7 +71,7 @@ module _ (p : List ℕ) (x : ℕ) (long : x < length p) (below : getD p x 0 < x)
     falls = rising .parent (getD p x 0) (omega arith)
 
     -- no root changes
-    pub root-halved : {u w : ℕ} → Root p u w → Root (halvedAt p x) u w
+    root-halved : {u w : ℕ} → Root p u w → Root (halvedAt p x) u w
     root-halved (top {r = r} e) = top (there r (λ same. absurd (omega (arith, below, subst (λ (u : ℕ). getD p u 0 ≡ u) same e))) ∙ e)
     root-halved (up {v = v} {r = r} l h) = go (ℕ-discrete v x) (root-halved h)
       where
@@ -127,6 +129,29 @@ module _ {n : ℕ} {p₀ : List ℕ} {v : ℕ} {p : List ℕ} {x : ℕ} (f : Fin
 
 -- ---- two roots joined
 
+-- what was the one or the other root becomes the lower of them, any other is kept
+pub joined-one : (x y w : ℕ) → (w ≡ x) ⊎ (w ≡ y) → joinedRoot x y w ≡ min x y
+joined-one x y w (inl e) = rw (eq-eqb w x e)
+joined-one x y w (inr e) = ap (λ (b : Bool). cond (eqb w x || b) (min x y) w) (eq-eqb w y e) ∙ ap (λ (b : Bool). cond b (min x y) w) (or-true (eqb w x))
+
+pub joined-other : (x y w : ℕ) → (w ≡ x → ⊥) → (w ≡ y → ⊥) → joinedRoot x y w ≡ w
+joined-other x y w e f = rw (ne-eqb w x e, ne-eqb w y f)
+
+joined-turned : (x y w : ℕ) → joinedRoot x y w ≡ joinedRoot y x w
+joined-turned x y w = ap₂ {C = ℕ} (λ b m. cond b m w) (or-comm (eqb w x) (eqb w y)) (omega arith)
+
+-- where the lower is known
+joined-lower : (x y w : ℕ) → x ≤ y → cond (eqb w y) x w ≡ joinedRoot x y w
+joined-lower x y w l = go (ℕ-discrete w x) (ℕ-discrete w y)
+  where
+    low : min x y ≡ x
+    low = omega arith
+
+    go : Dec (w ≡ x) → Dec (w ≡ y) → cond (eqb w y) x w ≡ joinedRoot x y w
+    go d (yes f) = ap (λ (b : Bool). cond b x w) (eq-eqb w y f) ∙ sym (joined-one x y w (inr f) ∙ low)
+    go (yes e) (no f) = ap (λ (b : Bool). cond b x w) (ne-eqb w y f) ∙ e ∙ sym (joined-one x y w (inl e) ∙ low)
+    go (no e) (no f) = ap (λ (b : Bool). cond b x w) (ne-eqb w y f) ∙ sym (joined-other x y w e f)
+
 module _ (p : List ℕ) (lo hi : ℕ) (long : hi < length p) (lo-own : getD p lo 0 ≡ lo) (hi-own : getD p hi 0 ≡ hi) (lower : lo ≤ hi) where
   -- the lower of two roots becomes the parent of the other
   root-linked : {u w : ℕ} → Root p u w → Root (set p hi lo) u (cond (eqb w hi) lo w)
@@ -146,30 +171,6 @@ module _ (p : List ℕ) (lo hi : ℕ) (long : hi < length p) (lo-own : getD p lo
       go : (v : ℕ) → v < n → Dec (v ≡ hi) → getD (set p hi lo) v 0 ≤ v
       go v l (yes same) = rw same (omega (arith, getD-set-same p hi lo 0 long))
       go v l (no other) = omega (arith, getD-set-other p hi v lo 0 other, rising .parent v l)
-
--- the one or the other is the lower
-joined-lower : (x y w : ℕ) → x ≤ y → cond (eqb w y) x w ≡ joinedRoot x y w
-joined-lower x y w l = go (ℕ-discrete w x) (ℕ-discrete w y)
-  where
-    low : min x y ≡ x
-    low = omega arith
-
-    go : Dec (w ≡ x) → Dec (w ≡ y) → cond (eqb w y) x w ≡ joinedRoot x y w
-    go (yes e) (yes f) = rw (eq-eqb w x e, eq-eqb w y f, low)
-    go (yes e) (no f) = rw (eq-eqb w x e, ne-eqb w y f, low) e
-    go (no e) (yes f) = rw (ne-eqb w x e, eq-eqb w y f, low)
-    go (no e) (no f) = rw (ne-eqb w x e, ne-eqb w y f)
-
-joined-higher : (x y w : ℕ) → y ≤ x → cond (eqb w x) y w ≡ joinedRoot x y w
-joined-higher x y w l = go (ℕ-discrete w x) (ℕ-discrete w y)
-  where
-    low : min x y ≡ y
-    low = omega arith
-
-    go : Dec (w ≡ x) → Dec (w ≡ y) → cond (eqb w x) y w ≡ joinedRoot x y w
-    go (yes e) d = rw (eq-eqb w x e, low)
-    go (no e) (yes f) = rw (ne-eqb w x e, eq-eqb w y f, low) f
-    go (no e) (no f) = rw (ne-eqb w x e, ne-eqb w y f)
 
 module _ {n : ℕ} {p : List ℕ} {a b x y : ℕ} {p₁ p₂ : List ℕ} (rising : Rising n p) (a-in : a < n) (b-in : b < n) (f : Found n p a x p₁) (g : Found n p₁ b y p₂) where
   -- both are roots to the end, and those above a and b to begin with
@@ -202,39 +203,5 @@ module _ {n : ℕ} {p : List ℕ} {a b x y : ℕ} {p₁ p₂ : List ℕ} (rising
   pub joined-above : y ≤ x → Joined n p a b (set p₂ x y)
   joined-above l =
       joined (set p₂ x y)
-      (λ u w k. subst (λ (r : ℕ). Root (set p₂ x y) u r) (joined-higher x y w l) (root-linked p₂ y x (omega (arith, x-in, g .rising .long)) (root-own y-root) (root-own x-root) l k))
+      (λ u w k. subst (λ (r : ℕ). Root (set p₂ x y) u r) (joined-lower y x w l ∙ joined-turned y x w) (root-linked p₂ y x (omega (arith, x-in, g .rising .long)) (root-own y-root) (root-own x-root) l k))
       (rising-linked p₂ y x (omega (arith, x-in, g .rising .long)) (root-own y-root) (root-own x-root) l (g .rising))
-
--- ---- which numbers join
-
--- only 2 is the number of a two-way reach in service
-pub two-way-test : (b : Bool) (k : ℕ) → (b ≡ true → k ≡ 2) → (b ≡ false → k ≡ 2 → ⊥) → b ≡ isTwoWay (stateOf k)
-two-way-test true k f g = rw (f refl)
-two-way-test false zero f g = refl
-two-way-test false (suc zero) f g = refl
-two-way-test false (suc (suc zero)) f g = absurd (g refl refl)
-two-way-test false (suc (suc (suc zero))) f g = refl
-two-way-test false (suc (suc (suc (suc zero)))) f g = refl
-two-way-test false (suc (suc (suc (suc (suc k))))) f g = refl
-
--- ---- each basin alone
-
--- The basins below v are their own parents.
-pub record Separating (n : ℕ) (p₀ p : List ℕ) (v : ℕ) : Type 0 where
-  pub within : v ≤ n
-  pub kept : length p ≡ length p₀
-  pub own : (u : ℕ) → u < v → getD p u 0 ≡ u
-
-module _ {n : ℕ} (p₀ : List ℕ) (long : n ≤ length p₀) where
-  pub separating-none : Separating n p₀ p₀ 0
-  separating-none = record { within = omega arith; kept = refl; own = λ u l. absurd (omega arith) }
-
-  pub separating-more : (p : List ℕ) (v : ℕ) → v < n → Separating n p₀ p v → Separating n p₀ (set p v v) (v + 1)
-  separating-more p v l s = record { within = omega arith; kept = length-set p v v ∙ s .kept; own = λ u m. go u m (ℕ-discrete u v) }
-    where
-      go : (u : ℕ) → u < v + 1 → Dec (u ≡ v) → getD (set p v v) u 0 ≡ u
-      go u m (yes same) = rw same (getD-set-same p v v 0 (omega (arith, s .kept)))
-      go u m (no other) = getD-set-other p v u v 0 other ∙ s .own u (omega arith)
-
-  pub separating-all : (p : List ℕ) (v : ℕ) → n ≤ v → Separating n p₀ p v → Separate n p
-  separating-all p v l s = record { long = omega (arith, s .kept); own = λ u m. s .own u (omega arith) }

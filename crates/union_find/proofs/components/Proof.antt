@@ -1,9 +1,9 @@
 -- `components` meets its contract: the forest of all reaches is that of the network, and so the numbers are those of its components.
 -- Assumes nothing.
 use mathlib.Core.Path.{refl, _∙_}
+use Rattle.tables.specs.Rows.{netOf}
 use Rattle.union_find.proofs.components.Statement.{statement}
 use Rattle.union_find.proofs.components.Tie as tie
-use Rattle.tables.specs.Rows.{netOf}
 
 separate-requires : tie.Need-separate-requires
 separate-requires c κs = let s = c .before .before .before .before .before .before in (s .pre .0 .few, s .pre .1 .0)

@@ -2,7 +2,7 @@
 -- Assumes nothing.
 use native.Mathlib.Omega.{arith}
 use borrow.Author.Tests.{eqb-true, eqb-false, leb-true, leb-false}
-use Rattle.union_find.proofs.Roots.{two-way-test}
+use Rattle.union_find.proofs.Forests.{two-way-test}
 use Rattle.union_find.proofs.joins.Statement.{statement}
 use Rattle.union_find.proofs.joins.Tie as tie
 

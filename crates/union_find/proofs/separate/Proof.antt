@@ -2,7 +2,7 @@
 -- Assumes nothing.
 use Prim.Native.Nat.{_-_}
 use native.Mathlib.Omega.{arith}
-use Rattle.union_find.proofs.Roots.{Separating, separating-none, separating-more, separating-all}
+use Rattle.union_find.proofs.Forests.{Separating, separating-none, separating-more, separating-all}
 use Rattle.union_find.proofs.separate.Statement.{statement}
 use Rattle.union_find.proofs.separate.Tie as tie
 
