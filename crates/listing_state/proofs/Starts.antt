@@ -48,7 +48,7 @@ module _ (file kinds a b kinds′ a′ b′ : List ℕ) where
       record { rows = c .rows; counted = rw none-read; to-print = rw none-read (refusal-pending _ _ l state) }
 
   module _ (n m : ℕ) (c : NetworkRead (take maxBytes file) kinds a b (Read n m) kinds′ a′ b′) where
-    C : Counted (fileRead file kinds a b) n m
+    abbrev C : Counted (fileRead file kinds a b) n m
     C = counted (take maxBytes file) kinds a b kinds′ a′ b′ n m c
 
     same : netOf n (take m kinds′) (take m a′) (take m b′) ≡ C .network

@@ -4,23 +4,19 @@ use Prim.Native.Nat.{ℕ, _+_, _≤_, _<_}
 use native.Mathlib.Omega.{arith}
 use native.Mathlib.Decide.{ℕ-discrete}
 use mathlib.Core.Path.{_≡_, refl, sym, ap, subst, _∙_}
-use mathlib.Core.Bool.{true, false, not, _&&_}
+use mathlib.Core.Bool.{true, false}
 use mathlib.Core.Logic.{⊎-elim}
 use mathlib.Core.List.{List}
-use mathlib.Mathlib.Data.Bool.Basic.{and-elim-left, and-elim-right}
 use lib.ListN.{length, getD, set, length-set}
 use lib.Seq.{getD-set-same, getD-set-other}
-use lib.Dec.{eqb}
-use borrow.Author.Tests.{eqb-false, eq-eqb, ne-eqb, not-true, not-false}
+use borrow.Author.Tests.{eq-eqb, ne-eqb}
 use Rattle.lists.specs.Lists.{range, keep}
 use Rattle.lists.proofs.Bools.{decide}
-use Rattle.lists.proofs.Ranges.{range-in}
-use Rattle.lists.proofs.Searches.{some-has}
 use Rattle.network.specs.Networks.{Network}
 use Rattle.components.specs.Components.{connected, representative, isRepresentative, componentNumber, componentCount, isSingleton}
 use Rattle.components.specs.Contracted.{noneBefore}
 use Rattle.components.specs.Labels.{noteAt, Labelled}
-use Rattle.components.proofs.Components.{count-yes, count-no, connected-sym, connected-trans, representative-connected, representative-least, number-same, same-number, number-at, singleton-alone}
+use Rattle.components.proofs.Components.{count-yes, count-no, connected-sym, connected-trans, representative-connected, representative-least, number-same, same-number, number-at, singleton-alone, singleton-other}
 use Rattle.union_find.specs.Forests.{Rising, top, Forest, Numbered}
 use Rattle.union_find.proofs.Roots.{root-unique, root-parent}
 
@@ -36,14 +32,6 @@ module _ {N : Network} {p : List ℕ} (f : Forest N p) {v : ℕ} (l : v < N .bas
   parent-connected m =
       let same : representative N (getD p v 0) ≡ representative N v = root-unique (f .roots (getD p v 0) m) (root-parent (f .roots v l)) in
       connected-trans N (getD p v 0) (representative N v) v (rw (← same) (representative-connected N (getD p v 0) m)) (connected-sym N v (representative N v) (representative-connected N v l))
-
--- a component that is not of one has another member
-other-member : (N : Network) (b : ℕ) → isSingleton N b ≡ false → (v : ℕ) × (v < N .basins) × (connected N b v ≡ true) × (v ≡ b → ⊥)
-unfolding isSingleton
-other-member N b e =
-    let k = some-has (λ w. connected N b w && not (eqb w b)) (range 0 (N .basins)) (not-false _ e) in
-    let c = connected N b (k .0) in
-    (k .0, omega (arith, range-in 0 (N .basins) (k .1)), and-elim-left c _ (k .2), eqb-false (k .0) b (not-true _ (and-elim-right c _ (k .2))))
 
 -- ---- the basins below v
 
@@ -225,7 +213,7 @@ labelling-all {N} {p} {notes} g = record { counted = all-counted N (g .counted);
     alone v l s = rw s (g .one v l (λ w m c. singleton-alone N v w s m c))
 
     joined : (v : ℕ) → v < N .basins → isSingleton N v ≡ false → getD notes (componentNumber N v) 0 ≡ noteAt N 0 v
-    joined v l s = let k = other-member N v s in rw (s, none-yet N v) (g .several v (k .0) l (k .1) (k .2) (k .3))
+    joined v l s = let k = singleton-other N v s in rw (s, none-yet N v) (g .several v (k .0) l (k .1) (k .2) (k .3))
 
 pub numbering-all : {n : ℕ} {p₀ notes₀ p notes : List ℕ} {count v : ℕ} → Numbering n p₀ notes₀ p notes count v → ((N : Network) → N .basins ≡ n → Forest N p₀ → Labelling N p notes count v) → n ≤ v → Numbered n p₀ count p notes
 numbering-all {p = p} {notes = notes} {count = count} {v = v} h g l =
