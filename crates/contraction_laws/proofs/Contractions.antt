@@ -1,6 +1,6 @@
 -- Document 02, item 4, from what contracting a network promises, and what first, next, the bound gates or contracting again promise of what came out; on rows.
 -- Assumes nothing.
-use Prim.Native.Nat.{ℕ}
+use Prim.Native.Nat.{ℕ, _≤_}
 use native.Mathlib.Omega.{arith}
 use mathlib.Core.Path.{_≡_, refl, sym, ap, subst, _∙_}
 use mathlib.Core.Bool.{true≢false}
@@ -12,10 +12,10 @@ use Rattle.network.specs.declared.Refusal.{Refusal}
 use Rattle.network.specs.declared.Refusal.the-variants.{BasinCount, TooManyReaches, EndOutOfRange, Truncated, UnknownKind, TrailingBytes, ShortBuffer, BadSetting, LastPlan}
 use Rattle.network.specs.Networks.{Network, tableFault, Accepted}
 use Rattle.network.specs.Replies.{refusalNumber, Outcome, plan, shutIn, lone, refused, number, unless, firstOf, firstReply}
-use Rattle.network.specs.Choices.{boundIn}
+use Rattle.network.specs.Choices.{boundBytes, boundIn}
 use Rattle.network.proofs.Replies.{first-of-none}
 use Rattle.tables.specs.Rows.{netOf, roomOf, RowsFilled}
-use Rattle.tables.proofs.Filling.{rows-table}
+use Rattle.tables.proofs.Filling.{filled-long, filled-table}
 use Rattle.replies.specs.declared.Answer.{Answer}
 use Rattle.replies.specs.declared.Answer.the-variants as A
 use Rattle.replies.specs.Answers.{Replied}
@@ -29,6 +29,37 @@ use Rattle.contraction.specs.declared.ContractAnswer.the-variants as C
 use Rattle.contraction.specs.Calls.{shortRoom, contractFault, contractAnswer, reachesGiven, ContractRows}
 use Rattle.contraction_laws.specs.Contractions.{fault, ReplyOfContracted, BoundOfContracted, ContractedTwice}
 
+-- no refusal has the number of a plan
+positive : (e : Refusal) → _≡_ {A = ℕ} 0 (refusalNumber e) → ⊥
+positive BasinCount z = omega arith
+positive TooManyReaches z = omega arith
+positive EndOutOfRange z = omega arith
+positive Truncated z = omega arith
+positive UnknownKind z = omega arith
+positive TrailingBytes z = omega arith
+positive ShortBuffer z = omega arith
+positive BadSetting z = omega arith
+positive LastPlan z = omega arith
+
+-- networks with the same bound gates that get the same choice get the same bytes
+same-bytes : (M N : Network) → boundBytes M ≡ boundBytes N → (o o′ : Outcome) → SameChoice o o′ → boundIn M o ≡ boundIn N o′
+same-bytes M N e (plan s) (plan t) c = e
+same-bytes M N e (plan s) (shutIn m k) c = absurd (omega (arith, c .same-number))
+same-bytes M N e (plan s) (lone i m k) c = absurd (omega (arith, c .same-number))
+same-bytes M N e (plan s) (refused d) c = absurd (positive d (c .same-number))
+same-bytes M N e (shutIn m k) (plan t) c = absurd (omega (arith, c .same-number))
+same-bytes M N e (lone i m k) (plan t) c = absurd (omega (arith, c .same-number))
+same-bytes M N e (refused d) (plan t) c = absurd (positive d (sym (c .same-number)))
+same-bytes M N e (shutIn m k) (shutIn m′ k′) c = refl
+same-bytes M N e (shutIn m k) (lone i′ m′ k′) c = refl
+same-bytes M N e (shutIn m k) (refused d) c = refl
+same-bytes M N e (lone i m k) (shutIn m′ k′) c = refl
+same-bytes M N e (lone i m k) (lone i′ m′ k′) c = refl
+same-bytes M N e (lone i m k) (refused d) c = refl
+same-bytes M N e (refused d) (shutIn m′ k′) c = refl
+same-bytes M N e (refused d) (lone i′ m′ k′) c = refl
+same-bytes M N e (refused d) (refused d′) c = refl
+
 module _ (N : Network) {ks xs ys ks′ xs′ ys′ : List ℕ} {r : ContractAnswer} (c : ContractRows N ks xs ys r ks′ xs′ ys′) where
   -- a refusal that came back is the one that is due
   refused-by : (e : Refusal) → r ≡ C.Refused e → fault N ks xs ys ≡ some e
@@ -39,23 +70,32 @@ module _ (N : Network) {ks xs ys ks′ xs′ ys′ : List ℕ} {r : ContractAnsw
       go (some d) p = let z = sym q ∙ c .answer ∙ ap (λ (f : Option Refusal). contractAnswer f (contracted N)) p in cc
 
   -- counts that came back are those of the contracted network, which stands in the rows
-  record CameOut (n m : ℕ) : Type 0 where
-    clear : fault N ks xs ys ≡ none
-    ok : Accepted N
-    network : netOf n (take m ks′) (take m xs′) (take m ys′) ≡ contracted N
+  pub record CameOut (n m : ℕ) : Type 0 where
+    pub clear : fault N ks xs ys ≡ none
+    pub ok : Accepted N
+    pub long : (m ≤ length ks′) × (m ≤ length xs′) × (m ≤ length ys′)
+    pub network : netOf n (take m ks′) (take m xs′) (take m ys′) ≡ contracted N
 
-  came-out : (n m : ℕ) → r ≡ C.Contracted n m → CameOut n m
+  pub came-out : (n m : ℕ) → r ≡ C.Contracted n m → CameOut n m
   unfolding contractFault
   came-out n m q = go (fault N ks xs ys) refl
     where
+      said : (f : Option Refusal) → fault N ks xs ys ≡ f → C.Contracted n m ≡ contractAnswer f (contracted N)
+      said f p = sym q ∙ c .answer ∙ ap (λ (g : Option Refusal). contractAnswer g (contracted N)) p
+
       go : (f : Option Refusal) → fault N ks xs ys ≡ f → CameOut n m
-      go (some d) p = let z = sym q ∙ c .answer ∙ ap (λ (f : Option Refusal). contractAnswer f (contracted N)) p in absurd (true≢false cc)
+      go (some d) p = let z = said (some d) p in absurd (true≢false cc)
       go none p =
-          let z = sym q ∙ c .answer ∙ ap (λ (f : Option Refusal). contractAnswer f (contracted N)) p in
+          let z = said none p in
           let basins : n ≡ contracted N .basins = cc in
-          let reaches : m ≡ length (contracted N .reaches) = cc in
+          let reaches : length (contracted N .reaches) ≡ m = cc in
           let filled : RowsFilled (contracted N .reaches) ks xs ys ks′ xs′ ys′ = subst (λ (f : Option Refusal). RowsFilled (reachesGiven f (contracted N)) ks xs ys ks′ xs′ ys′) p (c .rows) in
-          record { clear = p; ok = first-of-none (tableFault N) _ p .0; network = rw (basins, reaches) (ap (λ (t : List Reach). record { basins = contracted N .basins; reaches = t }) (rows-table (contracted N .reaches) filled)) }
+          record {
+            clear = p;
+            ok = first-of-none (tableFault N) _ p .0;
+            long = filled-long (contracted N .reaches) filled m reaches;
+            network = λ i. record { basins = basins i; reaches = filled-table (contracted N .reaches) filled m reaches i };
+          }
 
   -- ---- first and next
 
@@ -74,18 +114,52 @@ module _ (N : Network) {ks xs ys ks′ xs′ ys′ : List ℕ} {r : ContractAnsw
         → Replied (reply (netOf n (take m ks′) (take m xs′) (take m ys′))) plan marks plan′ marks′ a → ReplyOfContracted reply N ks xs ys plan marks a ks′ xs′ ys′ plan′ marks′
     reply-given {plan} {marks} {plan′} {marks′} {a} n m q law read d =
         let o = came-out n m q in
-        let call : Replied (reply (contracted N)) plan marks plan′ marks′ a = rw (o .network) at d in
+        let call : Replied (reply (contracted N)) plan marks plan′ marks′ a = subst (λ (L : Network). Replied (reply L) plan marks plan′ marks′ a) (o .network) d in
         record { rows = c .rows; call = rw (o .clear) call; choice = rw (o .clear, read (contracted N) call) (law (o .ok)) }
 
   -- ---- bound gates
 
-  positive : (e : Refusal) → _≡_ {A = ℕ} 0 (refusalNumber e) → ⊥
-  positive BasinCount z = omega arith
-  positive TooManyReaches z = omega arith
-  positive EndOutOfRange z = omega arith
-  positive Truncated z = omega arith
-  positive UnknownKind z = omega arith
-  positive TrailingBytes z = omega arith
-  positive ShortBuffer z = omega arith
-  positive BadSetting z = omega arith
-  positive LastPlan z = omega arith
+  pub bound-refused : (e : Refusal) → r ≡ C.Refused e → (bytes marks : List ℕ) → BoundOfContracted N ks xs ys bytes marks (A.Refused e) ks′ xs′ ys′ bytes marks
+  bound-refused e q bytes marks =
+      let f = refused-by e q in
+      record {
+        rows = c .rows;
+        call = rw f (record { reply = refl; number = refl; reach = refl; count = refl; bytes-left = refl; marks-left = refl });
+        same-number = rw f refl;
+        same-bytes = rw f refl;
+      }
+
+  pub bound-given : {bytes marks bytes′ marks′ : List ℕ} {a : Answer} (n m : ℕ) → r ≡ C.Contracted n m → BoundCall (netOf n (take m ks′) (take m xs′) (take m ys′)) bytes marks a bytes′ marks′
+      → BoundOfContracted N ks xs ys bytes marks a ks′ xs′ ys′ bytes′ marks′
+  bound-given {bytes} {marks} {bytes′} {marks′} {a} n m q d =
+      let o = came-out n m q in
+      let call : BoundCall (contracted N) bytes marks a bytes′ marks′ = subst (λ (L : Network). BoundCall L bytes marks a bytes′ marks′) (o .network) d in
+      let same = contracted-first-reply N (o .ok) (length bytes) (length marks) in
+      record {
+        rows = c .rows;
+        call = rw (o .clear) call;
+        same-number = rw (o .clear) (call .number ∙ same .same-number);
+        same-bytes = rw (o .clear) (call .bytes-left ∙ ap (λ (l : List ℕ). l ++ drop (length l) bytes) (same-bytes (contracted N) N (contracted-bound N (o .ok)) _ _ same));
+      }
+
+  -- ---- contracting again
+
+  module _ {ks₂ xs₂ ys₂ ks₂′ xs₂′ ys₂′ : List ℕ} where
+    abbrev short : Option Refusal
+    short = shortRoom (length (contracted N .reaches)) (roomOf ks₂ xs₂ ys₂)
+
+    twice : (f : Option Refusal) {a : ContractAnswer} → firstOf (fault N ks xs ys) short ≡ f → a ≡ contractAnswer f (contracted N) → RowsFilled (reachesGiven f (contracted N)) ks₂ xs₂ ys₂ ks₂′ xs₂′ ys₂′
+        → ContractedTwice N ks xs ys ks₂ xs₂ ys₂ a ks′ xs′ ys′ ks₂′ xs₂′ ys₂′
+    twice f e p w = record { rows = c .rows; answer = rw e p; again = rw e w; fewer-basins = fewer-basins N; fewer-reaches = fewer-reaches N }
+
+    pub again-given : {a : ContractAnswer} (n m : ℕ) → r ≡ C.Contracted n m → ContractRows (netOf n (take m ks′) (take m xs′) (take m ys′)) ks₂ xs₂ ys₂ a ks₂′ xs₂′ ys₂′
+        → ContractedTwice N ks xs ys ks₂ xs₂ ys₂ a ks′ xs′ ys′ ks₂′ xs₂′ ys₂′
+    unfolding contractFault
+    again-given {a} n m q d =
+        let o = came-out n m q in
+        let call : ContractRows (contracted N) ks₂ xs₂ ys₂ a ks₂′ xs₂′ ys₂′ = subst (λ (L : Network). ContractRows L ks₂ xs₂ ys₂ a ks₂′ xs₂′ ys₂′) (o .network) d in
+        let due : contractFault (contracted N) (roomOf ks₂ xs₂ ys₂) ≡ short = rw (contracted-accepted N (o .ok)) in
+        twice short (rw (o .clear)) (rw (contracted-again N (o .ok), due) at (call .answer)) (rw (contracted-again N (o .ok), due) at (call .rows))
+
+  pub again-refused : {ks₂ xs₂ ys₂ : List ℕ} (e : Refusal) → r ≡ C.Refused e → ContractedTwice N ks xs ys ks₂ xs₂ ys₂ (C.Refused e) ks′ xs′ ys′ ks₂ xs₂ ys₂
+  again-refused {ks₂} {xs₂} {ys₂} e q = twice {ks₂} {xs₂} {ys₂} {ks₂} {xs₂} {ys₂} (some e) (rw (refused-by e q)) refl (record { kind-row = refl; a-row = refl; b-row = refl })
