@@ -6,17 +6,14 @@ use Prim.Native.Nat.{ℕ, min, _≤_}
 use native.Mathlib.Omega.{arith}
 use mathlib.Core.Path.{_≡_, refl, sym, ap, subst, _∙_}
 use mathlib.Core.Bool.{Bool, true, false, cond, true≢false}
-use mathlib.Core.List.{List, _++_, map, append-assoc}
-use lib.ListN.{length, length-map, length-append, take, drop}
-use lib.Seq.{take-at}
+use mathlib.Core.List.{List, _++_}
+use lib.ListN.{length}
 use lib.Dec.{leb}
 use borrow.Author.Tests.{leb-true, leb-false, le-leb, lt-leb}
 use Rattle.network.specs.declared.Reach.{Reach}
 use Rattle.network.specs.declared.Refusal.the-variants.{ShortBuffer}
 use Rattle.network.specs.Networks.{Network, maxReaches}
-use Rattle.network.specs.Tables.{stateNumber, tableOf}
 use Rattle.network.proofs.Networks.{accepted}
-use Rattle.tables.proofs.Laws.{table-of-rows}
 use Rattle.tables.specs.Rows.{roomOf, RowsFilled}
 use Rattle.netfile_format.specs.declared.ReadAnswer.{ReadAnswer}
 use lib.Pow.{areBytes}
@@ -26,6 +23,7 @@ use Rattle.netfile_format.proofs.Files.{write-read}
 use Rattle.packing.specs.declared.Packed.{Packed}
 use Rattle.packing.specs.Rows.{unpackedInto}
 use Rattle.packing.proofs.Rows.{unpacked-into}
+use Rattle.packing.proofs.Fillings.{filled-unpacked}
 use Rattle.netfile.specs.Reads.{countOf, ReadPacked}
 
 -- no more reaches are read than a network may have
@@ -52,13 +50,6 @@ fits-room m (read M) N e = go (leb (length (M .reaches)) m) refl e
     go true h d = subst (λ x. length (reachesRead x) ≤ m) d (leb-true (length (M .reaches)) m h)
     go false h d = absurd (true≢false cc)
 
--- A row with a table's numbers in front is the row of the table, cut to its length.
-front : (f : Reach → ℕ) (t : List Reach) (xs rest row : List ℕ) → row ≡ map f t ++ xs → take (length t) (row ++ rest) ≡ map f t
-front f t xs rest row e = ap (λ r. take (length t) (r ++ rest)) e ∙ ap (take (length t)) (append-assoc (map f t) xs rest) ∙ take-at (map f t) (xs ++ rest) (length t) (length-map t f)
-
-long : (f : Reach → ℕ) (t : List Reach) (xs rest : List ℕ) {row : List ℕ} → row ≡ map f t ++ xs → length t ≤ length (row ++ rest)
-long f t xs rest {row} e = omega (arith, length-append row rest, ap length e, length-append (map f t) xs, length-map t f)
-
 module _ (file kinds a b kinds′ a′ b′ : List ℕ) (r : ReadAnswer) (room : ℕ) (bytes : areBytes file ≡ true) (same : roomOf kinds a b ≡ min room maxReaches) (c : NetworkRead file kinds a b r kinds′ a′ b′)
     (zk za zb : List ℕ) where
   -- what is read, with the rows' room and with the table's
@@ -68,17 +59,12 @@ module _ (file kinds a b kinds′ a′ b′ : List ℕ) (r : ReadAnswer) (room :
   abbrev rows : ℕ → Packed
   rows n = record { n = n; kinds = kinds′ ++ zk; a = a′ ++ za; b = b′ ++ zb }
 
-  made : (N : Network) → RowsFilled (N .reaches) kinds a b kinds′ a′ b′
-      → tableOf (take (length (N .reaches)) (kinds′ ++ zk)) (take (length (N .reaches)) (a′ ++ za)) (take (length (N .reaches)) (b′ ++ zb)) ≡ N .reaches
-  made N w = rw (front _ (N .reaches) _ zk kinds′ (w .kind-row), front _ (N .reaches) _ za a′ (w .a-row), front _ (N .reaches) _ zb b′ (w .b-row)) (table-of-rows (N .reaches))
-
   left : (x : Reading) → withRoom room (readFile file) ≡ x → (t : List Reach) → length t ≡ room → unpackedInto (rows (countOf (readAnswer x))) t ≡ leftIn x t
   left (refused e) is t l = unpacked-into (rows 0) t (omega arith) (omega arith) (omega arith) (omega arith) (omega arith)
   left (read N) is t l =
       let w : RowsFilled (N .reaches) kinds a b kinds′ a′ b′ = subst (λ x. RowsFilled (reachesRead x) kinds a b kinds′ a′ b′) (usable ∙ is) (c .rows) in
       let h : length (N .reaches) ≤ min room maxReaches = fits-room (min room maxReaches) (readFile file) N (room-usable file bytes room ∙ is) in
-      unpacked-into (rows (length (N .reaches))) t (omega (arith, h, l)) (omega (arith, h)) (long (λ r. stateNumber (r .state)) (N .reaches) _ zk (w .kind-row)) (long (λ r. r .a) (N .reaches) _ za (w .a-row)) (long (λ r. r .b) (N .reaches) _ zb (w .b-row))
-      ∙ ap (λ u. u ++ drop (length (N .reaches)) t) (made N w)
+      filled-unpacked (N .reaches) w zk za zb t (omega (arith, h, l)) (omega (arith, h))
 
   pub packed-read : (n : ℕ) → n ≡ countOf r → ReadPacked file room (record { answer = r; rows = rows n })
   packed-read n e = record {

@@ -5,4 +5,5 @@ pub mod Locals
 pub mod Calls
 pub mod Relays
 pub mod Packings
+pub mod Fillings
 pub mod Arrays
