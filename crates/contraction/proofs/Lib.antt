@@ -1,1 +1,3 @@
 -- From rows to the lent buffer.
+pub mod Answers
+pub mod Buffers

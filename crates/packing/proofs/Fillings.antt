@@ -5,8 +5,9 @@ use native.Mathlib.Omega.{arith}
 use mathlib.Core.Path.{_≡_, ap, _∙_}
 use mathlib.Core.List.{List, _++_, map, append-assoc}
 use lib.ListN.{length, length-map, length-append, take, drop}
-use lib.Seq.{take-at}
+use lib.Seq.{take-at, length-take-le}
 use Rattle.network.specs.declared.Reach.{Reach}
+use Rattle.network.specs.Networks.{maxReaches}
 use Rattle.network.specs.Tables.{stateNumber, tableOf}
 use Rattle.tables.specs.Rows.{RowsFilled}
 use Rattle.tables.proofs.Laws.{table-of-rows}
@@ -19,6 +20,10 @@ front f t xs rest row e = ap (λ r. take (length t) (r ++ rest)) e ∙ ap (take 
 
 long : (f : Reach → ℕ) (t : List Reach) (xs rest : List ℕ) {row : List ℕ} → row ≡ map f t ++ xs → length t ≤ length (row ++ rest)
 long f t xs rest {row} e = omega (arith, length-append row rest, ap length e, length-append (map f t) xs, length-map t f)
+
+-- A row that is cut to what a network can use is as long as the cut says.
+pub cut-long : (m : ℕ) (xs : List ℕ) → length xs ≡ maxRows → m ≤ maxReaches → length (take m xs) ≡ m
+cut-long m xs e h = length-take-le m xs (omega arith)
 
 module _ (u : List Reach) {kinds a b kinds′ a′ b′ : List ℕ} (w : RowsFilled u kinds a b kinds′ a′ b′) (zk za zb : List ℕ) where
   made : tableOf (take (length u) (kinds′ ++ zk)) (take (length u) (a′ ++ za)) (take (length u) (b′ ++ zb)) ≡ u

@@ -1,16 +1,15 @@
 -- `netfile::read_rows` meets its contract: the rows are cut to what a network can use of the room, and the reader over rows does the rest.
 -- Assumes nothing.
-use mathlib.Core.Path.{_≡_, sym}
-use Prim.Native.Nat.{ℕ, _≤_}
-use mathlib.Core.List.{List}
-use lib.ListN.{length, take}
+use mathlib.Core.Path.{sym}
+use Prim.Native.Nat.{_≤_}
+use lib.ListN.{take}
 use native.Mathlib.Omega.{arith}
 use lib.Seq.{length-take-le}
 use borrow.Author.Needs.{needs}
 use Rattle.network.specs.Networks.{maxReaches}
 use Rattle.file_records.proofs.Records.{bytes-make}
-use Rattle.packing.specs.Rows.{maxRows}
 use Rattle.packing.proofs.Records.{Sized, sized}
+use Rattle.packing.proofs.Fillings.{cut-long}
 use Rattle.netfile.proofs.Reading.{packed-read}
 use Rattle.netfile.proofs.read_rows.Statement.{statement}
 use Rattle.netfile.proofs.read_rows.Tie as tie
@@ -21,10 +20,6 @@ start c = c .before .before .before .before .before
 
 long : (c : tie.After-usable) → Sized (start c .args .rows)
 long c = sized _ _ (start c .good .1 .1 .0)
-
--- a row that is cut is as long as the cut says
-cut-long : (m : ℕ) (xs : List ℕ) → length xs ≡ maxRows → m ≤ maxReaches → length (take m xs) ≡ m
-cut-long m xs e h = length-take-le m xs (omega arith)
 
 usable-requires : tie.Need-usable-requires
 usable-requires c κs = search needs
