@@ -7,6 +7,7 @@ use mathlib.Core.Path.{sym}
 use lib.ListN.{take}
 use lib.Seq.{length-take-le}
 use Rattle.network.specs.Networks.{maxReaches}
+use Rattle.tables.specs.Rows.{netOf}
 use Rattle.packing.proofs.Records.{Sized, sized}
 use Rattle.packing.proofs.Fillings.{cut-long}
 use Rattle.packing.proofs.Packings.{Cut, cut, of-rows}
@@ -74,9 +75,12 @@ returns c =
     let u = c .before .before .before .before .before .before .before .before .before .before .before in
     let new = u .before .before .before .before .before .before .before .before .args .new in
     let m = u .least .result in
+    let h = u .before .before .before .before .before .before .before in
+    let p = h .before .args .p in
+    let k = h .held .result in
     let fits : m ≤ maxReaches = omega (arith, u .least .ensures) in
-    of-rows (long (c .before .before .before .before .before .before .before .before .before .before .before .before .before .before .before .before .before .before))
-    (packed _ (take m (new .kinds)) (take m (new .a)) (take m (new .b)) _ _ _ _ _
+    of-rows (long h)
+    (packed (netOf (h .before .args .basins) (take k (p .kinds)) (take k (p .a)) (take k (p .b))) (take m (new .kinds)) (take m (new .a)) (take m (new .b)) _ _ _ _ _
     (omega (arith, cut-long m (new .kinds) (wide u .kinds-long) fits, cut-long m (new .a) (wide u .a-long) fits, cut-long m (new .b) (wide u .b-long) fits, u .least .ensures))
     (c .before .before .before .before .contract-rows .ensures)
     _ _ _ _ (c .count .ensures))

@@ -1,7 +1,8 @@
 -- `contraction::contract_rows` meets its contract: the check of the table, the room of the new rows, and then the table cut to its length.
 -- Assumes nothing.
 use native.Mathlib.Omega.{arith}
-use mathlib.Core.Path.{sym, _∙_}
+use mathlib.Core.Path.{_≡_, sym, _∙_}
+use mathlib.Core.Option.{some}
 use lib.Seq.{length-take-le}
 use borrow.Author.Needs.{needs}
 use Rattle.network.specs.Networks.{Network, Accepted, tableFault}
@@ -20,6 +21,10 @@ net c = let s = c .args in netOf (s .basins) (s .kinds .now) (s .a .now) (s .b .
 sound : (c : tie.After-enum-told) → Accepted (net (c .before .before .before .before .before .before .before .before .before))
 sound c = answer-accepted (tableFault (net (c .before .before .before .before .before .before .before .before .before))) (sym (c .before .before .table-check .ensures .answer) ∙ c .enum-told .given .1)
 
+-- or refused
+stopped : (c : tie.After-r) → tableFault (net (c .before .before .before .before .before .before .before .before .before)) ≡ some (c .r .given .0 .0)
+stopped c = answer-refused (tableFault (net (c .before .before .before .before .before .before .before .before .before))) _ (sym (c .before .before .table-check .ensures .answer) ∙ c .r .given .1)
+
 table-check-requires : tie.Need-table-check-requires
 table-check-requires c κs = tt
 
@@ -27,9 +32,7 @@ enum-known-r : tie.Need-enum-known-r
 enum-known-r c = search needs
 
 returns : tie.Need-returns
-returns c =
-    let s = c .before .before .before .before .before .before .before .before .before .before in
-    rows-refused (net s) (fault-table (net s) _ (answer-refused (tableFault (net s)) _ (sym (c .before .before .before .table-check .ensures .answer) ∙ c .before .r .given .1)))
+returns c = rows-refused (net (c .before .before .before .before .before .before .before .before .before .before)) (fault-table (net (c .before .before .before .before .before .before .before .before .before .before)) _ (stopped (c .before)))
 
 enum-told : tie.Need-enum-told
 enum-told c = search needs
