@@ -82,7 +82,7 @@ module _ (N : Network) where
         fault-none (contracted N) (and-intro (le-leb 1 (contracted N .basins) some-basin) (le-leb (contracted N .basins) maxBasins (omega (arith, fewer-basins, f .few-basins))))
         (le-leb (length (contracted N .reaches)) maxReaches (omega (arith, fewer-reaches, f .few-reaches))) (every-make (endsBelow (contracted N .basins)) (contracted N .reaches) ends-below)
 
--- ---- gates
+  -- ---- gates
 
   pub contracted-gates : gateCount (contracted N) ≡ gateCount N
   unfolding contracted

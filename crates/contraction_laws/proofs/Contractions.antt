@@ -7,11 +7,10 @@ use mathlib.Core.Bool.{true≢false}
 use mathlib.Core.List.{List, _++_}
 use mathlib.Core.Option.{Option, none, some}
 use lib.ListN.{length, take, drop}
-use Rattle.network.specs.declared.Reach.{Reach}
 use Rattle.network.specs.declared.Refusal.{Refusal}
 use Rattle.network.specs.declared.Refusal.the-variants.{BasinCount, TooManyReaches, EndOutOfRange, Truncated, UnknownKind, TrailingBytes, ShortBuffer, BadSetting, LastPlan}
 use Rattle.network.specs.Networks.{Network, tableFault, Accepted}
-use Rattle.network.specs.Replies.{refusalNumber, Outcome, plan, shutIn, lone, refused, number, unless, firstOf, firstReply}
+use Rattle.network.specs.Replies.{refusalNumber, Outcome, plan, shutIn, lone, refused, number, firstOf}
 use Rattle.network.specs.Choices.{boundBytes, boundIn}
 use Rattle.network.proofs.Replies.{first-of-none}
 use Rattle.tables.specs.Rows.{netOf, roomOf, RowsFilled}
@@ -20,7 +19,7 @@ use Rattle.replies.specs.declared.Answer.{Answer}
 use Rattle.replies.specs.declared.Answer.the-variants as A
 use Rattle.replies.specs.Answers.{Replied}
 use Rattle.planner_laws.specs.Demands.{readReply}
-use Rattle.bound_gates.specs.Calls.{BoundTold, BoundCall}
+use Rattle.bound_gates.specs.Calls.{BoundCall}
 use Rattle.components.specs.Contracted.{contracted, SameChoice}
 use Rattle.components.proofs.Contracted.{contracted-accepted, fewer-basins, fewer-reaches, contracted-again, contracted-bound}
 use Rattle.components.proofs.Replies.{contracted-first-reply}
@@ -100,8 +99,8 @@ module _ (N : Network) {ks xs ys ks′ xs′ ys′ : List ℕ} {r : ContractAnsw
   -- ---- first and next
 
   module _ (reply : Network → Outcome) where
-    pub reply-refused : (e : Refusal) → r ≡ C.Refused e → (plan marks : List ℕ) → ReplyOfContracted reply N ks xs ys plan marks (A.Refused e) ks′ xs′ ys′ plan marks
-    reply-refused e q plan marks =
+    pub reply-refused : (e : Refusal) → r ≡ C.Refused e → (buffer marks : List ℕ) → ReplyOfContracted reply N ks xs ys buffer marks (A.Refused e) ks′ xs′ ys′ buffer marks
+    reply-refused e q buffer marks =
         let f = refused-by e q in
         record {
           rows = c .rows;
@@ -109,12 +108,12 @@ module _ (N : Network) {ks xs ys ks′ xs′ ys′ : List ℕ} {r : ContractAnsw
           choice = rw f (record { same-number = refl; same-plan = refl });
         }
 
-    pub reply-given : {plan marks plan′ marks′ : List ℕ} {a : Answer} (n m : ℕ) → r ≡ C.Contracted n m → (Accepted N → SameChoice (reply (contracted N)) (reply N))
-        → ((L : Network) → Replied (reply L) plan marks plan′ marks′ a → readReply L a plan′ marks′ ≡ reply L)
-        → Replied (reply (netOf n (take m ks′) (take m xs′) (take m ys′))) plan marks plan′ marks′ a → ReplyOfContracted reply N ks xs ys plan marks a ks′ xs′ ys′ plan′ marks′
-    reply-given {plan} {marks} {plan′} {marks′} {a} n m q law read d =
+    pub reply-given : {buffer marks buffer′ marks′ : List ℕ} {a : Answer} (n m : ℕ) → r ≡ C.Contracted n m → (Accepted N → SameChoice (reply (contracted N)) (reply N))
+        → ((L : Network) → Replied (reply L) buffer marks buffer′ marks′ a → readReply L a buffer′ marks′ ≡ reply L)
+        → Replied (reply (netOf n (take m ks′) (take m xs′) (take m ys′))) buffer marks buffer′ marks′ a → ReplyOfContracted reply N ks xs ys buffer marks a ks′ xs′ ys′ buffer′ marks′
+    reply-given {buffer} {marks} {buffer′} {marks′} {a} n m q law read d =
         let o = came-out n m q in
-        let call : Replied (reply (contracted N)) plan marks plan′ marks′ a = subst (λ (L : Network). Replied (reply L) plan marks plan′ marks′ a) (o .network) d in
+        let call : Replied (reply (contracted N)) buffer marks buffer′ marks′ a = subst (λ (L : Network). Replied (reply L) buffer marks buffer′ marks′ a) (o .network) d in
         record { rows = c .rows; call = rw (o .clear) call; choice = rw (o .clear, read (contracted N) call) (law (o .ok)) }
 
   -- ---- bound gates
@@ -144,7 +143,7 @@ module _ (N : Network) {ks xs ys ks′ xs′ ys′ : List ℕ} {r : ContractAnsw
 
   -- ---- contracting again
 
-  module _ {ks₂ xs₂ ys₂ ks₂′ xs₂′ ys₂′ : List ℕ} where
+  module _ (ks₂ xs₂ ys₂ ks₂′ xs₂′ ys₂′ : List ℕ) where
     abbrev short : Option Refusal
     short = shortRoom (length (contracted N .reaches)) (roomOf ks₂ xs₂ ys₂)
 
@@ -161,5 +160,5 @@ module _ (N : Network) {ks xs ys ks′ xs′ ys′ : List ℕ} {r : ContractAnsw
         let due : contractFault (contracted N) (roomOf ks₂ xs₂ ys₂) ≡ short = rw (contracted-accepted N (o .ok)) in
         twice short (rw (o .clear)) (rw (contracted-again N (o .ok), due) at (call .answer)) (rw (contracted-again N (o .ok), due) at (call .rows))
 
-  pub again-refused : {ks₂ xs₂ ys₂ : List ℕ} (e : Refusal) → r ≡ C.Refused e → ContractedTwice N ks xs ys ks₂ xs₂ ys₂ (C.Refused e) ks′ xs′ ys′ ks₂ xs₂ ys₂
-  again-refused {ks₂} {xs₂} {ys₂} e q = twice {ks₂} {xs₂} {ys₂} {ks₂} {xs₂} {ys₂} (some e) (rw (refused-by e q)) refl (record { kind-row = refl; a-row = refl; b-row = refl })
+  pub again-refused : (ks₂ xs₂ ys₂ : List ℕ) (e : Refusal) → r ≡ C.Refused e → ContractedTwice N ks xs ys ks₂ xs₂ ys₂ (C.Refused e) ks′ xs′ ys′ ks₂ xs₂ ys₂
+  again-refused ks₂ xs₂ ys₂ e q = twice ks₂ xs₂ ys₂ ks₂ xs₂ ys₂ (some e) (rw (refused-by e q)) refl (record { kind-row = refl; a-row = refl; b-row = refl })

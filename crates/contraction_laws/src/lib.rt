@@ -30,9 +30,10 @@ pub fn first_of_contracted(
 {
     match contract_rows(basins, kinds, a, b, kinds2, a2, b2) {
         ContractAnswer::Refused(r) => Answer::Refused(r),
-        ContractAnswer::Contracted { basins: n, reaches: m } => {
-            first_plan(n, &kinds2[..m], &a2[..m], &b2[..m], plan, marks)
-        }
+        ContractAnswer::Contracted {
+            basins: n,
+            reaches: m,
+        } => first_plan(n, &kinds2[..m], &a2[..m], &b2[..m], plan, marks),
     }
 }
 
@@ -56,9 +57,10 @@ pub fn next_of_contracted(
 {
     match contract_rows(basins, kinds, a, b, kinds2, a2, b2) {
         ContractAnswer::Refused(r) => Answer::Refused(r),
-        ContractAnswer::Contracted { basins: n, reaches: m } => {
-            next_plan(n, &kinds2[..m], &a2[..m], &b2[..m], s, plan, marks)
-        }
+        ContractAnswer::Contracted {
+            basins: n,
+            reaches: m,
+        } => next_plan(n, &kinds2[..m], &a2[..m], &b2[..m], s, plan, marks),
     }
 }
 
@@ -80,9 +82,10 @@ pub fn bound_of_contracted(
 {
     match contract_rows(basins, kinds, a, b, kinds2, a2, b2) {
         ContractAnswer::Refused(r) => Answer::Refused(r),
-        ContractAnswer::Contracted { basins: n, reaches: m } => {
-            bound_gates_rows(n, &kinds2[..m], &a2[..m], &b2[..m], bytes, marks)
-        }
+        ContractAnswer::Contracted {
+            basins: n,
+            reaches: m,
+        } => bound_gates_rows(n, &kinds2[..m], &a2[..m], &b2[..m], bytes, marks),
     }
 }
 
@@ -105,8 +108,9 @@ pub fn contract_again(
 {
     match contract_rows(basins, kinds, a, b, kinds2, a2, b2) {
         ContractAnswer::Refused(r) => ContractAnswer::Refused(r),
-        ContractAnswer::Contracted { basins: n, reaches: m } => {
-            contract_rows(n, &kinds2[..m], &a2[..m], &b2[..m], kinds3, a3, b3)
-        }
+        ContractAnswer::Contracted {
+            basins: n,
+            reaches: m,
+        } => contract_rows(n, &kinds2[..m], &a2[..m], &b2[..m], kinds3, a3, b3),
     }
 }
