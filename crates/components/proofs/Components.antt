@@ -27,15 +27,15 @@ use Rattle.components.specs.Components.{isTwoWay, twoWayArcs, connected,
 -- ---- how many numbers below another pass a test
 
 module _ (p : ℕ → Bool) where
-  pub count-more : (i d : ℕ) → length (keep p (range 0 (i + d))) ≡ length (keep p (range 0 i)) + length (keep p (range i d))
-  count-more i d = ap (λ (l : List ℕ). length (keep p l)) (range-add 0 i d) ∙ count-append p (range 0 i) (range (0 + i) d) ∙ ap (λ (j : ℕ). length (keep p (range 0 i)) + length (keep p (range j d))) (zero-add i)
+  pub count-split : (i d : ℕ) → length (keep p (range 0 (i + d))) ≡ length (keep p (range 0 i)) + length (keep p (range i d))
+  count-split i d = ap (λ (l : List ℕ). length (keep p l)) (range-add 0 i d) ∙ count-append p (range 0 i) (range (0 + i) d) ∙ ap (λ (j : ℕ). length (keep p (range 0 i)) + length (keep p (range j d))) (zero-add i)
 
   -- one more, as it passes or not
   pub count-yes : (i : ℕ) → p i ≡ true → length (keep p (range 0 (i + 1))) ≡ length (keep p (range 0 i)) + 1
-  count-yes i e = count-more i 1 ∙ rw e
+  count-yes i e = count-split i 1 ∙ rw e
 
   pub count-no : (i : ℕ) → p i ≡ false → length (keep p (range 0 (i + 1))) ≡ length (keep p (range 0 i))
-  count-no i e = count-more i 1 ∙ rw e (omega arith)
+  count-no i e = count-split i 1 ∙ rw e (omega arith)
 
   pub count-next : (i : ℕ) → p i ≡ true → length (keep p (range 0 (suc i))) ≡ suc (length (keep p (range 0 i)))
   count-next i e = ap (λ (k : ℕ). length (keep p (range 0 k))) (sym (add-one i)) ∙ count-yes i e ∙ add-one (length (keep p (range 0 i)))
@@ -44,7 +44,7 @@ module _ (p : ℕ → Bool) where
   pub count-rises : (i j : ℕ) → p i ≡ true → i < j → length (keep p (range 0 i)) < length (keep p (range 0 j))
   count-rises i j e l =
       let same : j ≡ (i + 1) + (j - (i + 1)) = omega arith in
-      omega (arith, ap (λ (k : ℕ). length (keep p (range 0 k))) same, count-more (i + 1) (j - (i + 1)), count-yes i e)
+      omega (arith, ap (λ (k : ℕ). length (keep p (range 0 k))) same, count-split (i + 1) (j - (i + 1)), count-yes i e)
 
 -- ---- the arcs of two-way reaches
 

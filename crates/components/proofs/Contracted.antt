@@ -35,15 +35,15 @@ use Rattle.network.proofs.Networks.{endsBelow, fault-none, accepted, wet-make, 
 use Rattle.components.specs.Components.{isTwoWay, twoWayArcs, connected, representative, isRepresentative, componentNumber, componentCount, isSingleton}
 use Rattle.components.specs.Contracted.{noneBefore, stays, contractedReach, contractedFrom, contracted}
 use Rattle.components.proofs.Components.{count-next, number-at, connected-refl, connected-trans, connected-walk, two-way-connects, representative-is, number-same, same-number, number-below, count-few, singleton-other, singleton-is, arc-source}
-use Rattle.components.proofs.Kept.{stays-serves, inner, kept-few, KeptFrom, kept-from, kept-has, kept-gates, Mapped, kept-arcs, arcs-kept, two-way-passed}
+use Rattle.components.proofs.Kept.{stays-serves, inner, stayed-few, StayedFrom, stayed-from, kept-has, kept-gates, Mapped, kept-arcs, arcs-kept, two-way-passed}
 
 -- ---- its reaches
 
 module _ (N : Network) where
   -- they come from the reaches that stay
-  pub contracted-from : (r : Reach) → List·Memᴰ r (contracted N .reaches) → KeptFrom N 0 (N .reaches) r
+  pub contracted-from : (r : Reach) → List·Memᴰ r (contracted N .reaches) → StayedFrom N 0 (N .reaches) r
   unfolding contracted
-  contracted-from r m = kept-from N 0 (N .reaches) r m
+  contracted-from r m = stayed-from N 0 (N .reaches) r m
 
   -- what stays of reach i is there
   pub contracted-has : (i : ℕ) → i < length (N .reaches) → stays N i ((reachAt N i) .state) ((reachAt N i) .a) ((reachAt N i) .b) ≡ true → List·Memᴰ (contractedReach N (reachAt N i)) (contracted N .reaches)
@@ -58,7 +58,7 @@ module _ (N : Network) where
 
   pub fewer-reaches : length (contracted N .reaches) ≤ length (N .reaches)
   unfolding contracted
-  fewer-reaches = kept-few N 0 (N .reaches)
+  fewer-reaches = stayed-few N 0 (N .reaches)
 
   pub below-count : (v : ℕ) → v < N .basins → componentNumber N v < contracted N .basins
   unfolding contracted
@@ -384,7 +384,7 @@ getD-in (x ∷ l) zero d h = List·Memᴰ·head refl
 getD-in (x ∷ l) (suc i) d h = List·Memᴰ·tail (getD-in l i d (le-of-suc-le-suc h))
 
 module _ (N : Network) (ok : Accepted N) where
-  abbrev source : (i : ℕ) → i < length (contracted N .reaches) → KeptFrom N 0 (N .reaches) (reachAt (contracted N) i)
+  abbrev source : (i : ℕ) → i < length (contracted N .reaches) → StayedFrom N 0 (N .reaches) (reachAt (contracted N) i)
   source i l = contracted-from N (reachAt (contracted N) i) (getD-in (contracted N .reaches) i noReach l)
 
   contracted-settled : Settled (contracted N)

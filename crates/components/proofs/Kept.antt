@@ -51,27 +51,27 @@ module _ (N : Network) where
 
   -- ---- the reaches that stay
 
-  pub kept-few : (o : ℕ) (t : List Reach) → length (contractedFrom N o t) ≤ length t
-  kept-few o [] = omega arith
-  kept-few o (r ∷ t) = length-cond-le (stays N o (r .state) (r .a) (r .b)) (contractedReach N r) (contractedFrom N (suc o) t) (length t) (kept-few (suc o) t)
+  pub stayed-few : (o : ℕ) (t : List Reach) → length (contractedFrom N o t) ≤ length t
+  stayed-few o [] = omega arith
+  stayed-few o (r ∷ t) = length-cond-le (stays N o (r .state) (r .a) (r .b)) (contractedReach N r) (contractedFrom N (suc o) t) (length t) (stayed-few (suc o) t)
 
   -- each is what stays of a reach of the table
   abbrev pub staysAt : ℕ → Reach → Bool
   staysAt i r = stays N i (r .state) (r .a) (r .b)
 
-  pub record KeptFrom (o : ℕ) (t : List Reach) (r : Reach) : Type 0 where
+  pub record StayedFrom (o : ℕ) (t : List Reach) (r : Reach) : Type 0 where
     pub number : ℕ
     pub below : number < length t
     pub stayed : staysAt (o + number) (getD t number noReach) ≡ true
     pub is : r ≡ contractedReach N (getD t number noReach)
 
-  later : (o : ℕ) (x : Reach) (t : List Reach) (r : Reach) → KeptFrom (suc o) t r → KeptFrom o (x ∷ t) r
+  later : (o : ℕ) (x : Reach) (t : List Reach) (r : Reach) → StayedFrom (suc o) t r → StayedFrom o (x ∷ t) r
   later o x t r k = record { number = suc (k .number); below = omega (arith, k .below); stayed = rw add-suc (rw suc-add at (k .stayed)); is = k .is }
 
-  pub kept-from : (o : ℕ) (t : List Reach) (r : Reach) → List·Memᴰ r (contractedFrom N o t) → KeptFrom o t r
-  kept-from o [] r m = absurd (List·Memᴰ·not-nil m)
-  kept-from o (x ∷ t) r m =
-      let rest : List·Memᴰ r (contractedFrom N (suc o) t) → KeptFrom o (x ∷ t) r = λ n. later o x t r (kept-from (suc o) t r n) in
+  pub stayed-from : (o : ℕ) (t : List Reach) (r : Reach) → List·Memᴰ r (contractedFrom N o t) → StayedFrom o t r
+  stayed-from o [] r m = absurd (List·Memᴰ·not-nil m)
+  stayed-from o (x ∷ t) r m =
+      let rest : List·Memᴰ r (contractedFrom N (suc o) t) → StayedFrom o (x ∷ t) r = λ n. later o x t r (stayed-from (suc o) t r n) in
       ⊎-elim
       (λ e. ⊎-elim (λ q. record { number = 0; below = omega arith; stayed = rw add-zero e; is = q }) rest (List·Memᴰ·cases-cons (rw e at m)))
       (λ e. rest (rw e at m))

@@ -13,7 +13,7 @@ use Rattle.network.specs.declared.Reach.{Reach}
 use Rattle.network.specs.Networks.{Network}
 use Rattle.network.specs.Bridges.{noReach, reachAt}
 use Rattle.components.specs.Contracted.{stays, contractedReach, contractedFrom, contracted}
-use Rattle.components.proofs.Kept.{kept-few, staysAt}
+use Rattle.components.proofs.Kept.{stayed-few, staysAt}
 
 module _ (N : Network) where
   from-append : (i : ℕ) (t u : List Reach) → contractedFrom N i (t ++ u) ≡ contractedFrom N i t ++ contractedFrom N (i + length t) u
@@ -34,7 +34,7 @@ module _ (N : Network) where
 
   pub few-kept : (i : ℕ) → length (keptTo i) ≤ i
   unfolding keptTo
-  few-kept i = omega (arith, kept-few N 0 (take i (N .reaches)), length-take i (N .reaches))
+  few-kept i = omega (arith, stayed-few N 0 (take i (N .reaches)), length-take i (N .reaches))
 
   pub kept-all : (i : ℕ) → length (N .reaches) ≤ i → keptTo i ≡ contracted N .reaches
   unfolding keptTo contracted
@@ -73,8 +73,8 @@ module _ (N : Network) where
           ∙ from-append 0 (take i (N .reaches)) (reachAt N i ∷ drop (suc i) (N .reaches))
           ∙ rw (place, e)
 
-      pub kept-below : length (keptTo i) < length (contracted N .reaches)
-      kept-below = omega (arith, ap length split, length-append (keptTo i) (contractedReach N (reachAt N i) ∷ contractedFrom N (suc i) (drop (suc i) (N .reaches))))
+      pub staying-below : length (keptTo i) < length (contracted N .reaches)
+      staying-below = omega (arith, ap length split, length-append (keptTo i) (contractedReach N (reachAt N i) ∷ contractedFrom N (suc i) (drop (suc i) (N .reaches))))
 
-      pub kept-at : getD (contracted N .reaches) (length (keptTo i)) noReach ≡ contractedReach N (reachAt N i)
-      kept-at = ap (λ (t : List Reach). getD t (length (keptTo i)) noReach) split ∙ getD-append-seam (keptTo i) (contractedReach N (reachAt N i)) _ noReach
+      pub staying-at : getD (contracted N .reaches) (length (keptTo i)) noReach ≡ contractedReach N (reachAt N i)
+      staying-at = ap (λ (t : List Reach). getD t (length (keptTo i)) noReach) split ∙ getD-append-seam (keptTo i) (contractedReach N (reachAt N i)) _ noReach

@@ -15,18 +15,18 @@ use Rattle.network.specs.Bridges.{noReach, reachAt}
 use Rattle.network.specs.Tables.{stateOf, stateNumber}
 use Rattle.tables.specs.Rows.{netOf}
 use Rattle.tables.proofs.Laws.{row-length, row-state, row-a, row-b}
-use Rattle.tables.proofs.Filling.{RowFilled, filled-none, filled-more, filled-all}
+use Rattle.tables.proofs.Filling.{RowFilled, row-none, row-more, row-all}
 use Rattle.components.specs.Components.{connected, componentNumber}
 use Rattle.components.specs.Contracted.{contracted, contractedReach}
 use Rattle.components.specs.Labels.{noteAt}
-use Rattle.contracting.specs.Filling.{staysBy, noteAfter, FillableOf, FilledOf}
+use Rattle.contracting.specs.Filling.{staysBy, noteAfter, FillableOf, KeptFilledOf}
 use Rattle.components.proofs.Components.{number-same, same-number, number-below, count-few}
 use Rattle.contracting.proofs.Numbers.{number-kept}
 use Rattle.contracting.proofs.Notes.{note-here, note-there, note-alike, stays-by}
-use Rattle.contracting.proofs.Parts.{keptTo, kept-none, few-kept, kept-all, staying, kept-drops, kept-stays, kept-below, kept-at}
+use Rattle.contracting.proofs.Parts.{keptTo, kept-none, few-kept, kept-all, staying, kept-drops, kept-stays, staying-below, staying-at}
 
 -- After i reaches: k of them stay, and stand in the new rows; the notes are those after these reaches.
-pub record Filling (n : ℕ) (ks xs ys notes₀ ks₀ xs₀ ys₀ notes ks₂ xs₂ ys₂ : List ℕ) (k i : ℕ) : Type 0 where
+pub record KeptFilling (n : ℕ) (ks xs ys notes₀ ks₀ xs₀ ys₀ notes ks₂ xs₂ ys₂ : List ℕ) (k i : ℕ) : Type 0 where
   pub below : i ≤ length ks
   pub kept : k ≡ length (keptTo (netOf n ks xs ys) i)
   pub note : (v : ℕ) → v < n → getD notes (componentNumber (netOf n ks xs ys) v) 0 ≡ noteAt (netOf n ks xs ys) i v
@@ -57,24 +57,24 @@ module _ (n : ℕ) (ks xs ys labels notes₀ ks₀ xs₀ ys₀ : List ℕ) (p : 
   long : length (N .reaches) ≡ length ks
   long = row-length ks xs ys (p .rows .a-full) (p .rows .b-full)
 
-  pub filling-none : Filling n ks xs ys notes₀ ks₀ xs₀ ys₀ notes₀ ks₀ xs₀ ys₀ 0 0
-  filling-none =
+  pub kept-filling-none : KeptFilling n ks xs ys notes₀ ks₀ xs₀ ys₀ notes₀ ks₀ xs₀ ys₀ 0 0
+  kept-filling-none =
       record {
         below = omega arith;
         kept = sym (ap length (kept-none N));
         note = p .labelled .note;
         long = refl;
-        kind-row = filled-none _ _ _ ks₀;
-        a-row = filled-none _ _ _ xs₀;
-        b-row = filled-none _ _ _ ys₀;
+        kind-row = row-none _ _ _ ks₀;
+        a-row = row-none _ _ _ xs₀;
+        b-row = row-none _ _ _ ys₀;
       }
 
-  module _ {notes ks₂ xs₂ ys₂ : List ℕ} {k i : ℕ} (f : Filling n ks xs ys notes₀ ks₀ xs₀ ys₀ notes ks₂ xs₂ ys₂ k i) where
-    pub filling-all : length ks ≤ i → FilledOf n ks xs ys ks₀ xs₀ ys₀ k ks₂ xs₂ ys₂
-    filling-all l =
+  module _ {notes ks₂ xs₂ ys₂ : List ℕ} {k i : ℕ} (f : KeptFilling n ks xs ys notes₀ ks₀ xs₀ ys₀ notes ks₂ xs₂ ys₂ k i) where
+    pub kept-filling-all : length ks ≤ i → KeptFilledOf n ks xs ys ks₀ xs₀ ys₀ k ks₂ xs₂ ys₂
+    kept-filling-all l =
         record {
           counted = all;
-          rows = record { kind-row = filled-all _ _ ks₀ ks₂ k (f .kind-row) all; a-row = filled-all _ _ xs₀ xs₂ k (f .a-row) all; b-row = filled-all _ _ ys₀ ys₂ k (f .b-row) all };
+          rows = record { kind-row = row-all _ _ ks₀ ks₂ k (f .kind-row) all; a-row = row-all _ _ xs₀ xs₂ k (f .a-row) all; b-row = row-all _ _ ys₀ ys₂ k (f .b-row) all };
         }
       where
         all : k ≡ length (contracted N .reaches)
@@ -171,10 +171,10 @@ module _ (n : ℕ) (ks xs ys labels notes₀ ks₀ xs₀ ys₀ : List ℕ) (p : 
       noted-next x e v m = ⊎-elim (noted-here x e v m) (noted-there x v m) (decide (connected N a v))
 
       -- the reach drops, or goes to the rows
-      pub filling-drop :
+      pub kept-filling-drop :
           (x : ℕ) → x ≡ noteAfter (stateOf kind) note → false ≡ staysBy (stateOf kind) c d note
-          → Filling n ks xs ys notes₀ ks₀ xs₀ ys₀ (set notes c x) ks₂ xs₂ ys₂ k (i + 1)
-      filling-drop x e drops =
+          → KeptFilling n ks xs ys notes₀ ks₀ xs₀ ys₀ (set notes c x) ks₂ xs₂ ys₂ k (i + 1)
+      kept-filling-drop x e drops =
           record {
             below = omega arith;
             kept = f .kept ∙ sym (kept-drops N i (rw long l) (stay-is ∙ sym drops));
@@ -187,24 +187,24 @@ module _ (n : ℕ) (ks xs ys labels notes₀ ks₀ xs₀ ys₀ : List ℕ) (p : 
 
       module _ (stayed : true ≡ staysBy (stateOf kind) c d note) where
         within : k < length (contracted N .reaches)
-        within = rw (f .kept) (kept-below N i (rw long l) (stay-is ∙ sym stayed))
+        within = rw (f .kept) (staying-below N i (rw long l) (stay-is ∙ sym stayed))
 
         there : getD (contracted N .reaches) k noReach ≡ contractedReach N (reachAt N i)
-        there = rw (f .kept) (kept-at N i (rw long l) (stay-is ∙ sym stayed))
+        there = rw (f .kept) (staying-at N i (rw long l) (stay-is ∙ sym stayed))
 
         kind-there : kind ≡ stateNumber ((getD (contracted N .reaches) k noReach) .state)
         kind-there = number-kept kind c d note (sym stayed) ∙ sym (ap (λ r. stateNumber (r .state)) there ∙ ap stateNumber state-is)
 
-        pub filling-stay :
+        pub kept-filling-stay :
             (x : ℕ) → x ≡ noteAfter (stateOf kind) note
-            → Filling n ks xs ys notes₀ ks₀ xs₀ ys₀ (set notes c x) (set ks₂ k kind) (set xs₂ k c) (set ys₂ k d) (k + 1) (i + 1)
-        filling-stay x e =
+            → KeptFilling n ks xs ys notes₀ ks₀ xs₀ ys₀ (set notes c x) (set ks₂ k kind) (set xs₂ k c) (set ys₂ k d) (k + 1) (i + 1)
+        kept-filling-stay x e =
             record {
               below = omega arith;
               kept = ap (λ j. j + 1) (f .kept) ∙ sym (kept-stays N i (rw long l) (stay-is ∙ sym stayed));
               note = noted-next x e;
               long = length-set notes c x ∙ f .long;
-              kind-row = filled-more _ _ ks₀ ks₂ k kind (f .kind-row) within (omega (arith, places, f .kind-row .long)) kind-there;
-              a-row = filled-more _ _ xs₀ xs₂ k c (f .a-row) within (omega (arith, places, f .a-row .long)) (c-is ∙ sym (ap (λ r. r .a) there ∙ ap (componentNumber N) a-is));
-              b-row = filled-more _ _ ys₀ ys₂ k d (f .b-row) within (omega (arith, places, f .b-row .long)) (d-is ∙ sym (ap (λ r. r .b) there ∙ ap (componentNumber N) b-is));
+              kind-row = row-more _ _ ks₀ ks₂ k kind (f .kind-row) within (omega (arith, places, f .kind-row .long)) kind-there;
+              a-row = row-more _ _ xs₀ xs₂ k c (f .a-row) within (omega (arith, places, f .a-row .long)) (c-is ∙ sym (ap (λ r. r .a) there ∙ ap (componentNumber N) a-is));
+              b-row = row-more _ _ ys₀ ys₂ k d (f .b-row) within (omega (arith, places, f .b-row .long)) (d-is ∙ sym (ap (λ r. r .b) there ∙ ap (componentNumber N) b-is));
             }

@@ -42,9 +42,9 @@ pub record Fillable (ks xs ys labels notes ks₂ xs₂ ys₂ : List ℕ) : Type 
   pub fits : FillableOf n ks xs ys labels notes ks₂ xs₂ ys₂
 
 -- For each such basin count: how many reaches the contracted network has, and these in the first entries of the new rows.
-pub record FilledOf (n : ℕ) (ks xs ys ks₂ xs₂ ys₂ : List ℕ) (count : ℕ) (ks′ xs′ ys′ : List ℕ) : Type 0 where
+pub record KeptFilledOf (n : ℕ) (ks xs ys ks₂ xs₂ ys₂ : List ℕ) (count : ℕ) (ks′ xs′ ys′ : List ℕ) : Type 0 where
   pub counted : count ≡ length (contracted (netOf n ks xs ys) .reaches)
   pub rows : RowsFilled (contracted (netOf n ks xs ys) .reaches) ks₂ xs₂ ys₂ ks′ xs′ ys′
 
-pub record Filled (ks xs ys labels notes ks₂ xs₂ ys₂ : List ℕ) (count : ℕ) (ks′ xs′ ys′ : List ℕ) : Type 0 where
-  pub of : (n : ℕ) → FillableOf n ks xs ys labels notes ks₂ xs₂ ys₂ → FilledOf n ks xs ys ks₂ xs₂ ys₂ count ks′ xs′ ys′
+pub record KeptFilled (ks xs ys labels notes ks₂ xs₂ ys₂ : List ℕ) (count : ℕ) (ks′ xs′ ys′ : List ℕ) : Type 0 where
+  pub of : (n : ℕ) → FillableOf n ks xs ys labels notes ks₂ xs₂ ys₂ → KeptFilledOf n ks xs ys ks₂ xs₂ ys₂ count ks′ xs′ ys′

@@ -2,7 +2,7 @@
 // The functions with a `requires` are for the crates above, which have checked it.
 ghost use mathlib.Core.Path.{_≡_};
 ghost use Rattle.network.specs.Tables.{stateOf};
-ghost use Rattle.contracting.specs.Filling.{staysBy, noteAfter, Fillable, Filled};
+ghost use Rattle.contracting.specs.Filling.{staysBy, noteAfter, Fillable, KeptFilled};
 
 const GATED: u8 = 0;
 
@@ -52,7 +52,7 @@ pub fn fill(
     b2: &mut [u16],
 ) -> usize
     requires { ⌜ Fillable (now kinds) (now a) (now b) (now labels) (now notes) (now kinds2) (now a2) (now b2) ⌝ }
-    ensures { λ r. ⌜ Filled (now (kinds .entry)) (now (a .entry)) (now (b .entry)) (now (labels .entry)) (now (notes .entry))
+    ensures { λ r. ⌜ KeptFilled (now (kinds .entry)) (now (a .entry)) (now (b .entry)) (now (labels .entry)) (now (notes .entry))
         (now (kinds2 .entry)) (now (a2 .entry)) (now (b2 .entry)) r (now (kinds2 .exit)) (now (a2 .exit)) (now (b2 .exit)) ⌝ }
 {
     let mut k = 0;

@@ -19,7 +19,7 @@ use Rattle.tables.proofs.Cuts.{cut-ends-a, cut-ends-b, cut-net}
 use Rattle.components.specs.Contracted.{contracted}
 use Rattle.components.specs.Components.{componentCount}
 use Rattle.components.specs.Labels.{Joinable, Labelled}
-use Rattle.contracting.specs.Filling.{FillableOf, FilledOf}
+use Rattle.contracting.specs.Filling.{FillableOf, KeptFilledOf}
 use Rattle.contraction.specs.declared.ContractAnswer.{ContractAnswer}
 use Rattle.contraction.specs.declared.ContractAnswer.the-variants.{Refused, Contracted}
 use Rattle.contraction.specs.Calls.{contractFault, contractAnswer, contractNumber, reachesGiven, ContractRows, Contractible, Given}
@@ -34,9 +34,9 @@ module _ (N : Network) (room : ℕ) where
   unfolding contractFault
   fault-short ok l = rw (ok, lt-leb (length (N .reaches)) room l)
 
-  pub fault-none : Accepted N → length (N .reaches) ≤ room → contractFault N room ≡ none
+  pub fault-clear : Accepted N → length (N .reaches) ≤ room → contractFault N room ≡ none
   unfolding contractFault
-  fault-none ok l = rw (ok, le-leb (length (N .reaches)) room l)
+  fault-clear ok l = rw (ok, le-leb (length (N .reaches)) room l)
 
 -- ---- the call over rows
 
@@ -88,8 +88,8 @@ module _ (n : ℕ) (ks xs ys : List ℕ) (m : ℕ) (e : m ≡ length (tableOf ks
     room-is = c ∙ table-short ks₂ xs₂ ys₂
 
     -- new rows that are too short
-    pub short : k < m → ContractRows (netOf n ks xs ys) ks₂ xs₂ ys₂ (Refused ShortBuffer) ks₂ xs₂ ys₂
-    short l = rows-refused (netOf n ks xs ys) (fault-short (netOf n ks xs ys) (roomOf ks₂ xs₂ ys₂) ok (omega (arith, room-is)))
+    pub cut-short : k < m → ContractRows (netOf n ks xs ys) ks₂ xs₂ ys₂ (Refused ShortBuffer) ks₂ xs₂ ys₂
+    cut-short l = rows-refused (netOf n ks xs ys) (fault-short (netOf n ks xs ys) (roomOf ks₂ xs₂ ys₂) ok (omega (arith, room-is)))
 
     -- and new rows with room
     module _ (l : m ≤ k) where
@@ -98,9 +98,9 @@ module _ (n : ℕ) (ks xs ys : List ℕ) (m : ℕ) (e : m ≡ length (tableOf ks
           let cut = length-take m ks in
           record { rows = joinable; kind-room = omega (arith, cut, room-is); a-room = omega (arith, cut, room-is); b-room = omega (arith, cut, room-is) }
 
-      pub given : {r : ContractAnswer} {ks′ xs′ ys′ : List ℕ} → Given M ks₂ xs₂ ys₂ r ks′ xs′ ys′ → ContractRows (netOf n ks xs ys) ks₂ xs₂ ys₂ r ks′ xs′ ys′
-      given {r} {ks′} {xs′} {ys′} g =
-          rows-given (netOf n ks xs ys) (fault-none (netOf n ks xs ys) (roomOf ks₂ xs₂ ys₂) ok (omega (arith, room-is)))
+      pub cut-given : {r : ContractAnswer} {ks′ xs′ ys′ : List ℕ} → Given M ks₂ xs₂ ys₂ r ks′ xs′ ys′ → ContractRows (netOf n ks xs ys) ks₂ xs₂ ys₂ r ks′ xs′ ys′
+      cut-given {r} {ks′} {xs′} {ys′} g =
+          rows-given (netOf n ks xs ys) (fault-clear (netOf n ks xs ys) (roomOf ks₂ xs₂ ys₂) ok (omega (arith, room-is)))
           (subst (λ (N : Network). Given N ks₂ xs₂ ys₂ r ks′ xs′ ys′) (cut-net ks xs ys m e n) g)
 
 -- ---- the components, and what stays
@@ -123,5 +123,5 @@ module _ {n : ℕ} {ks xs ys ks₂ xs₂ ys₂ labels notes : List ℕ} {count :
         b-room = p .b-room;
       }
 
-  pub filled : {k : ℕ} {ks′ xs′ ys′ : List ℕ} → FilledOf n ks xs ys ks₂ xs₂ ys₂ k ks′ xs′ ys′ → Given (netOf n ks xs ys) ks₂ xs₂ ys₂ (Contracted count k) ks′ xs′ ys′
-  filled f = record { answer = ap₂ {C = ContractAnswer} Contracted (c .counted ∙ sym (contracted-basins (netOf n ks xs ys))) (f .counted); rows = f .rows }
+  pub given-filled : {k : ℕ} {ks′ xs′ ys′ : List ℕ} → KeptFilledOf n ks xs ys ks₂ xs₂ ys₂ k ks′ xs′ ys′ → Given (netOf n ks xs ys) ks₂ xs₂ ys₂ (Contracted count k) ks′ xs′ ys′
+  given-filled f = record { answer = ap₂ {C = ContractAnswer} Contracted (c .counted ∙ sym (contracted-basins (netOf n ks xs ys))) (f .counted); rows = f .rows }

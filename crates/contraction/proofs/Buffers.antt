@@ -28,8 +28,8 @@ use Rattle.packing.proofs.Fillings.{filled-unpacked}
 use Rattle.packing.proofs.Packings.{ByTable}
 use Rattle.contraction.specs.declared.ContractAnswer.{ContractAnswer}
 use Rattle.contraction.specs.declared.PackedAnswer.{PackedAnswer}
-use Rattle.contraction.specs.Calls.{contractFault, contractAnswer, reachesGiven, countOf, ContractRows, ContractTable, ContractPacked}
-use Rattle.contraction.proofs.Answers.{fault-table, fault-short, fault-none}
+use Rattle.contraction.specs.Calls.{contractFault, contractAnswer, reachesGiven, givenCount, ContractRows, ContractTable, ContractPacked}
+use Rattle.contraction.proofs.Answers.{fault-table, fault-short, fault-clear}
 
 -- ---- room
 
@@ -44,7 +44,7 @@ module _ (N : Network) (room : ℕ) where
           ⊎-elim
           (λ y.
           let l = leb-true (length (N .reaches)) room y in
-          fault-none N (min room maxReaches) e (omega arith) ∙ sym (fault-none N room e l))
+          fault-clear N (min room maxReaches) e (omega arith) ∙ sym (fault-clear N room e l))
           (λ n.
           let l = leb-false (length (N .reaches)) room n in
           fault-short N (min room maxReaches) e (omega arith) ∙ sym (fault-short N room e l))
@@ -73,14 +73,14 @@ module _ (N : Network) (kinds a b kinds′ a′ b′ : List ℕ) (r : ContractAn
   rows n = record { n = n; kinds = kinds′ ++ zk; a = a′ ++ za; b = b′ ++ zb }
 
   left : (o : Option Refusal) → contractFault N room ≡ o → (t : List Reach) → length t ≡ room
-      → unpackedInto (rows (countOf (contractAnswer o (contracted N)))) t ≡ reachesGiven o (contracted N) ++ drop (length (reachesGiven o (contracted N))) t
+      → unpackedInto (rows (givenCount (contractAnswer o (contracted N)))) t ≡ reachesGiven o (contracted N) ++ drop (length (reachesGiven o (contracted N))) t
   left (some x) e t l = unpacked-into (rows 0) t (omega arith) (omega arith) (omega arith) (omega arith) (omega arith)
   left none e t l =
       let w : RowsFilled (contracted N .reaches) kinds a b kinds′ a′ b′ = subst (λ o. RowsFilled (reachesGiven o (contracted N)) kinds a b kinds′ a′ b′) (usable ∙ e) (c .rows) in
       let h = fits N room e in
       filled-unpacked (contracted N .reaches) w zk za zb t (omega (arith, h, l)) (omega (arith, h))
 
-  pub packed : (n : ℕ) → n ≡ countOf r → ContractPacked N room (record { answer = r; rows = rows n })
+  pub packed : (n : ℕ) → n ≡ givenCount r → ContractPacked N room (record { answer = r; rows = rows n })
   packed n e = record {
     said = λ t l.
         let x : contractFault N (roomOf kinds a b) ≡ contractFault N (length t) = usable ∙ ap (contractFault N) (sym l) in
@@ -88,7 +88,7 @@ module _ (N : Network) (kinds a b kinds′ a′ b′ : List ℕ) (r : ContractAn
         record {
           answer = said;
           number = c .number ∙ ap faultNumber x;
-          table = ap (λ m. unpackedInto (rows m) t) (e ∙ ap countOf said) ∙ left (contractFault N (length t)) (ap (contractFault N) (sym l)) t l;
+          table = ap (λ m. unpackedInto (rows m) t) (e ∙ ap givenCount said) ∙ left (contractFault N (length t)) (ap (contractFault N) (sym l)) t l;
         };
   }
 

@@ -70,9 +70,9 @@ pub record Given (N : Network) (ks xs ys : List ℕ) (r : ContractAnswer) (ks′
   pub rows : RowsFilled (contracted N .reaches) ks xs ys ks′ xs′ ys′
 
 -- How many reaches were given: none where the table is refused.
-abbrev pub countOf : ContractAnswer → ℕ
-countOf (Refused r) = 0
-countOf (Contracted n m) = m
+abbrev pub givenCount : ContractAnswer → ℕ
+givenCount (Refused r) = 0
+givenCount (Contracted n m) = m
 
 -- What the call promises of a lent buffer, with the reaches as rows: what they leave in every buffer with this room.
 pub record ContractPacked (N : Network) (room : ℕ) (r : PackedAnswer) : Type 0 where

@@ -16,7 +16,7 @@ ghost use lib.ListN.{length};
 ghost use Rattle.network.specs.Networks.{net};
 ghost use Rattle.tables.specs.Rows.{netOf};
 ghost use Rattle.packing.specs.Tables.{OfTable};
-ghost use Rattle.contraction.specs.Calls.{Contractible, Given, countOf, ContractRows, ContractPacked, ContractTable};
+ghost use Rattle.contraction.specs.Calls.{Contractible, Given, givenCount, ContractRows, ContractPacked, ContractTable};
 
 // What the call answers: a refusal, or the new counts.
 pub enum ContractAnswer {
@@ -100,7 +100,7 @@ pub fn contract_rows(
 
 // How many reaches were given.
 fn count(answer: ContractAnswer) -> usize
-    ensures { λ r. ⌜ r ≡ countOf answer ⌝ }
+    ensures { λ r. ⌜ r ≡ givenCount answer ⌝ }
 {
     match answer {
         ContractAnswer::Refused(_) => 0,

@@ -99,8 +99,8 @@ module _ (N : Network) {ks xs ys ks′ xs′ ys′ : List ℕ} {r : ContractAnsw
   -- ---- first and next
 
   module _ (reply : Network → Outcome) where
-    pub reply-refused : (e : Refusal) → r ≡ C.Refused e → (buffer marks : List ℕ) → ReplyOfContracted reply N ks xs ys buffer marks (A.Refused e) ks′ xs′ ys′ buffer marks
-    reply-refused e q buffer marks =
+    pub asked-refused : (e : Refusal) → r ≡ C.Refused e → (buffer marks : List ℕ) → ReplyOfContracted reply N ks xs ys buffer marks (A.Refused e) ks′ xs′ ys′ buffer marks
+    asked-refused e q buffer marks =
         let f = refused-by e q in
         record {
           rows = c .rows;
@@ -108,10 +108,10 @@ module _ (N : Network) {ks xs ys ks′ xs′ ys′ : List ℕ} {r : ContractAnsw
           choice = rw f (record { same-number = refl; same-plan = refl });
         }
 
-    pub reply-given : {buffer marks buffer′ marks′ : List ℕ} {a : Answer} (n m : ℕ) → r ≡ C.Contracted n m → (Accepted N → SameChoice (reply (contracted N)) (reply N))
+    pub asked-given : {buffer marks buffer′ marks′ : List ℕ} {a : Answer} (n m : ℕ) → r ≡ C.Contracted n m → (Accepted N → SameChoice (reply (contracted N)) (reply N))
         → ((L : Network) → Replied (reply L) buffer marks buffer′ marks′ a → readReply L a buffer′ marks′ ≡ reply L)
         → Replied (reply (netOf n (take m ks′) (take m xs′) (take m ys′))) buffer marks buffer′ marks′ a → ReplyOfContracted reply N ks xs ys buffer marks a ks′ xs′ ys′ buffer′ marks′
-    reply-given {buffer} {marks} {buffer′} {marks′} {a} n m q law read d =
+    asked-given {buffer} {marks} {buffer′} {marks′} {a} n m q law read d =
         let o = came-out n m q in
         let call : Replied (reply (contracted N)) buffer marks buffer′ marks′ a = subst (λ (L : Network). Replied (reply L) buffer marks buffer′ marks′ a) (o .network) d in
         record { rows = c .rows; call = rw (o .clear) call; choice = rw (o .clear, read (contracted N) call) (law (o .ok)) }

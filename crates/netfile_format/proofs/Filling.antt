@@ -13,7 +13,7 @@ use Rattle.network.specs.Bridges.{noReach}
 use Rattle.network.specs.Tables.{stateNumber}
 use Rattle.lists.specs.Words.{wordOf}
 use Rattle.tables.specs.Rows.{RowsFilled}
-use Rattle.tables.proofs.Filling.{RowFilled, filled-none, filled-more, filled-all}
+use Rattle.tables.proofs.Filling.{RowFilled, row-none, row-more, row-all}
 use Rattle.netfile_format.specs.Files.{recordState}
 use Rattle.netfile_format.specs.Answers.{recordLength, reachesAt, spanOf, Fills}
 use Rattle.netfile_format.proofs.Steps.{reachFrom, front-ends}
@@ -38,9 +38,9 @@ module _ (file : List ℕ) (n : ℕ) (kinds₀ a₀ b₀ : List ℕ) (room : Fil
         below = omega arith;
         left = rw sub-zero;
         records = rw sub-zero (room .records);
-        kind-row = filled-none _ _ _ kinds₀;
-        a-row = filled-none _ _ _ a₀;
-        b-row = filled-none _ _ _ b₀;
+        kind-row = row-none _ _ _ kinds₀;
+        a-row = row-none _ _ _ a₀;
+        b-row = row-none _ _ _ b₀;
       }
 
   module _ {kinds a b : List ℕ} {i at : ℕ} (f : RowsFilling file n kinds₀ a₀ b₀ kinds a b i at) (l : i < n) where
@@ -92,16 +92,16 @@ module _ (file : List ℕ) (n : ℕ) (kinds₀ a₀ b₀ : List ℕ) (room : Fil
           below = omega arith;
           left = let e = next-left in cc;
           records = omega (arith, next-records);
-          kind-row = filled-more _ t kinds₀ kinds i k (f .kind-row) within (omega (arith, room .kind-room)) (p ∙ sym (ap (λ r. stateNumber (r .state)) here));
-          a-row = filled-more _ t a₀ a i x (f .a-row) within (omega (arith, room .a-room)) (q ∙ sym (ap (λ r. r .a) here));
-          b-row = filled-more _ t b₀ b i y (f .b-row) within (omega (arith, room .b-room)) (r ∙ sym (ap (λ r. r .b) here));
+          kind-row = row-more _ t kinds₀ kinds i k (f .kind-row) within (omega (arith, room .kind-room)) (p ∙ sym (ap (λ r. stateNumber (r .state)) here));
+          a-row = row-more _ t a₀ a i x (f .a-row) within (omega (arith, room .a-room)) (q ∙ sym (ap (λ r. r .a) here));
+          b-row = row-more _ t b₀ b i y (f .b-row) within (omega (arith, room .b-room)) (r ∙ sym (ap (λ r. r .b) here));
         })
 
   pub filling-all :
       {kinds a b : List ℕ} {i at : ℕ} → RowsFilling file n kinds₀ a₀ b₀ kinds a b i at → n ≤ i
       → RowsFilled (reachesAt n (drop 3 file)) kinds₀ a₀ b₀ kinds a b
   filling-all {kinds} {a} {b} {i} f l =
-      record { kind-row = filled-all _ _ kinds₀ kinds i (f .kind-row) all; a-row = filled-all _ _ a₀ a i (f .a-row) all; b-row = filled-all _ _ b₀ b i (f .b-row) all }
+      record { kind-row = row-all _ _ kinds₀ kinds i (f .kind-row) all; a-row = row-all _ _ a₀ a i (f .a-row) all; b-row = row-all _ _ b₀ b i (f .b-row) all }
     where
       all : i ≡ length (reachesAt n (drop 3 file))
       all = let e = length-reaches n (drop 3 file) in let b = f .below in omega arith

@@ -20,18 +20,18 @@ pub record RowFilled (g : Reach → ℕ) (t : List Reach) (row₀ row : List ℕ
   pub long : length row ≡ length row₀
 
 module _ (g : Reach → ℕ) (t : List Reach) (row₀ row : List ℕ) where
-  pub filled-none : RowFilled g t row₀ row₀ 0
-  filled-none = record { is = refl; long = refl }
+  pub row-none : RowFilled g t row₀ row₀ 0
+  row-none = record { is = refl; long = refl }
 
-  pub filled-more :
+  pub row-more :
       (i v : ℕ) → RowFilled g t row₀ row i → i < length t → i < length row₀ → v ≡ g (getD t i noReach) → RowFilled g t row₀ (set row i v) (i + 1)
-  filled-more i v f p q e =
+  row-more i v f p q e =
       let value : getD (map g t) i (g noReach) ≡ v = List·getD-map g t i noReach ∙ sym e in
       let next = paste-suc row₀ 0 (map g t) i (g noReach) (omega arith) (rw length-map p) in
       record { is = ap (λ l. set l i v) (f .is) ∙ rw (zero-add i, add-one) (rw (zero-add i, value) at next); long = length-set row i v ∙ f .long }
 
-  pub filled-all : (i : ℕ) → RowFilled g t row₀ row i → i ≡ length t → row ≡ map g t ++ drop (length t) row₀
-  filled-all i f e = f .is ∙ rw (zero-add, e, take-all (length t) (map g t) (omega (arith, length-map t g)))
+  pub row-all : (i : ℕ) → RowFilled g t row₀ row i → i ≡ length t → row ≡ map g t ++ drop (length t) row₀
+  row-all i f e = f .is ∙ rw (zero-add, e, take-all (length t) (map g t) (omega (arith, length-map t g)))
 
 -- Rows that a table was written into hold it in their first entries.
 module _ (t : List Reach) {kinds a b kinds′ a′ b′ : List ℕ} (rows : RowsFilled t kinds a b kinds′ a′ b′) (m : ℕ) (counted : length t ≡ m) where

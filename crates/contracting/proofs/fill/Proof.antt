@@ -1,4 +1,4 @@
--- `fill` meets its contract. The loop's invariant, for every basin count that fits: `Filling`. The measure is how many reaches are left.
+-- `fill` meets its contract. The loop's invariant, for every basin count that fits: `KeptFilling`. The measure is how many reaches are left.
 -- Assumes nothing.
 use Prim.Native.Nat.{ℕ, _-_}
 use mathlib.Core.Path.{sym, _∙_}
@@ -6,12 +6,12 @@ use native.Mathlib.Omega.{arith}
 use lib.ListN.{length}
 use borrow.Author.Tests.{not-true, not-false}
 use Rattle.contracting.specs.Filling.{FillableOf}
-use Rattle.contracting.proofs.Turns.{Filling, Places, filling-none, filling-all, places, filling-drop, filling-stay}
+use Rattle.contracting.proofs.Turns.{KeptFilling, Places, kept-filling-none, kept-filling-all, places, kept-filling-drop, kept-filling-stay}
 use Rattle.contracting.proofs.fill.Statement.{statement}
 use Rattle.contracting.proofs.fill.Tie as tie
 
 abbrev Inv-loop : tie.InvT-loop
-Inv-loop kinds a b labels notes₀ kinds2₀ a2₀ b2₀ k₀ i₀ notes kinds2 a2 b2 k i = (n : ℕ) → FillableOf n kinds a b labels notes₀ kinds2₀ a2₀ b2₀ → Filling n kinds a b notes₀ kinds2₀ a2₀ b2₀ notes kinds2 a2 b2 k i
+Inv-loop kinds a b labels notes₀ kinds2₀ a2₀ b2₀ k₀ i₀ notes kinds2 a2 b2 k i = (n : ℕ) → FillableOf n kinds a b labels notes₀ kinds2₀ a2₀ b2₀ → KeptFilling n kinds a b notes₀ kinds2₀ a2₀ b2₀ notes kinds2 a2 b2 k i
 
 abbrev μ-loop : tie.MeasureT-loop
 μ-loop kinds a b labels notes₀ kinds2₀ a2₀ b2₀ k₀ i₀ notes kinds2 a2 b2 k i = length kinds - i
@@ -28,7 +28,7 @@ turn c =
 loop-holds : tie.Need-loop-holds Inv-loop μ-loop
 loop-holds c =
     let s = c .before .before .before .before .before .before .before .before in
-    λ n p. filling-none n (s .args .kinds .now) (s .args .a .now) (s .args .b .now) (s .args .labels .now) (s .args .notes .now) (s .args .kinds2 .now) (s .args .a2 .now) (s .args .b2 .now) p
+    λ n p. kept-filling-none n (s .args .kinds .now) (s .args .a .now) (s .args .b .now) (s .args .labels .now) (s .args .notes .now) (s .args .kinds2 .now) (s .args .a2 .now) (s .args .b2 .now) p
 
 mul-c : tie.Need-mul-c Inv-loop μ-loop
 mul-c c = omega (arith, turn c)
@@ -94,7 +94,7 @@ loop-again : tie.Need-loop-again Inv-loop μ-loop
 loop-again c =
     let s = c .before .before .before .before .before .before .before .before .before .before .before .before .before .before .before .before .before .before .before .before in
     let t = c .before .before .before .before .before .before .before .before .before .before in
-    λ n p. filling-drop n (s .args .kinds .now) (s .args .a .now) (s .args .b .now) (s .args .labels .now) (s .args .notes .now) (s .args .kinds2 .now) (s .args .a2 .now) (s .args .b2 .now) p
+    λ n p. kept-filling-drop n (s .args .kinds .now) (s .args .a .now) (s .args .b .now) (s .args .labels .now) (s .args .notes .now) (s .args .kinds2 .now) (s .args .a2 .now) (s .args .b2 .now) p
     (t .before .loop .inv n p) (t .loop-test .taken) (c .before .before .before .note-after .result) (c .before .before .before .note-after .ensures) (sym (not-true (c .before .stays .result) (c .if1 .taken)) ∙ c .before .stays .ensures)
 
 shared-slice-read-kinds2 : tie.Need-shared-slice-read-kinds2 Inv-loop μ-loop
@@ -128,7 +128,7 @@ loop-again-2 : tie.Need-loop-again-2 Inv-loop μ-loop
 loop-again-2 c =
     let s = c .before .before .before .before .before .before .before .before .before .before .before .before .before .before .before .before .before .before .before .before .before in
     let t = c .before .before .before .before .before .before .before .before .before .before .before in
-    λ n p. filling-stay n (s .args .kinds .now) (s .args .a .now) (s .args .b .now) (s .args .labels .now) (s .args .notes .now) (s .args .kinds2 .now) (s .args .a2 .now) (s .args .b2 .now) p
+    λ n p. kept-filling-stay n (s .args .kinds .now) (s .args .a .now) (s .args .b .now) (s .args .labels .now) (s .args .notes .now) (s .args .kinds2 .now) (s .args .a2 .now) (s .args .b2 .now) p
     (t .before .loop .inv n p) (t .loop-test .taken) (sym (not-false (c .before .before .stays .result) (c .before .if1 .left)) ∙ c .before .before .stays .ensures) (c .before .before .before .before .note-after .result) (c .before .before .before .before .note-after .ensures)
 
 same-length : tie.Need-same-length Inv-loop μ-loop
@@ -146,7 +146,7 @@ same-length-4 c = (c .before .loop .inv (c .before .before .before .before .befo
 returns : tie.Need-returns Inv-loop μ-loop
 returns c =
     let s = c .before .before .before .before .before .before .before .before .before .before in
-    record { of = λ n p. filling-all n (s .args .kinds .now) (s .args .a .now) (s .args .b .now) (s .args .labels .now) (s .args .notes .now) (s .args .kinds2 .now) (s .args .a2 .now) (s .args .b2 .now) p (c .before .loop .inv n p) (c .loop-test .left) }
+    record { of = λ n p. kept-filling-all n (s .args .kinds .now) (s .args .a .now) (s .args .b .now) (s .args .labels .now) (s .args .notes .now) (s .args .kinds2 .now) (s .args .a2 .now) (s .args .b2 .now) p (c .before .loop .inv n p) (c .loop-test .left) }
 
 pub fill-spec : {M : Type 1} → statement M
 fill-spec =

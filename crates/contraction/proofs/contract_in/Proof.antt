@@ -1,7 +1,7 @@
 -- `contraction::contract_in` meets its contract: the components, and what stays of the table.
 -- Assumes nothing.
 use native.Mathlib.Omega.{arith}
-use Rattle.contraction.proofs.Answers.{fillable, filled}
+use Rattle.contraction.proofs.Answers.{fillable, given-filled}
 use borrow.Author.Needs.{needs}
 use Rattle.contraction.proofs.contract_in.Statement.{statement}
 use Rattle.contraction.proofs.contract_in.Tie as tie
@@ -34,7 +34,7 @@ returns : tie.Need-returns
 returns c =
     let s = c .before .before .before .before .before .before .before .before .before .before .before .before .before .before .before .before .before .before .before .before .before .before .before .before .before .before .before .before .before in
     let k = c .before .before .before .before .before .before .before .before .before .before .before .before .before .before .before .before .before .before .components in
-    filled (s .pre .0) (k .ensures) (c .before .before .before .before .before .before .before .before .fill .ensures .of (s .args .n) (fillable (s .pre .0) (k .ensures) (omega (arith, s .pre .1 .0, k .kept .1 .1 .1 .1 .0)) (omega (arith, s .pre .1 .1, k .kept .1 .1 .1 .1 .1 .0))))
+    given-filled (s .pre .0) (k .ensures) (c .before .before .before .before .before .before .before .before .fill .ensures .of (s .args .n) (fillable (s .pre .0) (k .ensures) (omega (arith, s .pre .1 .0, k .kept .1 .1 .1 .1 .0)) (omega (arith, s .pre .1 .1, k .kept .1 .1 .1 .1 .1 .0))))
 
 pub contract-in-spec : {M : Type 1} → statement M
 contract-in-spec =

@@ -9,7 +9,7 @@ use Rattle.network.specs.Networks.{Network, Accepted, tableFault}
 use Rattle.tables.specs.Rows.{netOf}
 use Rattle.tables.proofs.Cuts.{cut-kinds, cut-a, cut-b}
 use Rattle.tables.proofs.Faults.{answer-refused, answer-accepted}
-use Rattle.contraction.proofs.Answers.{fault-table, rows-refused, short, contractible, given}
+use Rattle.contraction.proofs.Answers.{fault-table, rows-refused, cut-short, contractible, cut-given}
 use Rattle.contraction.proofs.contract_rows.Statement.{statement}
 use Rattle.contraction.proofs.contract_rows.Tie as tie
 
@@ -57,7 +57,7 @@ returns-2 c =
     let s = c .before .before .before .before .before .before .before .before .before .before .before .before .before .before .before .args in
     let m = c .before .before .before .before .before .row-count in
     let k = c .before .row-count2 in
-    short (s .basins) (s .kinds .now) (s .a .now) (s .b .now) (m .result) (m .ensures) (sound (c .before .before .before .before .before .before)) (s .kinds2 .now) (s .a2 .now) (s .b2 .now) (k .result) (k .ensures) (omega (arith, c .if1 .taken))
+    cut-short (s .basins) (s .kinds .now) (s .a .now) (s .b .now) (m .result) (m .ensures) (sound (c .before .before .before .before .before .before)) (s .kinds2 .now) (s .a2 .now) (s .b2 .now) (k .result) (k .ensures) (omega (arith, c .if1 .taken))
 
 slice-aggregate-contract-accepted : tie.Need-slice-aggregate-contract-accepted
 slice-aggregate-contract-accepted c =
@@ -98,7 +98,7 @@ returns-3 c =
     let s = c .before .before .before .before .before .before .before .before .before .before .before .before .before .before .before .before .before .before .before .before .before .before .before .before .before .before .before .before .args in
     let m = c .before .before .before .before .before .before .before .before .before .before .before .before .before .before .before .before .before .before .row-count in
     let k = c .before .before .before .before .before .before .before .before .before .before .before .before .before .before .row-count2 in
-    given (s .basins) (s .kinds .now) (s .a .now) (s .b .now) (m .result) (m .ensures) (sound (c .before .before .before .before .before .before .before .before .before .before .before .before .before .before .before .before .before .before .before)) (s .kinds2 .now) (s .a2 .now) (s .b2 .now) (k .result) (k .ensures) (omega (arith, c .before .before .before .before .before .before .before .before .before .before .before .before .before .if1 .left))
+    cut-given (s .basins) (s .kinds .now) (s .a .now) (s .b .now) (m .result) (m .ensures) (sound (c .before .before .before .before .before .before .before .before .before .before .before .before .before .before .before .before .before .before .before)) (s .kinds2 .now) (s .a2 .now) (s .b2 .now) (k .result) (k .ensures) (omega (arith, c .before .before .before .before .before .before .before .before .before .before .before .before .before .if1 .left))
     (c .before .before .before .before .before .before .contract-accepted .ensures)
 
 pub contract-rows-spec : {M : Type 1} → statement M
