@@ -1,9 +1,10 @@
 #!/usr/bin/env python3
 """Writes the case file `stdin` and the expected output `stdout` of the program test_calls, into the folder that this file stands in.
 
-What is expected is worked out here from document 01 and items 1, 2 and 3 of document 02 alone. Small networks are planned by trying every setting, from every
+What is expected is worked out here from document 01 and items 1 to 4 of document 02 alone. Small networks are planned by trying every setting, from every
 wet basin, and every division of the wet basins, and their bound gates are looked up in all their plans; larger ones go by the theorem, gate by gate. Where
-both can be had they are compared. The pseudo-random sequence is fixed: the files never change by themselves.
+both can be had they are compared. Clusters are found by relabelling until nothing changes; of small networks the folded one must have the same plans, by
+trying every setting. The pseudo-random sequence is fixed: the files never change by themselves.
 """
 import os
 from bisect import bisect
@@ -167,6 +168,46 @@ def misfits(reaches, setting):
     return len(setting) != gates_of(reaches) or any(x > 1 for x in setting)
 
 
+# ---- clusters folded into one basin (document 02, item 4)
+
+def lowest_members(basins, reaches):
+    """Of each basin the lowest that two-way reaches in service join it to: each reach gives both its ends the lower of their two labels, until none changes."""
+    label, changed = list(range(basins)), True
+    while changed:
+        changed = False
+        for kind, a, b in reaches:
+            if kind == TWO_WAY and label[a] != label[b]:
+                label[a] = label[b] = min(label[a], label[b])
+                changed = True
+    return label
+
+
+def clusters(basins, reaches):
+    """The number of each basin's cluster."""
+    label = lowest_members(basins, reaches)
+    order = {low: number for number, low in enumerate(sorted(set(label)))}
+    return [order[low] for low in label]
+
+
+def fold(basins, reaches):
+    """The folded network: (basins, reaches)."""
+    number = clusters(basins, reaches)
+    size, first = Counter(number), {}
+    for i, (kind, a, _) in enumerate(reaches):
+        if kind == TWO_WAY:
+            first.setdefault(number[a], i)
+
+    def stays(i, kind, c, d):
+        if kind == FLAP:
+            return c != d or size[c] == 1
+        if kind == TWO_WAY:
+            return size[c] == 1 or first[c] == i
+        return kind == GATED
+
+    ends = [(kind, number[a], number[b]) for kind, a, b in reaches]
+    return len(size), tuple(r for i, r in enumerate(ends) if stays(i, *r))
+
+
 def mark_bytes(marked):
     return [marked >> 8 * byte & 255 for byte in range(32)]
 
@@ -204,6 +245,11 @@ def step_call(held, basins, reaches, p, m):
     answer = answer or plan_call(basins, reaches, held[:gates_of(reaches)], p, m)
     plan = answer[2]
     return answer, list(plan) + held[len(plan):]
+
+
+def contract_call(basins, reaches, room):
+    """The number of a refusal, or (basins, reaches) of the folded network."""
+    return table_fault(basins, reaches) or (7 if room < len(reaches) else 0) or fold(basins, reaches)
 
 
 def word(s, i):
@@ -386,7 +432,7 @@ class Out:
 
 # first plan is a walk that does not go on, a step a walker that does not
 CALLS = ['table', 'check', 'walk', 'bound', 'next', 'make', 'walker', 'read network', 'write network', 'read sheet', 'write sheet', 'write reply', 'list',
-         'list placed']
+         'list placed', 'contract']
 CODES = dict([(call, i) for i, call in enumerate(CALLS)] + [('first', 2), ('step', 6)])
 
 
@@ -408,6 +454,19 @@ def show_step(o, answer, held, p, m):
     show_plan_call(o, answer, p, m)
     o.row(held[:p + 2])
     o.row(held)
+
+
+def show_rows(o, got, k, x, y):
+    """A refusal, or a basin count and reaches; and the three rows that are lent for these."""
+    o.reply(got if isinstance(got, int) else 0)
+    if isinstance(got, int):
+        got = (0, ())
+    else:
+        o.value(got[0])
+        o.value(len(got[1]))
+    o.row(padded([r[0] for r in got[1]], k))
+    o.row(padded([r[1] for r in got[1]], x, OLD_WORD), OLD_WORD)
+    o.row(padded([r[2] for r in got[1]], y, OLD_WORD), OLD_WORD)
 
 
 def play(o, c, table):
@@ -451,15 +510,9 @@ def play(o, c, table):
         got = read_network(s)
         if not isinstance(got, int) and min(k, x, y) < len(got[1]):
             got = 7
-        o.reply(got if isinstance(got, int) else 0)
-        if isinstance(got, int):
-            got = (0, ())
-        else:
-            o.value(got[0])
-            o.value(len(got[1]))
-        o.row(padded([r[0] for r in got[1]], k))
-        o.row(padded([r[1] for r in got[1]], x, OLD_WORD), OLD_WORD)
-        o.row(padded([r[2] for r in got[1]], y, OLD_WORD), OLD_WORD)
+        show_rows(o, got, k, x, y)
+    elif call == 'contract':
+        show_rows(o, contract_call(basins, reaches, min(p, m, limit)), p, m, limit)
     elif call == 'list':
         text = listing(s)
         for at in range(0, p * limit + 1, p or 1):
@@ -517,7 +570,8 @@ class Group:
         k, x, y = (self.total if z is None else z for z in (k, x, y))
         n = len(data) if n is None else n
         c = [CODES[call]] + [z for v in (basins, k, x, y, p, m, n, limit, 0) for z in two(v)] + list(data)
-        fields = {'call': 0, 'basins': 1, 'basins high': 2, 'k': 3, 'k high': 4, 'x': 5, 'y': 7, 'p': 9, 'm': 11, 'n': 13, 'line': 18}
+        fields = {'call': 0, 'basins': 1, 'basins high': 2, 'k': 3, 'k high': 4, 'x': 5, 'y': 7, 'p': 9, 'p high': 10, 'm': 11, 'm high': 12, 'n': 13,
+                  'limit': 15, 'limit high': 16, 'line': 18}
         vary = [(fields[v[0]] if v[0] in fields else 19 + v[0],) + tuple(v[1:]) for v in vary]
         mode = mode if mode is not None else BRIEF if vary or call == 'list' else FULL
         name = name or call
@@ -575,6 +629,11 @@ class Family(Group):
 
 
 GROUPS = []
+
+
+def new_rows(n):
+    """The lengths of the three rows that a folded network is written to."""
+    return dict(p=n, m=n, limit=n)
 
 
 def group(title, reaches):
@@ -650,6 +709,7 @@ def whole(title, basins, reaches):
     gr.case('read sheet', basins, sheet, p=g, vary=[(3 + 3 * i, 2, 17) for i in range(g)])
     gr.case('read sheet', basins, reply_sheet(reaches), p=g + 1)
     gr.case('list', 0, file, p=len(listing(file)) + 16)
+    gr.case('contract', basins, **new_rows(len(reaches)))
 
 
 whole('case 1: one basin, no reach', 1, [])
@@ -682,7 +742,7 @@ whole('case 10 with a shut two-way reach beside its gate', 3, [(ST, 0, 1), (G, 0
 whole('case 11 with a shut two-way reach back', 3, [(F, 0, 1), (ST, 2, 0), (G, 1, 2)])
 whole('case 13 with its third gate shut', 4, [(SG if (a, b) == (0, 3) else G, a, b) for a in range(4) for b in range(a + 1, 4)])
 gr = group('case 2 with a reach of each number beside its gate', [])
-for call in ('walk', 'bound', 'write network', 'write reply'):
+for call in ('walk', 'bound', 'write network', 'write reply', 'contract'):
     gr.case(call, 2, table_bytes([(G, 0, 1), (G, 1, 0)]), p=38, k=2, x=2, y=2, limit=3, vary=[(3, 256, 0)], mode=QUIET, listed=True)
 
 
@@ -713,6 +773,7 @@ def cuts(title, basins, reaches):
     gr.case('write sheet', basins, zeros, p=4 + 3 * g, vary=any_setting, mode=QUIET)
     gr.case('read sheet', basins, [16, 0, 0, 9], p=g, vary=vary)
     gr.case('read sheet', basins, sheet, p=g, vary=vary + [(3 + 3 * i, 2, 17) for i in range(g)])
+    gr.case('contract', basins, vary=vary, **new_rows(len(reaches)))
 
 
 whole('case 4 with its reach shut', 2, [(ST, 0, 1)])
@@ -732,6 +793,7 @@ line = moved([(T, v, v + 1) for v in range(42) if v != 20] + [(SG, 20, 21), (G, 
 gr = group('256 basins: two lines at every sixth, then a shut gate, a gate and a flap between', line)
 for call in ('first', 'bound', 'write reply'):
     gr.case(call, 256, p=38, vary=[('k', 4, 41)], mode=FULL)
+gr.case('contract', 256, vary=[('k', 4, 41)], mode=FULL, **new_rows(44))
 
 file = network_file(4, [(G, 1, 3), (G, 3, 1)])
 gr = group('dry basins: files of G1-3 and another reach, with four and five basins', [])
@@ -761,6 +823,8 @@ for title, kind in (('flaps', F), ('two-way reaches', T), ('shut gates', SG)):
     gr.case('write network', 256, p=length - 1, k=1024, vary=[('p', 3, length % 256 - 1)])
     gr.case('first', 256, k=256)
     gr.case('bound', 256, k=256)
+    gr.case('contract', 0, k=1024, vary=EDGES, **new_rows(1024))
+    gr.case('contract', 0, k=1024, vary=EDGES, **new_rows(1023))
 
 gr = group('case 12: gates round a ring of 256 basins, four times', ring(256, 1026, G))
 zeros = [0] * 1025
@@ -780,6 +844,7 @@ gr.case('walk', 256, p=1024, k=1024, limit=2)
 gr.case('walker', 256, zeros[:1024], p=1024, k=1024, limit=2)
 gr.case('table', 256, k=1025, x=1024, y=1026)
 gr.case('table', 256, k=1026, x=1026, y=1025)
+gr.case('contract', 256, k=1024, vary=[('p high', 2, 3), ('m high', 2, 3), ('limit high', 2, 3)], **new_rows(1024))
 
 for odd in ((G, 256, 0), (G, 0, 255), (F, 0, 255), (T, 0, 255), (SF, 0, 255), (SG, 190, 191)):
     gr = group('gates round a ring of 255 basins, and reach 700 is ' + letters([odd]), ring(255, 1025, G, (700, odd)))
@@ -791,6 +856,8 @@ for odd in ((G, 256, 0), (G, 0, 255), (F, 0, 255), (T, 0, 255), (SF, 0, 255), (S
     gr.case('write reply', 256, k=1024, vary=[('p', 6, 32)])
     gr.case('write reply', 255, p=3076, k=1024)
     gr.case('write network', 256, p=5125, k=1024)
+    gr.case('contract', 0, k=1024, vary=EDGES, **new_rows(1024))
+    gr.case('contract', 0, k=1024, vary=EDGES + [('m', 2, 255)], p=1028, m=1023, limit=1026)
 
 for odd in [(kind, a, b) for kind in (F, ST) for a, b in ((3, 3), (3, 4), (4, 3), (4, 4), (65535, 0))]:
     gr = group('case 12: flaps round a ring of four basins, and ' + letters([odd]), ring(4, 4, F) + [odd])
@@ -804,6 +871,7 @@ for place, odd in ((245, (G, 245, 246)), (9, (F, 10, 9)), (0, (F, 0, 1)), (100, 
     gr.case('bound', 256, p=1)
     gr.case('next', 256, [0] * gates_of(gr.reaches), p=1, m=34)
     gr.case('write reply', 256, p=36)
+    gr.case('contract', 256, **new_rows(255))
 
 
 # ---- case 14: a 16 by 16 grid, row by row the reaches to the right, then those down
@@ -895,6 +963,10 @@ for title, reaches in TABLES:
     gr.case('write network', 3, p=40, vary=lengths)
     gr.case('check', 3, [0, 0, 0, 0, 0], vary=lengths + [('n', 3, 2)])
     gr.case('read sheet', 3, sheet, p=8, vary=lengths)
+    rows = [('p', 3, 5), ('m', 3, 5), ('limit', 3, 5)]
+    gr.case('contract', 3, vary=table + rows, **at_six)
+    gr.case('contract', 3, vary=lengths + rows, mode=QUIET)
+    gr.case('contract', 3, vary=lengths, p=8, m=9, limit=10)
 
 
 # ---- small networks of a fixed sequence, all different
@@ -982,6 +1054,7 @@ for f, (basins, g) in enumerate(product(range(2, 7), range(11))):
     gr.case('walker', basins, [0] * g, p=g, limit=40, mode=QUIET)
     gr.case('step', basins, setting, p=g, vary=[('basins', 2, basins)] + vary[-3:], mode=QUIET)
     gr.case('write reply', basins, p=40, vary=[('basins', 2, basins)], mode=QUIET)
+    gr.case('contract', basins, vary=[('basins', 2, basins)], mode=QUIET, **new_rows(12))
 
 # many more, 168 from each eleven reaches: the first two of all kinds, and shut (the first of all kinds, the second by number 255), and cut at five to
 # eleven; the sums of all their plans and of the bytes of their gates. Of the first for each number of basins the other nine are shut, so that most are dry
@@ -1084,6 +1157,151 @@ assert often(400, *('%d with dry %s' % (n, place) for n in (0, 9, 10) for place 
 assert often(1000, 'dry end') and often(400, 'bound and dry') and often(100, *('0 for want of %d' % k for k in (G, F, T)))
 
 
+# ---- clusters folded into one basin (document 02, item 4)
+
+FOLDED = Counter()
+
+
+def grown_clusters(basins, reaches):
+    """The clusters as sets of basins, in the order of their lowest members: each grows by the basins beside it until there are none."""
+    beside = [{v} for v in range(basins)]
+    for kind, a, b in reaches:
+        if kind == T:
+            beside[a].add(b)
+            beside[b].add(a)
+    out = []
+    for v in range(basins):
+        if not any(v in cluster for cluster in out):
+            cluster, grown = set(), {v}
+            while cluster != grown:
+                cluster, grown = grown, grown.union(*(beside[u] for u in grown))
+            out.append(cluster)
+    return out
+
+
+def hold_folding(basins, reaches):
+    """What item 4 says of a network with few gates: its clusters found in another way; which of them are wet; "a smaller network with the same choices";
+    "folding again changes nothing"."""
+    number, found = clusters(basins, reaches), grown_clusters(basins, reaches)
+    count, folded = fold(basins, reaches)
+    assert count == len(found) and all(number[v] == c for c, cluster in enumerate(found) for v in cluster)
+    net, small = Network(reaches, try_all=False), Network(folded, try_all=False)
+    assert set(small.wet) == {number[v] for v in net.wet} and gates_of(folded) == gates_of(reaches)
+    assert all(net.strong(s) == small.strong(s) for s in product((0, 1), repeat=len(net.gates)))
+    assert count <= basins and len(folded) <= len(reaches) and not table_fault(count, folded) and fold(count, folded) == (count, folded)
+    FOLDED.update(['all'] + folding_traits(basins, reaches, number, found, net.finding is None, net.wet))
+
+
+def folding_traits(basins, reaches, number, found, has_plan, wet):
+    several = [c for c, cluster in enumerate(found) if len(cluster) > 1]
+    if not several:
+        return ['no cluster of several']
+    named = list(dict.fromkeys(number[v] for _, a, b in served(reaches) for v in (a, b)))
+    loops = [a == b for c in several for _, a, b in [r for r in reaches if r[0] == T and number[r[1]] == c][:1]]
+    inner = [k for k, a, b in reaches if number[a] == number[b] in several]
+    return ['clusters'] + ['clusters and gates: ' + ('a plan' if has_plan else 'none')] * (gates_of(reaches) > 0) + ['two clusters'] * (len(several) > 1) + \
+        ['named in another order'] * (named != sorted(named)) + ['a loop stays'] * any(loops) + ['a dry basin'] * (len(wet) < basins) + \
+        ['inside: %d' % k for k in set(inner) if k < SHUT] + ['shut two-way between'] * any(k >= ST and number[a] != number[b] for k, a, b in reaches) + \
+        ['loops alone: %d' % k for k in {k for k, a, b in served(reaches) if a == b and number[a] not in several}]
+
+
+# cases of item 4, with the folded networks that are seen by hand
+
+def folded_to(title, basins, text, count, folded):
+    gr = group('folded: ' + title, reaches_of(text))
+    assert fold(basins, gr.reaches) == (count, tuple(reaches_of(folded)))
+    hold_folding(basins, gr.reaches)
+    gr.case('contract', basins, **new_rows(gr.total))
+    gr.case('contract', basins, vary=[('k', gr.total + 1, 0)], p=gr.total + 2, m=gr.total, limit=gr.total + 1)
+
+
+folded_to('two clusters and two basins alone, named in another order', 6, 'T4-2 G5-1 T3-0 F3-4', 4, 'T2-2 G3-1 T0-0 F0-2')
+folded_to('of a cluster a loop comes first; a gate, flaps and more inside', 3, 'T1-1 T0-1 G0-1 F1-0 T1-2 F2-2 T0-2', 1, 'T0-0 G0-0')
+folded_to('loops of a basin alone, parallel flaps and gates', 2, 'T0-0 T0-0 F0-0 F0-1 F0-1 G1-0 G1-0', 2, 'T0-0 T0-0 F0-0 F0-1 F0-1 G1-0 G1-0')
+folded_to('shut reaches, and a basin that only they reach', 4, 't0-1 T0-2 g1-3 f0-0 G1-2', 3, 'T0-0 G1-0')
+folded_to('two clusters, flaps and gates between them, dry basins between', 9, 'F1-7 T5-7 G5-3 T3-1 F7-1 F5-7 G3-1 t2-4 T7-7', 7, 'F1-4 T4-4 G4-1 T1-1 F4-1 G1-1')
+folded_to('joined by the last reach', 5, 'T4-3 T2-1 G0-4 F3-2 F4-3 T1-4', 2, 'T1-1 G0-1')
+
+# networks of a fixed sequence with many two-way reaches: what item 4 says holds of all, and some are played, with what they are folded to
+
+def draw_clustered(basins, gates, size):
+    """Reaches of which so many are gated, of the others every second is two-way; among them shut ones of any number."""
+    ends = draw_ends(basins)
+    kinds = [G] * gates + [(T, T, F, SHUT + NUMBERS.below(3), T, F, T, SHUT + NUMBERS.below(253))[NUMBERS.below(8)] for _ in range(size - gates)]
+    places = sorted(range(size), key=lambda i: NUMBERS.below(1 << 20))
+    return tuple((kinds[i], ends[NUMBERS.below(len(ends))], ends[NUMBERS.below(len(ends))]) for i in places)
+
+
+for i in range(9000):
+    gates = i % 6
+    hold_folding(1 + i // 6 % 9, draw_clustered(1 + i // 6 % 9, gates, gates + NUMBERS.below(10)))
+
+for basins, gates in product(range(3, 9), range(4)):
+    reaches = draw_clustered(basins, gates, 12)
+    while fold(basins, reaches)[0] == basins or Network(reaches, try_all=False).finding and (basins + gates) % 2:
+        reaches = draw_clustered(basins, gates, 12)
+    hold_folding(basins, reaches)
+    for n, table in ((basins, reaches), fold(basins, reaches)):
+        gr = group('%d basins, %s' % (n, letters(table)), table)
+        gr.case('contract', n, **new_rows(len(table)))
+        gr.case('walk', n, p=gates, limit=20, mode=BRIEF)
+
+# many more, 576 from each fourteen reaches: the first and the third of all kinds and shut, the second of all kinds and of number 255, cut at eleven to fourteen
+gr = group('folded: tables of fourteen reaches, three of all kinds and shut, cut at eleven to fourteen reaches', [])
+for basins in range(3, 13):
+    for i in range(4):
+        gr.case('contract', basins, table_bytes(draw_clustered(basins, NUMBERS.below(4), 14)), k=11, x=14, y=14,
+                vary=[('k', 4, 11), (2, 6, 0), (3, 4, 255), (4, 6, 0)], mode=QUIET, listed=True, name='%d basins' % basins, **new_rows(14))
+
+# the limits: one cluster of 256 basins, joined in bad orders; then inside it a gate, flaps and a shut reach
+
+def by_lot(reaches):
+    return [(k, b, a) if NUMBERS.below(2) else (k, a, b) for k, a, b in sorted(reaches, key=lambda r: NUMBERS.below(1 << 20))]
+
+
+path = [(T, v, v + 1) for v in range(255)]
+blocks = [(T, v + 2 * step - 1, v + step - 1) for step in (1, 2, 4, 8, 16, 32, 64, 128) for v in reversed(range(0, 256, 2 * step))]
+comb = [(T, v + 1, v) for v in reversed(range(127))] + [(T, 255 - v, v) for v in range(128)]
+for title, reaches in (('a path, rising', path), ('a path, falling', path[::-1]), ('a path by lot', by_lot(path)), ('a comb, its spine falling', comb),
+                       ('a star at 255', [(T, 255, v) for v in range(255)]), ('blocks, joined at their highest', blocks),
+                       ('a tree by lot', by_lot([(T, NUMBERS.below(v), v) for v in range(1, 256)]))):
+    gr = group('folded: 256 basins, %s' % title, reaches + [(G, 0, 255), (F, 3, 200), (F, 200, 200), (ST, 5, 6)])
+    assert len(reaches) == 255 and fold(256, gr.reaches) == (1, ((T, 0, 0), (G, 0, 0)))
+    gr.case('contract', 256, vary=[('k high', 2, 0), ('k', 4, 0)], **new_rows(259))
+    gr.case('contract', 256, k=240, vary=[('k', 16, 240)], mode=QUIET, **new_rows(255))
+
+pairs = [(T, v, 255 - v) if i % 2 else (T, 255 - v, v) for i in range(8) for v in reversed(range(128))]
+gr = group('folded: 128 pairs of basins, each joined eight times', pairs)
+gr.case('contract', 256, vary=[('k high', 5, 0)], **new_rows(1024))
+
+for title, kinds in (('all two-way', (T, T)), ('its rows two-way', (T, G)), ('its columns two-way, its rows flaps', (F, T))):
+    reaches = [(kinds[b - a == 16], a, b) for _, a, b in grid]
+    gr = group('folded: a 16 by 16 grid, ' + title, reaches)
+    assert fold(256, gr.reaches)[0] == (1 if kinds == (T, T) else 16)
+    gr.case('contract', 256, **new_rows(480))
+    gr.case('contract', 256, k=256, vary=[('k', 224, 0)], mode=QUIET, **new_rows(480))
+
+
+def among(v):
+    """A basin of v's class of forty."""
+    return v % 40 + 40 * NUMBERS.below(6)
+
+
+mixed = []
+for i in range(1026):
+    v, w = NUMBERS.below(256), NUMBERS.below(256)
+    mixed.append(((T, v, among(v)), (F, v, among(v)), (F, v, w), (G, v, w), (G, v, among(v)), (SHUT + NUMBERS.below(253), v, w), (ST, v, w), (T, v, v))[NUMBERS.below(8)])
+gr = group('folded: 256 basins, 1,026 reaches of all kinds by lot, the two-way ones inside forty classes', mixed)
+count, folded = fold(256, mixed[:1024])
+assert 100 < count < 200 and 400 < len(folded) < 700 and fold(count, folded) == (count, folded)
+gr.case('contract', 0, k=1024, vary=EDGES, **new_rows(1024))
+for room in ((1023, 1024, 1024), (1024, 1023, 1024), (1024, 1024, 1023), (1028, 1028, 1028), (len(folded),) * 3):
+    gr.case('contract', 256, k=1024, p=room[0], m=room[1], limit=room[2])
+gr.case('contract', 256, k=0, vary=[('k high', 4, 0), ('k', 64, 0)], mode=QUIET, **new_rows(1024))
+gr = group('folded: the same, folded', folded)
+gr.case('contract', count, **new_rows(len(folded)))
+
+
 # ---- all networks of a few reaches: their plans in order, and the bytes of their gates. Each gate made a flap is again one of these networks
 
 def networks(basins, size, kinds, mode):
@@ -1092,13 +1310,21 @@ def networks(basins, size, kinds, mode):
     for call in ('walk', 'bound'):
         gr.case(call, basins, table_bytes([(G, 0, 0)] * size), p=size, k=size, x=size, y=size, limit=1100, vary=vary, mode=mode, listed=True,
                 name='%s, %d basins, %d reaches of kinds below %d' % (call, basins, size, kinds))
+    gr.case('contract', basins, table_bytes([(G, 0, 0)] * size), k=size, x=size, y=size, vary=vary, mode=BRIEF if size == 1 else QUIET, listed=True,
+            name='contract, %d basins, %d reaches of kinds below %d' % (basins, size, kinds), **new_rows(size))
     for reaches in product(product(range(kinds), range(basins), range(basins)), repeat=size):
         assert network(reaches).finding or law_holds(reaches)
+        hold_folding(basins, reaches)
 
 
 gr = group('all networks of a few reaches', [])
 for basins, size, kinds, mode in ((2, 1, 6, BRIEF), (2, 2, 6, BRIEF), (3, 1, 6, BRIEF), (3, 2, 6, BRIEF), (2, 3, 6, QUIET), (3, 3, 3, QUIET)):
     networks(basins, size, kinds, mode)
+
+assert FOLDED['all'] == 6 + 9000 + 24 + 24 + 24 ** 2 + 54 + 54 ** 2 + 24 ** 3 + 27 ** 3 and FOLDED['clusters'] >= 15000
+assert all(FOLDED[name] >= 1000 for name in [
+    'clusters and gates: a plan', 'clusters and gates: none', 'two clusters', 'named in another order', 'a loop stays', 'a dry basin', 'shut two-way between'] +
+    ['%s: %d' % (place, k) for place in ('inside', 'loops alone') for k in (G, F, T)])
 
 
 # ---- network files
@@ -1232,7 +1458,7 @@ def main():
         tables += g.table
     cases = [x for g, place in zip(GROUPS, places) for x in g.bytes(place)]
     file = bytes(two(sum(len(g.cases) for g in GROUPS)) + two((4 + len(tables)) // 4) + tables + cases)
-    assert len(file) <= 330000          # the program reads no more
+    assert len(file) <= 390000          # the program reads no more
     with open(os.path.join(here, 'stdin'), 'wb') as f:
         f.write(file)
     with open(os.path.join(here, 'stdout'), 'w') as f:

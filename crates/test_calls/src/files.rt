@@ -24,10 +24,10 @@ pub struct Lengths {
 
 // A reader's answer, and the rows afterwards.
 pub struct Reading {
-    answer: ReadAnswer,
-    kinds: [u8; ROOM],
-    a: [u16; ROOM],
-    b: [u16; ROOM],
+    pub answer: ReadAnswer,
+    pub kinds: [u8; ROOM],
+    pub a: [u16; ROOM],
+    pub b: [u16; ROOM],
 }
 
 pub fn read(file: &[u8], n: Lengths) -> Reading {

@@ -1,6 +1,7 @@
 // The public calls over rows, replayed from a file of cases. Of each call is printed what it replies and what it leaves in every lent buffer and in
 // two entries beyond. What is to be printed comes from make.py, which knows nothing of this code.
 mod bounds;
+mod contractions;
 mod files;
 mod plans;
 mod show;
@@ -35,6 +36,8 @@ const LIST: u8 = 12;
 
 // The same, of a file that stands where the kinds of a table do.
 const LIST_PLACED: u8 = 13;
+
+const CONTRACT: u8 = 14;
 
 // A case's bytes: the call; the basin count; the lengths of the three rows; those of two buffers; that of the data; how often to go on; where the
 // table stands, in steps of four bytes; the data, which is the table where that stands nowhere.
@@ -71,6 +74,20 @@ fn read(o: Out, c: &[u8], s: &[u8]) -> Out {
     files::show_rows(o, files::read(s, n), n)
 }
 
+// The lengths of the new rows stand where those of the buffers do, and how often to go on.
+fn contract(o: Out, c: &[u8], kinds: &[u8], a: &[u16], b: &[u16]) -> Out {
+    let n = Lengths {
+        kinds: word_at(c, 9) as usize,
+        a: word_at(c, 11) as usize,
+        b: word_at(c, 15) as usize,
+    };
+    files::show_rows(
+        o,
+        contractions::contracted(word_at(c, 1), kinds, a, b, n),
+        n,
+    )
+}
+
 fn write(o: Out, c: &[u8], kinds: &[u8], a: &[u16], b: &[u16], s: &[u8]) -> Out {
     let call = byte_at(c, 0);
     let room = word_at(c, 9) as usize;
@@ -92,6 +109,7 @@ fn play_on(o: Out, c: &[u8], kinds: &[u8], a: &[u16], b: &[u16]) -> Out {
         READ_NETWORK => read(o, c, s),
         LIST => files::list(o, s, room, n),
         LIST_PLACED => files::list(o, ks, room, n),
+        CONTRACT => contract(o, c, ks, xs, ys),
         _ => write(o, c, ks, xs, ys, s),
     }
 }
@@ -217,7 +235,7 @@ fn play_cases(file: &[u8]) {
 }
 
 fn main() {
-    let mut cases = [0u8; 330000];
+    let mut cases = [0u8; 390000];
     let n = io::read_full(0, &mut cases);
     play_cases(&cases[..n]);
 }
