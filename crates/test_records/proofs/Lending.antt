@@ -204,6 +204,11 @@ table-typed 𝓤 H A W m xs is = array-lawful 𝓤 H A W R.the-row (LL.lawful R.
 abbrev pub had : {M : Type 1} {𝓤 : URA M} → Item 𝓤 → ℕ → ℕ → List Fml → Fml → Fml → Item 𝓤
 had {M} {𝓤} tokens m n before it after = (tokens ⊛ ‵ (fsep (usize .own n (vint w64 n ∷ [])) (params before it after))) ⊛ raw (fact 𝓤 (n ≤ m))
 
+-- the same where two numbers come first, of the records that are lent of two tables
+abbrev pub had-two : {M : Type 1} {𝓤 : URA M} → Item 𝓤 → ℕ → ℕ → ℕ → List Fml → Fml → Fml → Item 𝓤
+had-two {M} {𝓤} tokens m n k before it after =
+    (tokens ⊛ ‵ (fsep (usize .own n (vint w64 n ∷ [])) (fsep (usize .own k (vint w64 k ∷ [])) (params before it after)))) ⊛ (raw (fact 𝓤 (n ≤ m)) ⊛ raw (fact 𝓤 (k ≤ m)))
+
 -- another formula in the table's place
 replaced : {M : Type 1} (𝓤 : URA M) (H : Heap 𝓤) (A : Atoms 𝓤) (W : Given 𝓤 H A) (before : List Fml) (it new after : Fml) → ent 𝓤 (sep 𝓤 (sem 𝓤 H A (params before it after)) (sem 𝓤 H A new)) (sem 𝓤 H A (params before new after))
 replaced 𝓤 H A W [] it new after = qed W (‵ (fsep it after) ∷ ‵ new ∷ []) ∵ fsplit ! $ drop ! $ move ! (1 ∷ 0 ∷ []) $ fjoin ! $ done !
@@ -220,6 +225,13 @@ module _ {M : Type 1} {𝓤 : URA M} {H : Heap 𝓤} {A : Atoms 𝓤} {K : Type 
       → (n ≡ length (take n xs) → Seq K W (i ∷ (tokens ⊛ ‵ others) ∷ Γ) G) → Seq K W (i ∷ ((tokens ⊛ ‵ (fsep (usize .own n (vint w64 n ∷ [])) others)) ⊛ raw (fact 𝓤 (n ≤ m))) ∷ Γ) G
   hears t {m = m} {n = n} xs long k = move t (1 ∷ []) $ split t $ split t $ move t (1 ∷ []) $ fsplit t $ drop t $ move t (2 ∷ []) $ heard t (n ≤ m) (λ h. move t (1 ∷ 0 ∷ []) $ join t $ move t (1 ∷ 0 ∷ []) $
       k (sym (length-take-le n xs (subst (λ l. n ≤ l) (sym long) h))))
+
+  pub hears-two : K → {i tokens : Item 𝓤} {m n k : ℕ} {others : Fml} (xs ys : List Reach) → length xs ≡ m → length ys ≡ m
+      → (n ≡ length (take n xs) → k ≡ length (take k ys) → Seq K W (i ∷ (tokens ⊛ ‵ others) ∷ Γ) G)
+      → Seq K W (i ∷ ((tokens ⊛ ‵ (fsep (usize .own n (vint w64 n ∷ [])) (fsep (usize .own k (vint w64 k ∷ [])) others))) ⊛ (raw (fact 𝓤 (n ≤ m)) ⊛ raw (fact 𝓤 (k ≤ m)))) ∷ Γ) G
+  hears-two t {m = m} {n = n} {k = k} xs ys long long′ c = move t (1 ∷ []) $ split t $ split t $ move t (1 ∷ []) $ fsplit t $ drop t $ fsplit t $ drop t $ move t (2 ∷ []) $ split t $
+      heard t (n ≤ m) (λ h. heard t (k ≤ m) (λ h′. move t (1 ∷ 0 ∷ []) $ join t $ move t (1 ∷ 0 ∷ []) $
+      c (sym (length-take-le n xs (subst (λ l. n ≤ l) (sym long) h))) (sym (length-take-le k ys (subst (λ l. k ≤ l) (sym long′) h′)))))
 
   -- the table's first records are lent, and the slice goes where the call has the table
   pub lends-table : K → Soaks G → (j : ℕ) {cs : List Cell} {tokens : Item 𝓤} (before : List Fml) (after : Fml) {m b : ℕ} {v : Val} (xs : List Reach) (n : ℕ) → getElem? cs j ≡ just (tableTy m, b, full v) → Holds m xs v → Room R.the-row m
@@ -250,3 +262,14 @@ module _ {M : Type 1} {𝓤 : URA M} {H : Heap 𝓤} {A : Atoms 𝓤} {K : Type 
   table-back-mut t z j token {α = α} xs n ys long h k = move t (1 ∷ []) $ use1 W (token ⊛ ‵ (flft (α ∷ []) fullShare) ⊛ ‵ ftrue) h $ split t $ move t (1 ∷ []) $ split t $ move t (4 ∷ []) $ fsplit t $ move t (1 ∷ []) $ fsplit t $ fsplit t $
       -- [the last records; their number; nothing, twice; the table's token; nothing; the other token; the locals; the result; what is owed]
       move t (7 ∷ 4 ∷ 0 ∷ 9 ∷ []) $ front-back-mut t z j xs n ys long (λ v is. move t (1 ∷ []) $ drop t $ move t (4 ∷ 3 ∷ []) $ join t $ move t (2 ∷ 3 ∷ []) $ fjoin t $ nothing t $ fjoin t $ nothing t $ fjoin t $ move t (2 ∷ 1 ∷ 0 ∷ []) $ k v is)
+
+  -- a table that is lent as `&`, and after it one as `&mut`, from the places j and j′; both come back, the second with zs in the place of the lent records
+  pub tables-back : K → Soaks G → (j j′ : ℕ) {cs : List Cell} {r : Item 𝓤} {P : SProp 𝓤} {E : Fml} {α β m b c : ℕ} {γ : GName} (xs : List Reach) (n : ℕ) (ys : List Reach) (k : ℕ) (zs : List Reach) → length xs ≡ m → length ys ≡ m
+      → ent 𝓤 P (mean 𝓤 H A (‵ (flft (α ∷ []) fullShare) ⊛ ‵ (flft (β ∷ []) fullShare) ⊛ ‵ ftrue))
+      → ((u v : Val) → Holds m (zs ++ skip k ys) v → Seq K W (locals (insert j (tableTy m, b, full u) (insert j′ (tableTy m, c, full v) cs)) ∷ ‵ ftrue ∷ ‵ (fsep ftrue (fsep ftrue (fsep ftrue (fsep ftrue (fsep ftrue ftrue))))) ∷ r ∷ Γ) G)
+      → Seq K W (locals cs ∷ raw P ∷ ‵ (fsep ftrue (fsep ftrue (fsep (fsep (finally R.the-row γ zs) E) ftrue))) ∷ r ∷ ‵ (OwedMut β γ m c ys k) ∷ ‵ (Owed α m b xs n) ∷ Γ) G
+  tables-back t z j j′ {α = α} {β = β} xs n ys k zs long long′ h go = move t (1 ∷ []) $ use1 W (‵ (flft (α ∷ []) fullShare) ⊛ ‵ (flft (β ∷ []) fullShare) ⊛ ‵ ftrue) h $ split t $ move t (1 ∷ []) $ split t $
+      move t (4 ∷ []) $ fsplit t $ move t (1 ∷ []) $ fsplit t $ move t (1 ∷ []) $ fsplit t $ fsplit t $
+      -- [the last records; their number; nothing, thrice; the second token; nothing; the first token; the locals; the result; what is owed to the second, to the first]
+      move t (8 ∷ 5 ∷ 0 ∷ 10 ∷ []) $ front-back-mut t z j′ ys k zs long′ (λ v is. move t (0 ∷ 6 ∷ 8 ∷ []) $ front-back t z j xs n long (λ u.
+      move t (1 ∷ []) $ drop t $ move t (1 ∷ 2 ∷ []) $ fjoin t $ nothing t $ fjoin t $ nothing t $ fjoin t $ nothing t $ fjoin t $ nothing t $ fjoin t $ move t (2 ∷ []) $ drop t $ move t (1 ∷ 2 ∷ 0 ∷ []) $ go u v is))

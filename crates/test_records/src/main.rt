@@ -4,6 +4,8 @@ mod relays;
 mod sums;
 mod table;
 
+use contraction::ContractAnswer;
+use network::MAX_REACHES;
 use network::Reach;
 use relays::ROOM;
 use sums::mix;
@@ -42,6 +44,8 @@ const WRITE_SHEET: u8 = 9;
 const WRITE_REPLY: u8 = 10;
 
 const BOUND: u8 = 11;
+
+const CONTRACT: u8 = 12;
 
 fn over_rows(
     call: u8,
@@ -218,6 +222,111 @@ fn reread(n: usize, t: Twice, s: &[u8]) -> Pair
     }
 }
 
+// What contracting answers over rows, and the rows afterwards.
+struct Contracted {
+    answer: ContractAnswer,
+    kinds: [u8; ROOM],
+    a: [u16; ROOM],
+    b: [u16; ROOM],
+}
+
+// A table is contracted into the first k reaches of another.
+fn contract_rows(
+    basins: u16,
+    kinds: &[u8],
+    a: &[u16],
+    b: &[u16],
+    k: usize,
+    into: Twice,
+) -> Contracted {
+    let mut kinds2 = into.kinds;
+    let mut a2 = into.a;
+    let mut b2 = into.b;
+    let p = within(&kinds2, k);
+    let x = within_words(&a2, k);
+    let y = within_words(&b2, k);
+    let answer = contraction::contract_rows(
+        basins,
+        kinds,
+        a,
+        b,
+        &mut kinds2[..p],
+        &mut a2[..x],
+        &mut b2[..y],
+    );
+    Contracted {
+        answer,
+        kinds: kinds2,
+        a: a2,
+        b: b2,
+    }
+}
+
+// The sum of the answer, and of all of the other table that a network may have, written.
+fn contracted_rows(c: Contracted, walker: Walker) -> u64 {
+    let kinds = c.kinds;
+    let a = c.a;
+    let b = c.b;
+    let answer = c.answer;
+    let s = walker.setting;
+    let written = rows(
+        WRITE_NETWORK,
+        256,
+        front(&kinds, MAX_REACHES),
+        front_words(&a, MAX_REACHES),
+        front_words(&b, MAX_REACHES),
+        walker,
+        &s,
+        6200,
+    );
+    mix(sums::of_contracted(answer), written)
+}
+
+fn contracted_records(
+    n: usize,
+    k: usize,
+    basins: u16,
+    reaches: [Reach; ROOM],
+    out: [Reach; ROOM],
+    walker: Walker,
+) -> u64
+    requires { ⌜ n ≤ 1030 ⌝ }
+    requires { ⌜ k ≤ 1030 ⌝ }
+{
+    let x = sums::of_contracted(relays::contract(n, k, basins, reaches, out));
+    let after = relays::contracted(n, k, basins, reaches, out);
+    let s = walker.setting;
+    mix(
+        x,
+        records(WRITE_NETWORK, MAX_REACHES, 256, after, walker, &s, 6200),
+    )
+}
+
+fn contract(n: usize, k: usize, basins: u16, t: Twice, into: Twice) -> Pair
+    requires { ⌜ n ≤ 1030 ⌝ }
+    requires { ⌜ k ≤ 1030 ⌝ }
+{
+    let kinds = t.kinds;
+    let a = t.a;
+    let b = t.b;
+    let reaches = t.reaches;
+    let out = into.reaches;
+    let bits = into.bits;
+    let walker = Walker { setting: bits };
+    let c = contract_rows(
+        basins,
+        front(&kinds, n),
+        front_words(&a, n),
+        front_words(&b, n),
+        k,
+        into,
+    );
+    Pair {
+        rows: contracted_rows(c, walker),
+        records: contracted_records(n, k, basins, reaches, out, walker),
+    }
+}
+
 // A buffer, of which the first n bytes count.
 struct Bytes {
     n: usize,
@@ -276,6 +385,18 @@ fn room(seed: u64) -> usize {
     if seed % 8 == 3 { 2 } else { 6200 }
 }
 
+// The room for a contracted table of n reaches: mostly enough, and up to three more.
+fn new_room(seed: u64, n: usize) -> usize {
+    if seed % 8 == 3 {
+        return n / 2;
+    }
+    if n < ROOM {
+        n + (seed / 8 % 4) as usize
+    } else {
+        n
+    }
+}
+
 // A call that is lent the setting of a table.
 fn on_setting(call: u8, n: usize, basins: u16, t: Twice, p: usize) -> Pair
     requires { ⌜ n ≤ 1030 ⌝ }
@@ -299,7 +420,7 @@ fn on_file(call: u8, n: usize, basins: u16, t: Twice, f: Bytes, p: usize) -> Pai
     }
 }
 
-// A call on the table of a seed. A file is read into the table of the seed after it.
+// A call on the table of a seed. A file is read into the table of the seed after it, and a contracted table is put there.
 fn play(call: u8, seed: u64) -> Pair {
     let n = bounded(size(seed));
     let ends = 2 + seed % 3;
@@ -312,6 +433,10 @@ fn play(call: u8, seed: u64) -> Pair {
     if call == READ_SHEET {
         let f = file(call, n, basins, t, seed);
         return on_file(call, n, basins, t, f, room(seed));
+    }
+    if call == CONTRACT {
+        let into = table(seed % 65536 + 1, MAX_REACHES, ends);
+        return contract(n, bounded(new_room(seed, n)), basins, t, into);
     }
     on_setting(call, n, basins, t, room(seed))
 }
@@ -357,4 +482,5 @@ fn main() {
     show(b"write a sheet", WRITE_SHEET);
     show(b"write the reply", WRITE_REPLY);
     show(b"bound gates", BOUND);
+    show(b"contract", CONTRACT);
 }

@@ -1,5 +1,6 @@
 // The calls over a lent slice of records. Each relay has a table by value, and lends the first n records of its copy.
 // The borrow checker does not cover a slice of structs, nor who lends one. So a relay is one line, proved safe by a walk of its code, by hand.
+use contraction::ContractAnswer;
 use file_records::WriteAnswer;
 use netfile_format::ReadAnswer;
 use network::Reach;
@@ -131,4 +132,32 @@ pub fn read_table(n: usize, file: &[u8], mut reaches: [Reach; ROOM]) -> [Reach; 
 {
     netfile::read_network(file, &mut reaches[..n]);
     reaches
+}
+
+// Contracting over records, in two: what is replied, and the buffer afterwards, of which the first k records are lent.
+pub fn contract(
+    n: usize,
+    k: usize,
+    basins: u16,
+    reaches: [Reach; ROOM],
+    mut out: [Reach; ROOM],
+) -> ContractAnswer
+    requires { ⌜ n ≤ 1030 ⌝ }
+    requires { ⌜ k ≤ 1030 ⌝ }
+{
+    contraction::contract(basins, &reaches[..n], &mut out[..k])
+}
+
+pub fn contracted(
+    n: usize,
+    k: usize,
+    basins: u16,
+    reaches: [Reach; ROOM],
+    mut out: [Reach; ROOM],
+) -> [Reach; ROOM]
+    requires { ⌜ n ≤ 1030 ⌝ }
+    requires { ⌜ k ≤ 1030 ⌝ }
+{
+    contraction::contract(basins, &reaches[..n], &mut out[..k]);
+    out
 }

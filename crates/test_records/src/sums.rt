@@ -1,4 +1,5 @@
 // What a call replies, as a number, and the sum of all that it leaves.
+use contraction::ContractAnswer;
 use file_records::WriteAnswer;
 use netfile_format::ReadAnswer;
 use network::Refusal;
@@ -123,5 +124,14 @@ pub fn of_read(answer: ReadAnswer) -> u64 {
     match answer {
         ReadAnswer::Refused(r) => number(r),
         ReadAnswer::Read { basins, reaches } => mix(mix(0, basins as u64), reaches as u64),
+    }
+}
+
+pub fn of_contracted(answer: ContractAnswer) -> u64 {
+    match answer {
+        ContractAnswer::Refused(r) => number(r),
+        ContractAnswer::Contracted { basins, reaches } => {
+            mix(mix(0, basins as u64), reaches as u64)
+        }
     }
 }
