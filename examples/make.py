@@ -1,5 +1,5 @@
 #!/usr/bin/env python3
-"""Writes the example networks beside this file, as network files of document 01 and item 1 of document 02.
+"""Writes the example networks beside this file, as network files of document 01 and item 1 of document 02, and what one of them folds to by item 4.
 
     python3 examples/make.py
 
@@ -45,6 +45,10 @@ NETWORKS = {
     # gates, reach 4 turned. Reach 5, a second way past basin 1, is shut; in service it would free reaches 2 and 4.
     "bound-gates": (6, "G 1-4, F 3-0, G 0-1, G 4-5, G 2-1, g 0-2, G 5-1, G 2-3, G 1-5"),
 
+    # Three basins of upper fields, 0, 2 and 5, and two of lower fields, 1 and 4, each joined by two-way reaches; a sump, 3, with a flap back to the upper
+    # fields; 6 is dug, and its reach still shut. Reaches 3 and 10 are flaps inside the fields, reach 4 a gate inside them.
+    "polder": (7, "T 4-1, G 0-1, T 5-2, F 2-0, G 2-5, G 4-3, T 0-5, F 3-2, t 3-6, G 1-3, F 4-1, T 2-0"),
+
     # On both edges of the lister's 1,000 plans. Parts that meet in basin 0 alone multiply: 5 * 5 * 5 * 2 * 2 * 2 plans,
     # and 7 * 11 * 13.
     "plans-1000": (10,
@@ -67,6 +71,12 @@ SHUT = {
 }
 
 
+# What a network above folds to.
+FOLDED = {
+    "polder-folded": "polder",
+}
+
+
 def reaches(text):
     """The reaches written in the notation above."""
     result = []
@@ -81,6 +91,26 @@ def shut(table, i):
     """The same reaches with number i shut for works."""
     kind, a, b = table[i]
     return table[:i] + [(kind.lower(), a, b)] + table[i + 1:]
+
+
+def fold(basins, table):
+    """The basins that two-way reaches in service join become one; what stays of the reaches, by item 4 of document 02."""
+    members = [{v} for v in range(basins)]
+    for kind, a, b in table:
+        if kind == "T" and members[a] is not members[b]:
+            members[a] |= members[b]
+            for v in members[b]:
+                members[v] = members[a]
+    lowest = sorted({min(cluster) for cluster in members})
+    number = [lowest.index(min(cluster)) for cluster in members]
+    result, looped = [], set()
+    for kind, a, b in table:
+        inside = number[a] == number[b] and len(members[a]) > 1
+        if kind == "G" or kind in "FT" and not inside or kind == "T" and number[a] not in looped:
+            result.append((kind, number[a], number[b]))
+        if kind == "T":
+            looped.add(number[a])
+    return len(lowest), result
 
 
 def grid(side):
@@ -135,6 +165,9 @@ def examples():
     for name, (whole, i) in SHUT.items():
         basins, text = NETWORKS[whole]
         result[name] = network_file(basins, shut(reaches(text), i))
+    for name, whole in FOLDED.items():
+        basins, text = NETWORKS[whole]
+        result[name] = network_file(*fold(basins, reaches(text)))
     result["dug-ahead"] = network_file(*dug_ahead())
     result["grid-16"] = network_file(*grid(16))
     result["limits"] = network_file(*limits())
