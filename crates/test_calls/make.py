@@ -1180,14 +1180,15 @@ def grown_clusters(basins, reaches):
 
 
 def hold_folding(basins, reaches):
-    """What item 4 says of a network with few gates: its clusters found in another way; which of them are wet; "a smaller network with the same choices";
-    "folding again changes nothing"."""
+    """What item 4 says of a network with few gates: its clusters found in another way; which of them are wet; "a smaller network with the same choices", the
+    same number where there are none, and the same bound gates; "folding again changes nothing"."""
     number, found = clusters(basins, reaches), grown_clusters(basins, reaches)
     count, folded = fold(basins, reaches)
     assert count == len(found) and all(number[v] == c for c, cluster in enumerate(found) for v in cluster)
     net, small = Network(reaches, try_all=False), Network(folded, try_all=False)
     assert set(small.wet) == {number[v] for v in net.wet} and gates_of(folded) == gates_of(reaches)
     assert all(net.strong(s) == small.strong(s) for s in product((0, 1), repeat=len(net.gates)))
+    assert outcome(reaches) == outcome(folded) and (net.finding or net.bound_by_theorem() == small.bound_by_theorem())
     assert count <= basins and len(folded) <= len(reaches) and not table_fault(count, folded) and fold(count, folded) == (count, folded)
     FOLDED.update(['all'] + folding_traits(basins, reaches, number, found, net.finding is None, net.wet))
 
@@ -1205,7 +1206,10 @@ def folding_traits(basins, reaches, number, found, has_plan, wet):
         ['loops alone: %d' % k for k in {k for k, a, b in served(reaches) if a == b and number[a] not in several}]
 
 
-# cases of item 4, with the folded networks that are seen by hand
+# cases of item 4, with the folded networks that are seen by hand. Of the marked cases only 4 and 10 have a two-way reach
+
+assert fold(2, ((T, 0, 1),)) == (1, ((T, 0, 0),)) and fold(3, ((G, 0, 1), (T, 1, 2))) == (2, ((G, 0, 1), (T, 1, 1)))
+
 
 def folded_to(title, basins, text, count, folded):
     gr = group('folded: ' + title, reaches_of(text))
