@@ -7,4 +7,4 @@ use Rattle.components.specs.Cases.{contractions, ContractionsHold}
 
 pub contractions-hold : ContractionsHold contractions
 unfolding connected component representative componentNumber componentCount isSingleton noneBefore contracted
-contractions-hold = (refl, (refl, (refl, (refl, (refl, (refl, (refl, (refl, (refl, (refl, (refl, (refl, (refl, (refl, (refl, tt)))))))))))))))
+contractions-hold = (refl, (refl, (refl, (refl, (refl, (refl, (refl, (refl, (refl, (refl, (refl, (refl, (refl, (refl, (refl, (refl, (refl, tt)))))))))))))))))

@@ -33,7 +33,11 @@ contractions =
     -- In a component of one all loops stay. Flaps and gates join no basins, and several between the same two stay.
     same (net 2 (T 0 0 ∷ T 0 0 ∷ F 0 0 ∷ F 0 1 ∷ F 0 1 ∷ G 1 0 ∷ G 1 0 ∷ [])) ∷
     -- Shut reaches drop, and join no basins; a basin that only they have an end at stays, dry.
-    to (net 4 (shutReach (T 0 1) ∷ T 0 2 ∷ shutReach (G 1 3) ∷ shutReach (F 0 0) ∷ G 1 2 ∷ [])) (net 3 (T 0 0 ∷ G 1 0 ∷ [])) ∷ []
+    to (net 4 (shutReach (T 0 1) ∷ T 0 2 ∷ shutReach (G 1 3) ∷ shutReach (F 0 0) ∷ G 1 2 ∷ [])) (net 3 (T 0 0 ∷ G 1 0 ∷ [])) ∷
+    -- The example of README, and examples/polder.net.
+    to (net 5 (T 3 1 ∷ T 1 2 ∷ G 0 3 ∷ F 2 1 ∷ G 3 0 ∷ F 4 0 ∷ [])) (net 3 (T 1 1 ∷ G 0 1 ∷ G 1 0 ∷ F 2 0 ∷ [])) ∷
+    to (net 7 (T 4 1 ∷ G 0 1 ∷ T 5 2 ∷ F 2 0 ∷ G 2 5 ∷ G 4 3 ∷ T 0 5 ∷ F 3 2 ∷ shutReach (T 3 6) ∷ G 1 3 ∷ F 4 1 ∷ T 2 0 ∷ []))
+    (net 4 (T 1 1 ∷ G 0 1 ∷ T 0 0 ∷ G 0 0 ∷ G 1 2 ∷ F 2 0 ∷ G 1 2 ∷ [])) ∷ []
 
 -- They hold.
 abbrev pub ContractionsHold : List Contraction → Type 0
