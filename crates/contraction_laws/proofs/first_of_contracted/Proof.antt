@@ -3,9 +3,7 @@
 use mathlib.Core.Path.{sym}
 use lib.Seq.{length-take-le}
 use Rattle.network.specs.Networks.{Network}
-use Rattle.components.proofs.Replies.{contracted-first-reply}
-use Rattle.planner_laws.proofs.Demands.{first-read}
-use Rattle.contraction_laws.proofs.Contractions.{CameOut, came-out, asked-refused, asked-given}
+use Rattle.contraction_laws.proofs.Contractions.{CameOut, came-out, first-choice, asked-refused, asked-given}
 use Rattle.tables.specs.Rows.{netOf}
 use borrow.Author.Needs.{needs}
 use Rattle.contraction_laws.proofs.first_of_contracted.Statement.{statement}
@@ -76,7 +74,7 @@ same-length-8 : tie.Need-same-length-8
 same-length-8 c = search needs
 
 returns-2 : tie.Need-returns-2
-returns-2 c = asked-given (N (c .before .before .before .before .before .before .before .before .before .before .before .before .before .before .before .before .before .before .before .before .before .before .before .before .before .before .before .before .before .before .before)) (c .before .before .before .before .before .before .before .before .before .before .before .before .before .before .before .before .before .before .before .contract-rows .ensures) _ (c .before .before .before .before .before .before .before .before .before .before .before .n .given .0 .0) (c .before .before .before .before .before .before .before .before .before .before .before .n .given .0 .1 .0) (c .before .before .before .before .before .before .before .before .before .before .before .n .given .1) (λ ok. contracted-first-reply (N (c .before .before .before .before .before .before .before .before .before .before .before .before .before .before .before .before .before .before .before .before .before .before .before .before .before .before .before .before .before .before .before)) ok _ _) (λ L. first-read L) (c .before .before .before .before .first-plan .ensures)
+returns-2 c = asked-given (N (c .before .before .before .before .before .before .before .before .before .before .before .before .before .before .before .before .before .before .before .before .before .before .before .before .before .before .before .before .before .before .before)) (c .before .before .before .before .before .before .before .before .before .before .before .before .before .before .before .before .before .before .before .contract-rows .ensures) _ (c .before .before .before .before .before .before .before .before .before .before .before .n .given .0 .0) (c .before .before .before .before .before .before .before .before .before .before .before .n .given .0 .1 .0) (c .before .before .before .before .before .before .before .before .before .before .before .n .given .1) (λ M ok is. first-choice (N (c .before .before .before .before .before .before .before .before .before .before .before .before .before .before .before .before .before .before .before .before .before .before .before .before .before .before .before .before .before .before .before)) M ok is) (c .before .before .before .before .first-plan .ensures)
 
 pub first-of-contracted-spec : {M : Type 1} → statement M
 first-of-contracted-spec =
