@@ -55,7 +55,7 @@ module _ (n : ℕ) (ks xs ys labels notes₀ ks₀ xs₀ ys₀ : List ℕ) (p : 
   N = netOf n ks xs ys
 
   long : length (N .reaches) ≡ length ks
-  long = row-length ks xs ys (p .rows .a-full) (p .rows .b-full)
+  long = row-length ks xs ys (p .table .rows .a-full) (p .table .rows .b-full)
 
   pub kept-filling-none : KeptFilling n ks xs ys notes₀ ks₀ xs₀ ys₀ notes₀ ks₀ xs₀ ys₀ 0 0
   kept-filling-none =
@@ -97,20 +97,20 @@ module _ (n : ℕ) (ks xs ys labels notes₀ ks₀ xs₀ ys₀ : List ℕ) (p : 
       d = getD labels b 0
 
       state-is : (reachAt N i) .state ≡ stateOf kind
-      state-is = row-state ks xs ys (p .rows .a-full) (p .rows .b-full) i l
+      state-is = row-state ks xs ys (p .table .rows .a-full) (p .table .rows .b-full) i l
 
       a-is : (reachAt N i) .a ≡ a
-      a-is = row-a ks xs ys (p .rows .a-full) (p .rows .b-full) i l
+      a-is = row-a ks xs ys (p .table .rows .a-full) (p .table .rows .b-full) i l
 
       b-is : (reachAt N i) .b ≡ b
-      b-is = row-b ks xs ys (p .rows .a-full) (p .rows .b-full) i l
+      b-is = row-b ks xs ys (p .table .rows .a-full) (p .table .rows .b-full) i l
 
       -- the ends, and the numbers of their components
       a-below : a < n
-      a-below = p .rows .a-below i (omega (arith, p .rows .a-full))
+      a-below = p .table .rows .a-below i (omega (arith, p .table .rows .a-full))
 
       b-below : b < n
-      b-below = p .rows .b-below i (omega (arith, p .rows .b-full))
+      b-below = p .table .rows .b-below i (omega (arith, p .table .rows .b-full))
 
       c-is : c ≡ componentNumber N a
       c-is = p .labelled .label a a-below
@@ -125,18 +125,18 @@ module _ (n : ℕ) (ks xs ys labels notes₀ ks₀ xs₀ ys₀ : List ℕ) (p : 
       places =
           let few : k ≤ i = rw (f .kept) (few-kept N i) in
           record {
-            a-here = omega (arith, p .rows .a-full);
-            b-here = omega (arith, p .rows .b-full);
-            a-small = omega (arith, a-below, p .rows .few);
-            b-small = omega (arith, b-below, p .rows .few);
+            a-here = omega (arith, p .table .rows .a-full);
+            b-here = omega (arith, p .table .rows .b-full);
+            a-small = omega (arith, a-below, p .table .rows .few);
+            b-small = omega (arith, b-below, p .table .rows .few);
             a-labelled = omega (arith, a-below, p .labels-room);
             b-labelled = omega (arith, b-below, p .labels-room);
-            c-small = omega (arith, numbered, p .rows .few);
+            c-small = omega (arith, numbered, p .table .rows .few);
             c-noted = omega (arith, numbered, p .notes-room, f .long);
             few = few;
-            kind-room = omega (arith, f .kind-row .long, p .kind-room);
-            a-room = omega (arith, f .a-row .long, p .a-room);
-            b-room = omega (arith, f .b-row .long, p .b-room);
+            kind-room = omega (arith, f .kind-row .long, p .table .kind-room);
+            a-room = omega (arith, f .a-row .long, p .table .a-room);
+            b-room = omega (arith, f .b-row .long, p .table .b-room);
           }
 
       -- the note, what it decides, and what it becomes

@@ -19,10 +19,10 @@ use Rattle.tables.proofs.Cuts.{cut-ends-a, cut-ends-b, cut-net}
 use Rattle.components.specs.Contracted.{contracted}
 use Rattle.components.specs.Components.{componentCount}
 use Rattle.components.specs.Labels.{Joinable, Labelled}
-use Rattle.contracting.specs.Filling.{FillableOf, KeptFilledOf}
+use Rattle.contracting.specs.Filling.{Contractible, FillableOf, KeptFilledOf}
 use Rattle.contraction.specs.declared.ContractAnswer.{ContractAnswer}
 use Rattle.contraction.specs.declared.ContractAnswer.the-variants.{Refused, Contracted}
-use Rattle.contraction.specs.Calls.{contractFault, contractAnswer, contractNumber, reachesGiven, ContractRows, Contractible, Given}
+use Rattle.contraction.specs.Calls.{contractFault, contractAnswer, contractNumber, reachesGiven, ContractRows, Given}
 
 module _ (N : Network) (room : ℕ) where
   -- the table's refusal comes first
@@ -111,17 +111,7 @@ contracted-basins N = refl
 
 module _ {n : ℕ} {ks xs ys ks₂ xs₂ ys₂ labels notes : List ℕ} {count : ℕ} (p : Contractible n ks xs ys ks₂ xs₂ ys₂) (c : Labelled (netOf n ks xs ys) count labels notes) where
   pub fillable : n ≤ length labels → n ≤ length notes → FillableOf n ks xs ys labels notes ks₂ xs₂ ys₂
-  fillable l m =
-      record {
-        rows = p .rows;
-        count = count;
-        labelled = c;
-        labels-room = l;
-        notes-room = m;
-        kind-room = p .kind-room;
-        a-room = p .a-room;
-        b-room = p .b-room;
-      }
+  fillable l m = record { table = p; count = count; labelled = c; labels-room = l; notes-room = m }
 
   pub given-filled : {k : ℕ} {ks′ xs′ ys′ : List ℕ} → KeptFilledOf n ks xs ys ks₂ xs₂ ys₂ k ks′ xs′ ys′ → Given (netOf n ks xs ys) ks₂ xs₂ ys₂ (Contracted count k) ks′ xs′ ys′
   given-filled f = record { answer = ap₂ {C = ContractAnswer} Contracted (c .counted ∙ sym (contracted-basins (netOf n ks xs ys))) (f .counted); rows = f .rows }

@@ -1,6 +1,6 @@
 -- What contracting a network answers, and what it leaves in the rows or the table that it is lent.
 -- Assumes nothing.
-use Prim.Native.Nat.{ℕ, _≤_}
+use Prim.Native.Nat.{ℕ}
 use mathlib.Core.Path.{_≡_}
 use mathlib.Core.Bool.{cond}
 use mathlib.Core.List.{List, [], _++_}
@@ -14,7 +14,6 @@ use Rattle.network.specs.Networks.{Network, tableFault}
 use Rattle.network.specs.Replies.{refusalNumber, faultNumber, firstOf}
 use Rattle.tables.specs.Rows.{roomOf, RowsFilled}
 use Rattle.components.specs.Contracted.{contracted}
-use Rattle.components.specs.Labels.{Joinable}
 use Rattle.packing.specs.Rows.{unpackedInto}
 use Rattle.contraction.specs.declared.ContractAnswer.{ContractAnswer}
 use Rattle.contraction.specs.declared.ContractAnswer.the-variants.{Refused, Contracted}
@@ -57,14 +56,7 @@ pub record ContractTable (N : Network) (t : List Reach) (r : ContractAnswer) (t�
 
 -- ---- on the way there
 
--- Rows of an accepted network of n basins, and new rows with room for as many reaches.
-pub record Contractible (n : ℕ) (ks xs ys ks₂ xs₂ ys₂ : List ℕ) : Type 0 where
-  pub rows : Joinable n ks xs ys
-  pub kind-room : length ks ≤ length ks₂
-  pub a-room : length ks ≤ length xs₂
-  pub b-room : length ks ≤ length ys₂
-
--- What such rows get: the counts of the contracted network, and its reaches in the new rows.
+-- What an accepted network gets where there is room: the counts of the contracted network, and its reaches in the new rows.
 pub record Given (N : Network) (ks xs ys : List ℕ) (r : ContractAnswer) (ks′ xs′ ys′ : List ℕ) : Type 0 where
   pub answer : r ≡ contractAnswer none (contracted N)
   pub rows : RowsFilled (contracted N .reaches) ks xs ys ks′ xs′ ys′

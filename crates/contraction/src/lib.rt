@@ -16,7 +16,8 @@ ghost use lib.ListN.{length};
 ghost use Rattle.network.specs.Networks.{net};
 ghost use Rattle.tables.specs.Rows.{netOf};
 ghost use Rattle.packing.specs.Tables.{OfTable};
-ghost use Rattle.contraction.specs.Calls.{Contractible, Given, givenCount, ContractRows, ContractPacked, ContractTable};
+ghost use Rattle.contracting.specs.Filling.{Contractible};
+ghost use Rattle.contraction.specs.Calls.{Given, givenCount, ContractRows, ContractPacked, ContractTable};
 
 // What the call answers: a refusal, or the new counts.
 pub enum ContractAnswer {

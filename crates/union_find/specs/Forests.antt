@@ -1,5 +1,5 @@
--- A parent for each basin, the roots above them, and what is done to them. Document 02, item 4: a component is "numbered by the order of [its] lowest members", so the
--- lowest member is the root.
+-- A parent for each basin, the roots above them, and what is done to them. Document 02, item 4, has clusters "numbered by the order of their lowest members": the lowest
+-- member is the root.
 -- Assumes nothing.
 use Prim.Native.Nat.{ℕ, _≤_, _<_, min}
 use mathlib.Core.Path.{_≡_}
