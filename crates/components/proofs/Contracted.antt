@@ -74,7 +74,7 @@ module _ (N : Network) where
         let b = below-count ((reachAt N i) .b) (f .end-b i (k .below)) in
         rw (k .is) (and-intro (lt-ltb (componentNumber N ((reachAt N i) .a)) (contracted N .basins) a) (lt-ltb (componentNumber N ((reachAt N i) .b)) (contracted N .basins) b))
 
-    -- "The folded network is accepted."
+    -- and so it is accepted
     pub contracted-accepted : Accepted (contracted N)
     contracted-accepted =
         let f = accepted N ok in
@@ -220,7 +220,7 @@ module _ (N : Network) where
       (λ q. record { basin = r .b; below = f .end-b i (k .below); wet = wet-make N (r .b) (record { reach = i; below = k .below; serves = serves; ends = inr refl }); is = sym (ap (λ (y : Reach). y .b) (k .is)) ∙ eqb-true _ c q })
       (or-cases (eqb (x .0 .a) c) _ ends)
 
-  -- "What the fold keeps wet: a cluster is wet exactly if one of its basins is."
+  -- so a component is wet exactly if one of its basins is
   pub contracted-wet : Accepted N → (c : ℕ) → isWet (contracted N) c ≡ some? (λ b. isWet N b && eqb (componentNumber N b) c) (range 0 (N .basins))
   contracted-wet ok c =
       same-test (isWet (contracted N) c) (some? (λ b. isWet N b && eqb (componentNumber N b) c) (range 0 (N .basins)))

@@ -22,7 +22,7 @@ use Rattle.components.specs.Labels.{Joinable, Labelled}
 use Rattle.contracting.specs.Filling.{Contractible, FillableOf, KeptFilledOf}
 use Rattle.contraction.specs.declared.ContractAnswer.{ContractAnswer}
 use Rattle.contraction.specs.declared.ContractAnswer.the-variants.{Refused, Contracted}
-use Rattle.contraction.specs.Calls.{contractFault, contractAnswer, contractNumber, reachesGiven, ContractRows, Given}
+use Rattle.contraction.specs.Calls.{contractFault, contractAnswer, contractNumber, reachesGiven, ContractRows, ContractGiven}
 
 module _ (N : Network) (room : ℕ) where
   -- the table's refusal comes first
@@ -51,7 +51,7 @@ module _ (N : Network) {ks xs ys : List ℕ} where
       }
 
   -- what is given
-  pub rows-given : {r : ContractAnswer} {ks′ xs′ ys′ : List ℕ} → contractFault N (roomOf ks xs ys) ≡ none → Given N ks xs ys r ks′ xs′ ys′ → ContractRows N ks xs ys r ks′ xs′ ys′
+  pub rows-given : {r : ContractAnswer} {ks′ xs′ ys′ : List ℕ} → contractFault N (roomOf ks xs ys) ≡ none → ContractGiven N ks xs ys r ks′ xs′ ys′ → ContractRows N ks xs ys r ks′ xs′ ys′
   rows-given {r} {ks′} {xs′} {ys′} e g =
       record {
         answer = g .answer ∙ sym (ap (λ (o : Option Refusal). contractAnswer o (contracted N)) e);
@@ -98,10 +98,10 @@ module _ (n : ℕ) (ks xs ys : List ℕ) (m : ℕ) (e : m ≡ length (tableOf ks
           let cut = length-take m ks in
           record { rows = joinable; kind-room = omega (arith, cut, room-is); a-room = omega (arith, cut, room-is); b-room = omega (arith, cut, room-is) }
 
-      pub cut-given : {r : ContractAnswer} {ks′ xs′ ys′ : List ℕ} → Given M ks₂ xs₂ ys₂ r ks′ xs′ ys′ → ContractRows (netOf n ks xs ys) ks₂ xs₂ ys₂ r ks′ xs′ ys′
+      pub cut-given : {r : ContractAnswer} {ks′ xs′ ys′ : List ℕ} → ContractGiven M ks₂ xs₂ ys₂ r ks′ xs′ ys′ → ContractRows (netOf n ks xs ys) ks₂ xs₂ ys₂ r ks′ xs′ ys′
       cut-given {r} {ks′} {xs′} {ys′} g =
           rows-given (netOf n ks xs ys) (fault-clear (netOf n ks xs ys) (roomOf ks₂ xs₂ ys₂) ok (omega (arith, room-is)))
-          (subst (λ (N : Network). Given N ks₂ xs₂ ys₂ r ks′ xs′ ys′) (cut-net ks xs ys m e n) g)
+          (subst (λ (N : Network). ContractGiven N ks₂ xs₂ ys₂ r ks′ xs′ ys′) (cut-net ks xs ys m e n) g)
 
 -- ---- the components, and what stays
 
@@ -113,5 +113,5 @@ module _ {n : ℕ} {ks xs ys ks₂ xs₂ ys₂ labels notes : List ℕ} {count :
   pub fillable : n ≤ length labels → n ≤ length notes → FillableOf n ks xs ys labels notes ks₂ xs₂ ys₂
   fillable l m = record { table = p; count = count; labelled = c; labels-room = l; notes-room = m }
 
-  pub given-filled : {k : ℕ} {ks′ xs′ ys′ : List ℕ} → KeptFilledOf n ks xs ys ks₂ xs₂ ys₂ k ks′ xs′ ys′ → Given (netOf n ks xs ys) ks₂ xs₂ ys₂ (Contracted count k) ks′ xs′ ys′
+  pub given-filled : {k : ℕ} {ks′ xs′ ys′ : List ℕ} → KeptFilledOf n ks xs ys ks₂ xs₂ ys₂ k ks′ xs′ ys′ → ContractGiven (netOf n ks xs ys) ks₂ xs₂ ys₂ (Contracted count k) ks′ xs′ ys′
   given-filled f = record { answer = ap₂ {C = ContractAnswer} Contracted (c .counted ∙ sym (contracted-basins (netOf n ks xs ys))) (f .counted); rows = f .rows }

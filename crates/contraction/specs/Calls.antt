@@ -57,7 +57,7 @@ pub record ContractTable (N : Network) (t : List Reach) (r : ContractAnswer) (t�
 -- ---- on the way there
 
 -- What an accepted network gets where there is room: the counts of the contracted network, and its reaches in the new rows.
-pub record Given (N : Network) (ks xs ys : List ℕ) (r : ContractAnswer) (ks′ xs′ ys′ : List ℕ) : Type 0 where
+pub record ContractGiven (N : Network) (ks xs ys : List ℕ) (r : ContractAnswer) (ks′ xs′ ys′ : List ℕ) : Type 0 where
   pub answer : r ≡ contractAnswer none (contracted N)
   pub rows : RowsFilled (contracted N .reaches) ks xs ys ks′ xs′ ys′
 

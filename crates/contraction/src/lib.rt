@@ -17,7 +17,7 @@ ghost use Rattle.network.specs.Networks.{net};
 ghost use Rattle.tables.specs.Rows.{netOf};
 ghost use Rattle.packing.specs.Tables.{OfTable};
 ghost use Rattle.contracting.specs.Filling.{Contractible};
-ghost use Rattle.contraction.specs.Calls.{Given, givenCount, ContractRows, ContractPacked, ContractTable};
+ghost use Rattle.contraction.specs.Calls.{ContractGiven, givenCount, ContractRows, ContractPacked, ContractTable};
 
 // What the call answers: a refusal, or the new counts.
 pub enum ContractAnswer {
@@ -40,7 +40,7 @@ fn contract_in(
     requires { ⌜ Contractible n (now kinds) (now a) (now b) (now kinds2) (now a2) (now b2) ⌝ }
     requires { ⌜ n ≤ length (now labels) ⌝ }
     requires { ⌜ n ≤ length (now notes) ⌝ }
-    ensures { λ r. ⌜ Given (netOf n (now (kinds .entry)) (now (a .entry)) (now (b .entry))) (now (kinds2 .entry)) (now (a2 .entry)) (now (b2 .entry)) r
+    ensures { λ r. ⌜ ContractGiven (netOf n (now (kinds .entry)) (now (a .entry)) (now (b .entry))) (now (kinds2 .entry)) (now (a2 .entry)) (now (b2 .entry)) r
         (now (kinds2 .exit)) (now (a2 .exit)) (now (b2 .exit)) ⌝ }
 {
     let basins = union_find::components(n, kinds, a, b, labels, notes);
@@ -59,7 +59,7 @@ fn contract_accepted(
     b2: &mut [u16],
 ) -> ContractAnswer
     requires { ⌜ Contractible n (now kinds) (now a) (now b) (now kinds2) (now a2) (now b2) ⌝ }
-    ensures { λ r. ⌜ Given (netOf n (now (kinds .entry)) (now (a .entry)) (now (b .entry))) (now (kinds2 .entry)) (now (a2 .entry)) (now (b2 .entry)) r
+    ensures { λ r. ⌜ ContractGiven (netOf n (now (kinds .entry)) (now (a .entry)) (now (b .entry))) (now (kinds2 .entry)) (now (a2 .entry)) (now (b2 .entry)) r
         (now (kinds2 .exit)) (now (a2 .exit)) (now (b2 .exit)) ⌝ }
 {
     let mut labels = [0u16; MAX_BASINS];
