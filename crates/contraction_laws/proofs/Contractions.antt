@@ -8,14 +8,16 @@ use mathlib.Core.List.{List, _++_}
 use mathlib.Core.Option.{Option, none, some}
 use lib.ListN.{length, take, drop}
 use lib.Seq.{take-at}
+use borrow.Author.Tests.{le-leb}
 use Rattle.network.specs.declared.Reach.{Reach}
 use Rattle.network.specs.declared.Refusal.{Refusal}
 use Rattle.network.specs.declared.Refusal.the-variants.{BasinCount, TooManyReaches, EndOutOfRange, Truncated, UnknownKind, TrailingBytes, ShortBuffer, BadSetting, LastPlan}
-use Rattle.network.specs.Networks.{Network, net, tableFault, Accepted}
-use Rattle.network.specs.Replies.{refusalNumber, Outcome, plan, shutIn, lone, refused, number, firstReply, nextReply}
+use Rattle.network.specs.Networks.{Network, net, maxReaches, tableFault, Accepted}
+use Rattle.network.specs.Replies.{refusalNumber, Outcome, plan, shutIn, lone, refused, number, firstOf, firstReply, nextReply}
 use Rattle.network.specs.Choices.{boundBytes, boundIn, boundAfter}
+use Rattle.network.proofs.Networks.{accepted}
 use Rattle.network.proofs.Replies.{first-of-none}
-use Rattle.tables.specs.Rows.{netOf, roomOf, RowsFilled}
+use Rattle.tables.specs.Rows.{roomOf, RowsFilled}
 use Rattle.tables.proofs.Filling.{filled-long, filled-table}
 use Rattle.replies.specs.declared.Answer.{Answer}
 use Rattle.replies.specs.declared.Answer.the-variants as A
@@ -29,7 +31,17 @@ use Rattle.components.proofs.Replies.{contracted-first-reply, contracted-next-r
 use Rattle.contraction.specs.declared.ContractAnswer.{ContractAnswer}
 use Rattle.contraction.specs.declared.ContractAnswer.the-variants as C
 use Rattle.contraction.specs.Calls.{shortRoom, contractFault, contractAnswer, reachesGiven, ContractRows, ContractTable}
-use Rattle.contraction_laws.specs.Contractions.{fault, ReplyOfContracted, BoundOfContracted, Smaller, ContractedTwice}
+use Rattle.contraction_laws.specs.declared.ContractedRows.{ContractedRows}
+use Rattle.contraction_laws.specs.Contractions.{readOff, CameOut, ReplyOfContracted, BoundOfContracted, Smaller, ContractedTwice}
+
+-- what first and next reply to a network that is refused by its table
+pub first-refused : (N : Network) (planLength marksLength : ℕ) {e : Refusal} → tableFault N ≡ some e → firstReply N planLength marksLength ≡ refused e
+unfolding firstReply
+first-refused N planLength marksLength d = rw d
+
+pub next-refused : (N : Network) (s : List ℕ) (planLength marksLength : ℕ) {e : Refusal} → tableFault N ≡ some e → nextReply N s planLength marksLength ≡ refused e
+unfolding nextReply
+next-refused N s planLength marksLength d = rw d
 
 -- no refusal has the number of a plan
 positive : (e : Refusal) → _≡_ {A = ℕ} 0 (refusalNumber e) → ⊥
@@ -89,127 +101,119 @@ module _ (N M : Network) (ok : Accepted N) (is : M ≡ contracted N) {buffer mar
       let call : BoundCall (contracted N) buffer marks a buffer′ marks′ = subst (λ (L : Network). BoundCall L buffer marks a buffer′ marks′) is d in
       call .bytes-left ∙ ap (λ (l : List ℕ). l ++ drop (length l) buffer) (same-bytes (contracted N) N (contracted-bound N ok) _ _ (contracted-first-reply N ok (length buffer) (length marks)))
 
--- ---- over rows
+-- ---- what came out
 
-module _ (N : Network) {ks xs ys ks′ xs′ ys′ : List ℕ} {r : ContractAnswer} (c : ContractRows N ks xs ys r ks′ xs′ ys′) where
-  -- a refusal that came back is the one that is due
-  refused-by : (e : Refusal) → r ≡ C.Refused e → fault N ks xs ys ≡ some e
-  refused-by e q = go (fault N ks xs ys) refl
-    where
-      go : (f : Option Refusal) → fault N ks xs ys ≡ f → f ≡ some e
-      go none p = let z = sym q ∙ c .answer ∙ ap (λ (f : Option Refusal). contractAnswer f (contracted N)) p in absurd (true≢false cc)
-      go (some d) p = let z = sym q ∙ c .answer ∙ ap (λ (f : Option Refusal). contractAnswer f (contracted N)) p in cc
+-- rows with room for every network leave only the table to be judged
+roomy : (N : Network) (room : ℕ) → maxReaches ≤ room → contractFault N room ≡ tableFault N
+unfolding contractFault
+roomy N room l = go (tableFault N) refl
+  where
+    go : (f : Option Refusal) → tableFault N ≡ f → firstOf f (shortRoom (length (N .reaches)) room) ≡ f
+    go (some e) p = refl
+    go none p = rw (le-leb (length (N .reaches)) room (omega (arith, accepted N p .few-reaches)))
 
-  -- counts that came back are those of the contracted network, which stands in the rows
-  pub record CameOut (n m : ℕ) : Type 0 where
-    pub clear : fault N ks xs ys ≡ none
-    pub ok : Accepted N
-    pub long : (m ≤ length ks′) × (m ≤ length xs′) × (m ≤ length ys′)
-    pub network : netOf n (take m ks′) (take m xs′) (take m ys′) ≡ contracted N
+-- counts come back only of an accepted network, and are those of the contracted one
+record Counts (N : Network) (n m : ℕ) : Type 0 where
+  ok : Accepted N
+  basins : n ≡ contracted N .basins
+  reaches : length (contracted N .reaches) ≡ m
 
-  pub came-out : (n m : ℕ) → r ≡ C.Contracted n m → CameOut n m
-  unfolding contractFault
-  came-out n m q = go (fault N ks xs ys) refl
-    where
-      said : (f : Option Refusal) → fault N ks xs ys ≡ f → C.Contracted n m ≡ contractAnswer f (contracted N)
-      said f p = sym q ∙ c .answer ∙ ap (λ (g : Option Refusal). contractAnswer g (contracted N)) p
+counts : (N : Network) (n m : ℕ) → C.Contracted n m ≡ contractAnswer (tableFault N) (contracted N) → Counts N n m
+counts N n m q = go (tableFault N) refl
+  where
+    go : (f : Option Refusal) → tableFault N ≡ f → Counts N n m
+    go (some e) p = let z = q ∙ ap (λ (f : Option Refusal). contractAnswer f (contracted N)) p in absurd (true≢false cc)
+    go none p = let z = q ∙ ap (λ (f : Option Refusal). contractAnswer f (contracted N)) p in record { ok = p; basins = cc; reaches = cc }
 
-      go : (f : Option Refusal) → fault N ks xs ys ≡ f → CameOut n m
-      go (some d) p = let z = said (some d) p in absurd (true≢false cc)
-      go none p =
-          let z = said none p in
-          let basins : n ≡ contracted N .basins = cc in
-          let reaches : length (contracted N .reaches) ≡ m = cc in
-          let filled : RowsFilled (contracted N .reaches) ks xs ys ks′ xs′ ys′ = subst (λ (f : Option Refusal). RowsFilled (reachesGiven f (contracted N)) ks xs ys ks′ xs′ ys′) p (c .rows) in
-          record {
-            clear = p;
-            ok = first-of-none (tableFault N) _ p .0;
-            long = filled-long (contracted N .reaches) filled m reaches;
-            network = λ i. record { basins = basins i; reaches = filled-table (contracted N .reaches) filled m reaches i };
-          }
+-- a refusal that came back is the one that is due
+due : (N : Network) (e : Refusal) → C.Refused e ≡ contractAnswer (tableFault N) (contracted N) → tableFault N ≡ some e
+due N e q = go (tableFault N) refl
+  where
+    go : (f : Option Refusal) → tableFault N ≡ f → f ≡ some e
+    go none p = let z = q ∙ ap (λ (f : Option Refusal). contractAnswer f (contracted N)) p in absurd (true≢false cc)
+    go (some d) p = let z = q ∙ ap (λ (f : Option Refusal). contractAnswer f (contracted N)) p in cc
 
-  -- ---- first and next
+module _ (N : Network) {ks xs ys ks′ xs′ ys′ : List ℕ} {r : ContractAnswer} (c : ContractRows N ks xs ys r ks′ xs′ ys′) (room : maxReaches ≤ roomOf ks xs ys) where
+  answered : r ≡ contractAnswer (tableFault N) (contracted N)
+  answered = c .answer ∙ ap (λ (f : Option Refusal). contractAnswer f (contracted N)) (roomy N (roomOf ks xs ys) room)
 
+  filled : (k : Accepted N) → RowsFilled (contracted N .reaches) ks xs ys ks′ xs′ ys′
+  filled k = subst (λ (f : Option Refusal). RowsFilled (reachesGiven f (contracted N)) ks xs ys ks′ xs′ ys′) (roomy N (roomOf ks xs ys) room ∙ k) (c .rows)
+
+  pub came-out : CameOut N (record { answer = r; kinds = ks′; a = xs′; b = ys′ })
+  came-out =
+      record {
+        answer = answered;
+        long = λ n m q. let k = counts N n m (sym q ∙ answered) in filled-long (contracted N .reaches) (filled (k .ok)) m (k .reaches);
+        network = λ n m q.
+            let k = counts N n m (sym q ∙ answered) in
+            λ i. record { basins = k .basins i; reaches = filled-table (contracted N .reaches) (filled (k .ok)) m (k .reaches) i };
+      }
+
+-- ---- asked of it
+
+module _ (N : Network) {r : ContractedRows} (c : CameOut N r) where
+  -- first and next
   module _ (reply : Network → Outcome) where
-    pub asked-refused : (e : Refusal) → r ≡ C.Refused e → (buffer marks : List ℕ) → ReplyOfContracted reply N ks xs ys buffer marks (A.Refused e) ks′ xs′ ys′ buffer marks
-    asked-refused e q buffer marks =
-        let f = refused-by e q in
-        record {
-          rows = c .rows;
-          call = rw f (record { reply = refl; number = refl; reach = refl; count = refl; plan-left = refl; marks-left = refl });
-          choice = rw f (record { same-number = refl; same-plan = refl });
-        }
+    pub asked-refused : (e : Refusal) → r .answer ≡ C.Refused e → (tableFault N ≡ some e → reply N ≡ refused e) → (buffer marks : List ℕ) → ReplyOfContracted reply N buffer marks (A.Refused e) buffer marks
+    asked-refused e q f buffer marks =
+        let d = due N e (sym q ∙ c .answer) in
+        record { call = rw d (record { reply = refl; number = refl; reach = refl; count = refl; plan-left = refl; marks-left = refl }); choice = rw (f d) (record { same-number = refl; same-plan = refl }) }
 
-    pub asked-given : {buffer marks buffer′ marks′ : List ℕ} {a : Answer} (n m : ℕ) → r ≡ C.Contracted n m
+    pub asked-given : {buffer marks buffer′ marks′ : List ℕ} {a : Answer} (n m : ℕ) → r .answer ≡ C.Contracted n m
         → ((M : Network) → Accepted N → M ≡ contracted N → Replied (reply M) buffer marks buffer′ marks′ a → SameChoice (readReply M a buffer′ marks′) (reply N))
-        → Replied (reply (netOf n (take m ks′) (take m xs′) (take m ys′))) buffer marks buffer′ marks′ a → ReplyOfContracted reply N ks xs ys buffer marks a ks′ xs′ ys′ buffer′ marks′
+        → Replied (reply (readOff r n m)) buffer marks buffer′ marks′ a → ReplyOfContracted reply N buffer marks a buffer′ marks′
     asked-given {buffer} {marks} {buffer′} {marks′} {a} n m q choice d =
-        let o = came-out n m q in
-        let call : Replied (reply (contracted N)) buffer marks buffer′ marks′ a = subst (λ (L : Network). Replied (reply L) buffer marks buffer′ marks′ a) (o .network) d in
-        record { rows = c .rows; call = rw (o .clear) call; choice = rw (o .clear) (choice (contracted N) (o .ok) refl call) }
+        let k = counts N n m (sym q ∙ c .answer) in
+        let call : Replied (reply (contracted N)) buffer marks buffer′ marks′ a = subst (λ (L : Network). Replied (reply L) buffer marks buffer′ marks′ a) (c .network n m q) d in
+        record { call = rw (k .ok) call; choice = choice (contracted N) (k .ok) refl call }
 
-  -- ---- bound gates
-
-  pub bound-refused : (e : Refusal) → r ≡ C.Refused e → (bytes marks : List ℕ) → BoundOfContracted N ks xs ys bytes marks (A.Refused e) ks′ xs′ ys′ bytes marks
+  -- bound gates
+  pub bound-refused : (e : Refusal) → r .answer ≡ C.Refused e → (bytes marks : List ℕ) → BoundOfContracted N bytes marks (A.Refused e) bytes marks
   bound-refused e q bytes marks =
-      let f = refused-by e q in
-      record {
-        rows = c .rows;
-        call = rw f (record { reply = refl; number = refl; reach = refl; count = refl; bytes-left = refl; marks-left = refl });
-        same-number = rw f refl;
-        same-bytes = rw f refl;
-      }
+      let d = due N e (sym q ∙ c .answer) in
+      let f = first-refused N (length bytes) (length marks) d in
+      record { call = rw d (record { reply = refl; number = refl; reach = refl; count = refl; bytes-left = refl; marks-left = refl }); same-number = rw f refl; same-bytes = rw f refl }
 
-  pub bound-given : {bytes marks bytes′ marks′ : List ℕ} {a : Answer} (n m : ℕ) → r ≡ C.Contracted n m → BoundCall (netOf n (take m ks′) (take m xs′) (take m ys′)) bytes marks a bytes′ marks′
-      → BoundOfContracted N ks xs ys bytes marks a ks′ xs′ ys′ bytes′ marks′
+  pub bound-given : {bytes marks bytes′ marks′ : List ℕ} {a : Answer} (n m : ℕ) → r .answer ≡ C.Contracted n m → BoundCall (readOff r n m) bytes marks a bytes′ marks′ → BoundOfContracted N bytes marks a bytes′ marks′
   bound-given {bytes} {marks} {bytes′} {marks′} {a} n m q d =
-      let o = came-out n m q in
-      let call : BoundCall (contracted N) bytes marks a bytes′ marks′ = subst (λ (L : Network). BoundCall L bytes marks a bytes′ marks′) (o .network) d in
+      let k = counts N n m (sym q ∙ c .answer) in
+      let call : BoundCall (contracted N) bytes marks a bytes′ marks′ = subst (λ (L : Network). BoundCall L bytes marks a bytes′ marks′) (c .network n m q) d in
       record {
-        rows = c .rows;
-        call = rw (o .clear) call;
-        same-number = rw (o .clear) (call .number ∙ contracted-first-reply N (o .ok) (length bytes) (length marks) .same-number);
-        same-bytes = rw (o .clear) (bound-choice N (contracted N) (o .ok) refl call);
+        call = rw (k .ok) call;
+        same-number = call .number ∙ contracted-first-reply N (k .ok) (length bytes) (length marks) .same-number;
+        same-bytes = bound-choice N (contracted N) (k .ok) refl call;
       }
 
-  -- ---- contracting again
+  -- contracting again
+  pub again-refused : (e : Refusal) → r .answer ≡ C.Refused e → ContractedTwice N r
+  again-refused e q = record { answer = c .answer; read = λ n m z. let y = sym q ∙ z in absurd (true≢false cc) }
 
-  pub again-refused : (ks₂ xs₂ ys₂ : List ℕ) (e : Refusal) → r ≡ C.Refused e → ContractedTwice N ks xs ys ks₂ xs₂ ys₂ (C.Refused e) ks′ xs′ ys′ ks₂ xs₂ ys₂
-  again-refused ks₂ xs₂ ys₂ e q =
-      let f = refused-by e q in
-      record { rows = c .rows; answer = rw f refl; again = rw f (record { kind-row = refl; a-row = refl; b-row = refl }); read = λ n m z. absurd (true≢false cc) }
-
-module _ (N : Network) {ks xs ys ks′ xs′ ys′ : List ℕ} {r : ContractAnswer} (c : ContractRows N ks xs ys r ks′ xs′ ys′) {ks₂ xs₂ ys₂ ks₂′ xs₂′ ys₂′ : List ℕ} {a : ContractAnswer} where
-  pub again-given : (n m : ℕ) → r ≡ C.Contracted n m → ContractRows (netOf n (take m ks′) (take m xs′) (take m ys′)) ks₂ xs₂ ys₂ a ks₂′ xs₂′ ys₂′ → ContractedTwice N ks xs ys ks₂ xs₂ ys₂ a ks′ xs′ ys′ ks₂′ xs₂′ ys₂′
-  unfolding contractFault
-  again-given n m q d =
-      let o = came-out N c n m q in
-      let call : ContractRows (contracted N) ks₂ xs₂ ys₂ a ks₂′ xs₂′ ys₂′ = subst (λ (L : Network). ContractRows L ks₂ xs₂ ys₂ a ks₂′ xs₂′ ys₂′) (o .network) d in
-      let due : contractFault (contracted N) (roomOf ks₂ xs₂ ys₂) ≡ shortRoom (length (contracted N .reaches)) (roomOf ks₂ xs₂ ys₂) = rw (contracted-accepted N (o .ok)) in
+  pub again-given : {a : ContractedRows} (n m : ℕ) → r .answer ≡ C.Contracted n m → CameOut (readOff r n m) a → ContractedTwice N a
+  again-given {a} n m q d =
+      let k = counts N n m (sym q ∙ c .answer) in
+      let call : CameOut (contracted N) a = subst (λ (L : Network). CameOut L a) (c .network n m q) d in
       record {
-        rows = c .rows;
-        answer = rw (o .clear) (rw (contracted-again N (o .ok), due) at (call .answer));
-        again = rw (o .clear) (rw (contracted-again N (o .ok), due) at (call .rows));
-        read = λ n₂ m₂ z. smaller N _ (o .ok) (came-out (contracted N) call n₂ m₂ z .network ∙ contracted-again N (o .ok));
+        answer = rw (k .ok) (rw (contracted-accepted N (k .ok), contracted-again N (k .ok)) at (call .answer));
+        read = λ i j z. smaller N _ (k .ok) (call .network i j z ∙ contracted-again N (k .ok));
       }
 
 -- ---- over records
 
-module _ (N : Network) {t t′ : List Reach} {r : ContractAnswer} (c : ContractTable N t r t′) where
-  -- what is read off the buffer
-  pub table-smaller : (n m : ℕ) → r ≡ C.Contracted n m → Smaller N (net n (take m t′))
-  unfolding contractFault
-  table-smaller n m q = go (contractFault N (length t)) refl
-    where
-      said : (f : Option Refusal) → contractFault N (length t) ≡ f → C.Contracted n m ≡ contractAnswer f (contracted N)
-      said f p = sym q ∙ c .answer ∙ ap (λ (g : Option Refusal). contractAnswer g (contracted N)) p
+-- what is read off the buffer
+pub table-smaller : (N : Network) {t t′ : List Reach} {r : ContractAnswer} → ContractTable N t r t′ → (n m : ℕ) → r ≡ C.Contracted n m → Smaller N (net n (take m t′))
+unfolding contractFault
+table-smaller N {t} {t′} c n m q = go (contractFault N (length t)) refl
+  where
+    said : (f : Option Refusal) → contractFault N (length t) ≡ f → C.Contracted n m ≡ contractAnswer f (contracted N)
+    said f p = sym q ∙ c .answer ∙ ap (λ (g : Option Refusal). contractAnswer g (contracted N)) p
 
-      go : (f : Option Refusal) → contractFault N (length t) ≡ f → Smaller N (net n (take m t′))
-      go (some d) p = let z = said (some d) p in absurd (true≢false cc)
-      go none p =
-          let z = said none p in
-          let basins : n ≡ contracted N .basins = cc in
-          let reaches : length (contracted N .reaches) ≡ m = cc in
-          let left : t′ ≡ contracted N .reaches ++ drop (length (contracted N .reaches)) t = c .table ∙ ap (λ (f : Option Refusal). reachesGiven f (contracted N) ++ drop (length (reachesGiven f (contracted N))) t) p in
-          let front : take m t′ ≡ contracted N .reaches = ap (take m) left ∙ take-at (contracted N .reaches) (drop (length (contracted N .reaches)) t) m reaches in
-          smaller N (net n (take m t′)) (first-of-none (tableFault N) _ p .0) (λ i. net (basins i) (front i))
+    go : (f : Option Refusal) → contractFault N (length t) ≡ f → Smaller N (net n (take m t′))
+    go (some d) p = let z = said (some d) p in absurd (true≢false cc)
+    go none p =
+        let z = said none p in
+        let basins : n ≡ contracted N .basins = cc in
+        let reaches : length (contracted N .reaches) ≡ m = cc in
+        let left : t′ ≡ contracted N .reaches ++ drop (length (contracted N .reaches)) t = c .table ∙ ap (λ (f : Option Refusal). reachesGiven f (contracted N) ++ drop (length (reachesGiven f (contracted N))) t) p in
+        let front : take m t′ ≡ contracted N .reaches = ap (take m) left ∙ take-at (contracted N .reaches) (drop (length (contracted N .reaches)) t) m reaches in
+        smaller N (net n (take m t′)) (first-of-none (tableFault N) _ p .0) (λ i. net (basins i) (front i))

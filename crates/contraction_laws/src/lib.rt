@@ -3,13 +3,40 @@
 use bound_gates::bound_gates_rows;
 use contraction::ContractAnswer;
 use contraction::contract_rows;
+use packing::MAX_ROWS;
+use packing::Packed;
+use packing::empty;
 use planner_rows::first_plan;
 use planner_rows::next_plan;
 use replies::Answer;
 ghost use lib.ListN.{length};
 ghost use Rattle.network.specs.Replies.{firstReply, nextReply};
 ghost use Rattle.tables.specs.Rows.{netOf};
-ghost use Rattle.contraction_laws.specs.Contractions.{ReplyOfContracted, BoundOfContracted, ContractedTwice};
+ghost use Rattle.contraction_laws.specs.Contractions.{CameOut, ReplyOfContracted, BoundOfContracted, ContractedTwice};
+
+// What a network is contracted to, in rows with room for every network.
+pub struct ContractedRows {
+    answer: ContractAnswer,
+    kinds: [u8; MAX_ROWS],
+    a: [u16; MAX_ROWS],
+    b: [u16; MAX_ROWS],
+}
+
+// Contracts a network. What stood in the rows does not matter.
+fn contracted(basins: u16, kinds: &[u8], a: &[u16], b: &[u16], rows: Packed) -> ContractedRows
+    ensures { λ r. ⌜ CameOut (netOf basins (now (kinds .entry)) (now (a .entry)) (now (b .entry))) r ⌝ }
+{
+    let mut kinds2 = rows.kinds;
+    let mut a2 = rows.a;
+    let mut b2 = rows.b;
+    let answer = contract_rows(basins, kinds, a, b, &mut kinds2, &mut a2, &mut b2);
+    ContractedRows {
+        answer,
+        kinds: kinds2,
+        a: a2,
+        b: b2,
+    }
+}
 
 // Contracts a network and asks for the first plan of what came out: the same plan as that of the network itself, or the same number.
 pub fn first_of_contracted(
@@ -17,18 +44,18 @@ pub fn first_of_contracted(
     kinds: &[u8],
     a: &[u16],
     b: &[u16],
-    kinds2: &mut [u8],
-    a2: &mut [u16],
-    b2: &mut [u16],
     plan: &mut [u8],
     marks: &mut [u8],
 ) -> Answer
     ensures { λ r. ⌜ ReplyOfContracted (λ N. firstReply N (length (now (plan .entry))) (length (now (marks .entry))))
-        (netOf basins (now (kinds .entry)) (now (a .entry)) (now (b .entry)))
-        (now (kinds2 .entry)) (now (a2 .entry)) (now (b2 .entry)) (now (plan .entry)) (now (marks .entry)) r
-        (now (kinds2 .exit)) (now (a2 .exit)) (now (b2 .exit)) (now (plan .exit)) (now (marks .exit)) ⌝ }
+        (netOf basins (now (kinds .entry)) (now (a .entry)) (now (b .entry))) (now (plan .entry)) (now (marks .entry)) r (now (plan .exit)) (now (marks .exit)) ⌝ }
 {
-    match contract_rows(basins, kinds, a, b, kinds2, a2, b2) {
+    let c = contracted(basins, kinds, a, b, empty(0));
+    let kinds2 = c.kinds;
+    let a2 = c.a;
+    let b2 = c.b;
+    let answer = c.answer;
+    match answer {
         ContractAnswer::Refused(r) => Answer::Refused(r),
         ContractAnswer::Contracted {
             basins: n,
@@ -44,18 +71,18 @@ pub fn next_of_contracted(
     a: &[u16],
     b: &[u16],
     s: &[u8],
-    kinds2: &mut [u8],
-    a2: &mut [u16],
-    b2: &mut [u16],
     plan: &mut [u8],
     marks: &mut [u8],
 ) -> Answer
     ensures { λ r. ⌜ ReplyOfContracted (λ N. nextReply N (now (s .entry)) (length (now (plan .entry))) (length (now (marks .entry))))
-        (netOf basins (now (kinds .entry)) (now (a .entry)) (now (b .entry)))
-        (now (kinds2 .entry)) (now (a2 .entry)) (now (b2 .entry)) (now (plan .entry)) (now (marks .entry)) r
-        (now (kinds2 .exit)) (now (a2 .exit)) (now (b2 .exit)) (now (plan .exit)) (now (marks .exit)) ⌝ }
+        (netOf basins (now (kinds .entry)) (now (a .entry)) (now (b .entry))) (now (plan .entry)) (now (marks .entry)) r (now (plan .exit)) (now (marks .exit)) ⌝ }
 {
-    match contract_rows(basins, kinds, a, b, kinds2, a2, b2) {
+    let c = contracted(basins, kinds, a, b, empty(0));
+    let kinds2 = c.kinds;
+    let a2 = c.a;
+    let b2 = c.b;
+    let answer = c.answer;
+    match answer {
         ContractAnswer::Refused(r) => Answer::Refused(r),
         ContractAnswer::Contracted {
             basins: n,
@@ -70,17 +97,18 @@ pub fn bound_of_contracted(
     kinds: &[u8],
     a: &[u16],
     b: &[u16],
-    kinds2: &mut [u8],
-    a2: &mut [u16],
-    b2: &mut [u16],
     bytes: &mut [u8],
     marks: &mut [u8],
 ) -> Answer
-    ensures { λ r. ⌜ BoundOfContracted (netOf basins (now (kinds .entry)) (now (a .entry)) (now (b .entry)))
-        (now (kinds2 .entry)) (now (a2 .entry)) (now (b2 .entry)) (now (bytes .entry)) (now (marks .entry)) r
-        (now (kinds2 .exit)) (now (a2 .exit)) (now (b2 .exit)) (now (bytes .exit)) (now (marks .exit)) ⌝ }
+    ensures { λ r. ⌜ BoundOfContracted (netOf basins (now (kinds .entry)) (now (a .entry)) (now (b .entry))) (now (bytes .entry)) (now (marks .entry)) r
+        (now (bytes .exit)) (now (marks .exit)) ⌝ }
 {
-    match contract_rows(basins, kinds, a, b, kinds2, a2, b2) {
+    let c = contracted(basins, kinds, a, b, empty(0));
+    let kinds2 = c.kinds;
+    let a2 = c.a;
+    let b2 = c.b;
+    let answer = c.answer;
+    match answer {
         ContractAnswer::Refused(r) => Answer::Refused(r),
         ContractAnswer::Contracted {
             basins: n,
@@ -90,27 +118,19 @@ pub fn bound_of_contracted(
 }
 
 // Contracts a network, and contracts what came out: the same counts and the same reaches.
-pub fn contract_again(
-    basins: u16,
-    kinds: &[u8],
-    a: &[u16],
-    b: &[u16],
-    kinds2: &mut [u8],
-    a2: &mut [u16],
-    b2: &mut [u16],
-    kinds3: &mut [u8],
-    a3: &mut [u16],
-    b3: &mut [u16],
-) -> ContractAnswer
-    ensures { λ r. ⌜ ContractedTwice (netOf basins (now (kinds .entry)) (now (a .entry)) (now (b .entry)))
-        (now (kinds2 .entry)) (now (a2 .entry)) (now (b2 .entry)) (now (kinds3 .entry)) (now (a3 .entry)) (now (b3 .entry)) r
-        (now (kinds2 .exit)) (now (a2 .exit)) (now (b2 .exit)) (now (kinds3 .exit)) (now (a3 .exit)) (now (b3 .exit)) ⌝ }
+pub fn contract_again(basins: u16, kinds: &[u8], a: &[u16], b: &[u16]) -> ContractedRows
+    ensures { λ r. ⌜ ContractedTwice (netOf basins (now (kinds .entry)) (now (a .entry)) (now (b .entry))) r ⌝ }
 {
-    match contract_rows(basins, kinds, a, b, kinds2, a2, b2) {
-        ContractAnswer::Refused(r) => ContractAnswer::Refused(r),
+    let c = contracted(basins, kinds, a, b, empty(0));
+    let kinds2 = c.kinds;
+    let a2 = c.a;
+    let b2 = c.b;
+    let answer = c.answer;
+    match answer {
+        ContractAnswer::Refused(_) => c,
         ContractAnswer::Contracted {
             basins: n,
             reaches: m,
-        } => contract_rows(n, &kinds2[..m], &a2[..m], &b2[..m], kinds3, a3, b3),
+        } => contracted(n, &kinds2[..m], &a2[..m], &b2[..m], empty(0)),
     }
 }

@@ -1,106 +1,84 @@
 -- `contraction_laws::contract_again` meets its contract: what the two calls promise gives the law.
 -- Assumes nothing.
 use mathlib.Core.Path.{sym}
+use Prim.Native.Nat.{ℕ, _≤_}
+use lib.ListN.{length}
 use lib.Seq.{length-take-le}
 use Rattle.network.specs.Networks.{Network}
-use Rattle.contraction_laws.proofs.Contractions.{CameOut, came-out, again-refused, again-given}
 use Rattle.tables.specs.Rows.{netOf}
+use Rattle.contraction_laws.proofs.Contractions.{again-refused, again-given}
 use borrow.Author.Needs.{needs}
 use Rattle.contraction_laws.proofs.contract_again.Statement.{statement}
 use Rattle.contraction_laws.proofs.contract_again.Tie as tie
 
--- the network that is contracted, and what came out
+-- the network that is contracted
 abbrev N : tie.Start → Network
 N s = netOf (s .args .basins) (s .args .kinds .now) (s .args .a .now) (s .args .b .now)
 
-came : (c : tie.After-known-told2) → CameOut (N (c .before .before .before .before .before .before .before .before .before .before .before .before .before .before .before .before .before .before .before .before .before .before)) (c .before .before .before .before .before .before .before .before .before .contract-rows .ensures) (c .before .n .given .0 .0) (c .before .n .given .0 .1 .0)
-came c = came-out (N (c .before .before .before .before .before .before .before .before .before .before .before .before .before .before .before .before .before .before .before .before .before .before)) (c .before .before .before .before .before .before .before .before .before .contract-rows .ensures) (c .before .n .given .0 .0) (c .before .n .given .0 .1 .0) (c .before .n .given .1)
+-- how many reaches came out, no more than the rows have entries
+abbrev m : tie.After-known-told → ℕ
+m c = c .before .answer .given .0 .1 .0
 
-contract-rows-requires : tie.Need-contract-rows-requires
-contract-rows-requires c κs = tt
+long : (c : tie.After-known-told) → (m c ≤ length (c .before .before .before .before .before .before .contracted .result .kinds)) × (m c ≤ length (c .before .before .before .before .before .before .contracted .result .a)) × (m c ≤ length (c .before .before .before .before .before .before .contracted .result .b))
+long c = c .before .before .before .before .before .before .contracted .ensures .long (c .before .answer .given .0 .0) (m c) (c .before .answer .given .1)
 
-enum-known-r : tie.Need-enum-known-r
-enum-known-r c = search needs
+empty-requires : tie.Need-empty-requires
+empty-requires c κs = tt
 
-enum-known-n : tie.Need-enum-known-n
-enum-known-n c = search needs
+contracted-requires : tie.Need-contracted-requires
+contracted-requires c κs = tt
 
-slice-reshare-prefix-contract-rows : tie.Need-slice-reshare-prefix-contract-rows
-slice-reshare-prefix-contract-rows c = came (c) .long .0
+enum-told : tie.Need-enum-told
+enum-told c = search needs
 
-slice-aggregate-contract-rows : tie.Need-slice-aggregate-contract-rows
-slice-aggregate-contract-rows c = sym (length-take-le _ _ (came (c .before) .long .0))
+enum-known-answer : tie.Need-enum-known-answer
+enum-known-answer c = search needs
 
-slice-reshare-prefix-contract-rows-2 : tie.Need-slice-reshare-prefix-contract-rows-2
-slice-reshare-prefix-contract-rows-2 c = came (c .before) .long .1
+array-share-prefix-kinds2 : tie.Need-array-share-prefix-kinds2
+array-share-prefix-kinds2 c = long c .0
 
-slice-aggregate-contract-rows-2 : tie.Need-slice-aggregate-contract-rows-2
-slice-aggregate-contract-rows-2 c = sym (length-take-le _ _ (came (c .before .before) .long .1))
+slice-aggregate-contracted : tie.Need-slice-aggregate-contracted
+slice-aggregate-contracted c = sym (length-take-le _ _ (long (c .before) .0))
 
-slice-reshare-prefix-contract-rows-3 : tie.Need-slice-reshare-prefix-contract-rows-3
-slice-reshare-prefix-contract-rows-3 c = came (c .before .before) .long .2
+array-share-prefix-a2 : tie.Need-array-share-prefix-a2
+array-share-prefix-a2 c = long (c .before) .1
 
-slice-aggregate-contract-rows-3 : tie.Need-slice-aggregate-contract-rows-3
-slice-aggregate-contract-rows-3 c = sym (length-take-le _ _ (came (c .before .before .before) .long .2))
+slice-aggregate-contracted-2 : tie.Need-slice-aggregate-contracted-2
+slice-aggregate-contracted-2 c = sym (length-take-le _ _ (long (c .before .before) .1))
 
-contract-rows-requires-2 : tie.Need-contract-rows-requires-2
-contract-rows-requires-2 c κs = tt
+array-share-prefix-b2 : tie.Need-array-share-prefix-b2
+array-share-prefix-b2 c = long (c .before .before) .2
 
-same-length : tie.Need-same-length
-same-length c = search needs
+slice-aggregate-contracted-3 : tie.Need-slice-aggregate-contracted-3
+slice-aggregate-contracted-3 c = sym (length-take-le _ _ (long (c .before .before .before) .2))
 
-same-length-2 : tie.Need-same-length-2
-same-length-2 c = search needs
+empty-requires-2 : tie.Need-empty-requires-2
+empty-requires-2 c κs = tt
 
-same-length-3 : tie.Need-same-length-3
-same-length-3 c = search needs
+contracted-requires-2 : tie.Need-contracted-requires-2
+contracted-requires-2 c κs = tt
 
 returns : tie.Need-returns
-returns c = again-refused (N (c .before .before .before .before .before .before .before .before .before .before .before .before .before .before .before .before .before .before .before .before .before .before)) (c .before .before .before .before .before .before .before .before .before .contract-rows .ensures) _ _ _ (c .before .r .given .0 .0) (c .before .r .given .1)
-
-same-length-4 : tie.Need-same-length-4
-same-length-4 c = search needs
-
-same-length-5 : tie.Need-same-length-5
-same-length-5 c = search needs
-
-same-length-6 : tie.Need-same-length-6
-same-length-6 c = search needs
-
-same-length-7 : tie.Need-same-length-7
-same-length-7 c = search needs
-
-same-length-8 : tie.Need-same-length-8
-same-length-8 c = search needs
-
-same-length-9 : tie.Need-same-length-9
-same-length-9 c = search needs
+returns c = again-refused (N (c .before .before .before .before .before .before .before .before .before .before)) (c .before .before .before .before .before .contracted .ensures) (c .enum-told .given .0 .0) (c .enum-told .given .1)
 
 returns-2 : tie.Need-returns-2
-returns-2 c = again-given (N (c .before .before .before .before .before .before .before .before .before .before .before .before .before .before .before .before .before .before .before .before .before .before .before .before .before .before .before .before .before .before .before .before .before .before .before)) (c .before .before .before .before .before .before .before .before .before .before .before .before .before .before .before .before .before .before .before .before .before .before .contract-rows .ensures) (c .before .before .before .before .before .before .before .before .before .before .before .before .before .before .n .given .0 .0) (c .before .before .before .before .before .before .before .before .before .before .before .before .before .before .n .given .0 .1 .0) (c .before .before .before .before .before .before .before .before .before .before .before .before .before .before .n .given .1) (c .before .before .before .before .before .before .contract-rows2 .ensures)
+returns-2 c = again-given (N (c .before .before .before .before .before .before .before .before .before .before .before .before .before .before .before .before)) (c .before .before .before .before .before .before .before .before .before .before .before .contracted .ensures) (c .before .before .before .before .before .before .answer .given .0 .0) (c .before .before .before .before .before .before .answer .given .0 .1 .0) (c .before .before .before .before .before .before .answer .given .1) (c .contracted2 .ensures)
 
 pub contract-again-spec : {M : Type 1} → statement M
 contract-again-spec =
     tie.close
     (tie.spec
-    contract-rows-requires
-    enum-known-r
-    enum-known-n
-    slice-reshare-prefix-contract-rows
-    slice-aggregate-contract-rows
-    slice-reshare-prefix-contract-rows-2
-    slice-aggregate-contract-rows-2
-    slice-reshare-prefix-contract-rows-3
-    slice-aggregate-contract-rows-3
-    contract-rows-requires-2
-    same-length
-    same-length-2
-    same-length-3
+    empty-requires
+    contracted-requires
+    enum-told
+    enum-known-answer
+    array-share-prefix-kinds2
+    slice-aggregate-contracted
+    array-share-prefix-a2
+    slice-aggregate-contracted-2
+    array-share-prefix-b2
+    slice-aggregate-contracted-3
+    empty-requires-2
+    contracted-requires-2
     returns
-    same-length-4
-    same-length-5
-    same-length-6
-    same-length-7
-    same-length-8
-    same-length-9
     returns-2)

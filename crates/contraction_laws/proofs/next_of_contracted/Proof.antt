@@ -1,50 +1,62 @@
 -- `contraction_laws::next_of_contracted` meets its contract: what the two calls promise gives the law.
 -- Assumes nothing.
 use mathlib.Core.Path.{sym}
+use Prim.Native.Nat.{ℕ, _≤_}
+use lib.ListN.{length}
 use lib.Seq.{length-take-le}
 use Rattle.network.specs.Networks.{Network}
-use Rattle.contraction_laws.proofs.Contractions.{CameOut, came-out, next-choice, asked-refused, asked-given}
 use Rattle.tables.specs.Rows.{netOf}
+use Rattle.contraction_laws.proofs.Contractions.{next-refused, next-choice, asked-refused, asked-given}
 use borrow.Author.Needs.{needs}
 use Rattle.contraction_laws.proofs.next_of_contracted.Statement.{statement}
 use Rattle.contraction_laws.proofs.next_of_contracted.Tie as tie
 
--- the network that is contracted, and what came out
+-- the network that is contracted
 abbrev N : tie.Start → Network
 N s = netOf (s .args .basins) (s .args .kinds .now) (s .args .a .now) (s .args .b .now)
 
-came : (c : tie.After-known-told2) → CameOut (N (c .before .before .before .before .before .before .before .before .before .before .before .before .before .before .before .before .before .before .before .before .before .before)) (c .before .before .before .before .before .before .before .before .before .contract-rows .ensures) (c .before .n .given .0 .0) (c .before .n .given .0 .1 .0)
-came c = came-out (N (c .before .before .before .before .before .before .before .before .before .before .before .before .before .before .before .before .before .before .before .before .before .before)) (c .before .before .before .before .before .before .before .before .before .contract-rows .ensures) (c .before .n .given .0 .0) (c .before .n .given .0 .1 .0) (c .before .n .given .1)
+-- how many reaches came out, no more than the rows have entries
+abbrev m : tie.After-known-told2 → ℕ
+m c = c .before .answer2 .given .0 .1 .0
 
-contract-rows-requires : tie.Need-contract-rows-requires
-contract-rows-requires c κs = tt
+long : (c : tie.After-known-told2) → (m c ≤ length (c .before .before .before .before .before .before .contracted .result .kinds)) × (m c ≤ length (c .before .before .before .before .before .before .contracted .result .a)) × (m c ≤ length (c .before .before .before .before .before .before .contracted .result .b))
+long c = c .before .before .before .before .before .before .contracted .ensures .long (c .before .answer2 .given .0 .0) (m c) (c .before .answer2 .given .1)
 
-enum-known-r : tie.Need-enum-known-r
-enum-known-r c = search needs
+empty-requires : tie.Need-empty-requires
+empty-requires c κs = tt
 
-enum-known-n : tie.Need-enum-known-n
-enum-known-n c = search needs
+contracted-requires : tie.Need-contracted-requires
+contracted-requires c κs = tt
 
-slice-reshare-prefix-next-plan : tie.Need-slice-reshare-prefix-next-plan
-slice-reshare-prefix-next-plan c = came (c) .long .0
+enum-known-answer : tie.Need-enum-known-answer
+enum-known-answer c = search needs
+
+enum-known-answer-2 : tie.Need-enum-known-answer-2
+enum-known-answer-2 c = search needs
+
+array-share-prefix-kinds2 : tie.Need-array-share-prefix-kinds2
+array-share-prefix-kinds2 c = long c .0
 
 slice-aggregate-next-plan : tie.Need-slice-aggregate-next-plan
-slice-aggregate-next-plan c = sym (length-take-le _ _ (came (c .before) .long .0))
+slice-aggregate-next-plan c = sym (length-take-le _ _ (long (c .before) .0))
 
-slice-reshare-prefix-next-plan-2 : tie.Need-slice-reshare-prefix-next-plan-2
-slice-reshare-prefix-next-plan-2 c = came (c .before) .long .1
+array-share-prefix-a2 : tie.Need-array-share-prefix-a2
+array-share-prefix-a2 c = long (c .before) .1
 
 slice-aggregate-next-plan-2 : tie.Need-slice-aggregate-next-plan-2
-slice-aggregate-next-plan-2 c = sym (length-take-le _ _ (came (c .before .before) .long .1))
+slice-aggregate-next-plan-2 c = sym (length-take-le _ _ (long (c .before .before) .1))
 
-slice-reshare-prefix-next-plan-3 : tie.Need-slice-reshare-prefix-next-plan-3
-slice-reshare-prefix-next-plan-3 c = came (c .before .before) .long .2
+array-share-prefix-b2 : tie.Need-array-share-prefix-b2
+array-share-prefix-b2 c = long (c .before .before) .2
 
 slice-aggregate-next-plan-3 : tie.Need-slice-aggregate-next-plan-3
-slice-aggregate-next-plan-3 c = sym (length-take-le _ _ (came (c .before .before .before) .long .2))
+slice-aggregate-next-plan-3 c = sym (length-take-le _ _ (long (c .before .before .before) .2))
 
 next-plan-requires : tie.Need-next-plan-requires
 next-plan-requires c κs = tt
+
+returns : tie.Need-returns
+returns c = asked-refused (N (c .before .before .before .before .before .before .before .before .before .before .before .before .before .before)) (c .before .before .before .before .before .before .contracted .ensures) _ (c .before .answer .given .0 .0) (c .before .answer .given .1) (λ d. next-refused (N (c .before .before .before .before .before .before .before .before .before .before .before .before .before .before)) _ _ _ d) _ _
 
 same-length : tie.Need-same-length
 same-length c = search needs
@@ -52,51 +64,25 @@ same-length c = search needs
 same-length-2 : tie.Need-same-length-2
 same-length-2 c = search needs
 
-same-length-3 : tie.Need-same-length-3
-same-length-3 c = search needs
-
-returns : tie.Need-returns
-returns c = asked-refused (N (c .before .before .before .before .before .before .before .before .before .before .before .before .before .before .before .before .before .before .before .before .before .before)) (c .before .before .before .before .before .before .before .before .before .contract-rows .ensures) _ (c .before .r .given .0 .0) (c .before .r .given .1) _ _
-
-same-length-4 : tie.Need-same-length-4
-same-length-4 c = search needs
-
-same-length-5 : tie.Need-same-length-5
-same-length-5 c = search needs
-
-same-length-6 : tie.Need-same-length-6
-same-length-6 c = search needs
-
-same-length-7 : tie.Need-same-length-7
-same-length-7 c = search needs
-
-same-length-8 : tie.Need-same-length-8
-same-length-8 c = search needs
-
 returns-2 : tie.Need-returns-2
-returns-2 c = asked-given (N (c .before .before .before .before .before .before .before .before .before .before .before .before .before .before .before .before .before .before .before .before .before .before .before .before .before .before .before .before .before .before .before .before)) (c .before .before .before .before .before .before .before .before .before .before .before .before .before .before .before .before .before .before .before .contract-rows .ensures) _ (c .before .before .before .before .before .before .before .before .before .before .before .n .given .0 .0) (c .before .before .before .before .before .before .before .before .before .before .before .n .given .0 .1 .0) (c .before .before .before .before .before .before .before .before .before .before .before .n .given .1) (λ M ok is. next-choice (N (c .before .before .before .before .before .before .before .before .before .before .before .before .before .before .before .before .before .before .before .before .before .before .before .before .before .before .before .before .before .before .before .before)) M ok is _) (c .before .before .before .before .next-plan .ensures)
+returns-2 c = asked-given (N (c .before .before .before .before .before .before .before .before .before .before .before .before .before .before .before .before .before .before .before .before .before .before .before .before)) (c .before .before .before .before .before .before .before .before .before .before .before .before .before .before .before .before .contracted .ensures) _ (c .before .before .before .before .before .before .before .before .before .before .before .answer2 .given .0 .0) (c .before .before .before .before .before .before .before .before .before .before .before .answer2 .given .0 .1 .0) (c .before .before .before .before .before .before .before .before .before .before .before .answer2 .given .1) (λ M ok is. next-choice (N (c .before .before .before .before .before .before .before .before .before .before .before .before .before .before .before .before .before .before .before .before .before .before .before .before)) M ok is _) (c .before .before .before .before .next-plan .ensures)
 
 pub next-of-contracted-spec : {M : Type 1} → statement M
 next-of-contracted-spec =
     tie.close
     (tie.spec
-    contract-rows-requires
-    enum-known-r
-    enum-known-n
-    slice-reshare-prefix-next-plan
+    empty-requires
+    contracted-requires
+    enum-known-answer
+    enum-known-answer-2
+    array-share-prefix-kinds2
     slice-aggregate-next-plan
-    slice-reshare-prefix-next-plan-2
+    array-share-prefix-a2
     slice-aggregate-next-plan-2
-    slice-reshare-prefix-next-plan-3
+    array-share-prefix-b2
     slice-aggregate-next-plan-3
     next-plan-requires
+    returns
     same-length
     same-length-2
-    same-length-3
-    returns
-    same-length-4
-    same-length-5
-    same-length-6
-    same-length-7
-    same-length-8
     returns-2)
