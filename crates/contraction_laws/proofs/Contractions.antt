@@ -3,11 +3,12 @@
 use Prim.Native.Nat.{ℕ, _≤_}
 use native.Mathlib.Omega.{arith}
 use mathlib.Core.Path.{_≡_, refl, sym, ap, subst, _∙_}
-use mathlib.Core.Bool.{true≢false}
-use mathlib.Core.List.{List, _++_}
+use mathlib.Core.Bool.{false, cond, true≢false}
+use mathlib.Core.List.{List, [], _++_}
 use mathlib.Core.Option.{Option, none, some}
 use lib.ListN.{length, take, drop}
 use lib.Seq.{take-at}
+use lib.Dec.{eqb}
 use borrow.Author.Tests.{le-leb}
 use Rattle.network.specs.declared.Reach.{Reach}
 use Rattle.network.specs.declared.Refusal.{Refusal}
@@ -43,36 +44,27 @@ pub next-refused : (N : Network) (s : List ℕ) (planLength marksLength : ℕ) {
 unfolding nextReply
 next-refused N s planLength marksLength d = rw d
 
--- no refusal has the number of a plan
-positive : (e : Refusal) → _≡_ {A = ℕ} 0 (refusalNumber e) → ⊥
-positive BasinCount z = omega arith
-positive TooManyReaches z = omega arith
-positive EndOutOfRange z = omega arith
-positive Truncated z = omega arith
-positive UnknownKind z = omega arith
-positive TrailingBytes z = omega arith
-positive ShortBuffer z = omega arith
-positive BadSetting z = omega arith
-positive LastPlan z = omega arith
+-- no refusal has the number of a plan, so the bytes of bound gates go by the number of the reply
+no-plan : (e : Refusal) → eqb (refusalNumber e) 0 ≡ false
+no-plan BasinCount = refl
+no-plan TooManyReaches = refl
+no-plan EndOutOfRange = refl
+no-plan Truncated = refl
+no-plan UnknownKind = refl
+no-plan TrailingBytes = refl
+no-plan ShortBuffer = refl
+no-plan BadSetting = refl
+no-plan LastPlan = refl
+
+by-number : (N : Network) (o : Outcome) → boundIn N o ≡ cond (eqb (number o) 0) (boundBytes N) []
+by-number N (plan s) = refl
+by-number N (shutIn m k) = refl
+by-number N (lone i m k) = refl
+by-number N (refused e) = rw (no-plan e)
 
 -- networks with the same bound gates that get the same choice get the same bytes
 same-bytes : (M N : Network) → boundBytes M ≡ boundBytes N → (o o′ : Outcome) → SameChoice o o′ → boundIn M o ≡ boundIn N o′
-same-bytes M N e (plan s) (plan t) c = e
-same-bytes M N e (plan s) (shutIn m k) c = absurd (omega (arith, c .same-number))
-same-bytes M N e (plan s) (lone i m k) c = absurd (omega (arith, c .same-number))
-same-bytes M N e (plan s) (refused d) c = absurd (positive d (c .same-number))
-same-bytes M N e (shutIn m k) (plan t) c = absurd (omega (arith, c .same-number))
-same-bytes M N e (lone i m k) (plan t) c = absurd (omega (arith, c .same-number))
-same-bytes M N e (refused d) (plan t) c = absurd (positive d (sym (c .same-number)))
-same-bytes M N e (shutIn m k) (shutIn m′ k′) c = refl
-same-bytes M N e (shutIn m k) (lone i′ m′ k′) c = refl
-same-bytes M N e (shutIn m k) (refused d) c = refl
-same-bytes M N e (lone i m k) (shutIn m′ k′) c = refl
-same-bytes M N e (lone i m k) (lone i′ m′ k′) c = refl
-same-bytes M N e (lone i m k) (refused d) c = refl
-same-bytes M N e (refused d) (shutIn m′ k′) c = refl
-same-bytes M N e (refused d) (lone i′ m′ k′) c = refl
-same-bytes M N e (refused d) (refused d′) c = refl
+same-bytes M N e o o′ c = by-number M o ∙ rw (c .same-number, e) (sym (by-number N o′))
 
 -- what holds of the contracted network
 pub smaller : (N M : Network) → Accepted N → M ≡ contracted N → Smaller N M
