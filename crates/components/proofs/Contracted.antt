@@ -28,7 +28,7 @@ use Rattle.network.specs.Orientations.{arc, arcsUnder, Walk, stay, step, unorie
 use Rattle.network.specs.Plans.{stronglyConnectedUnder, isPlan, passable, firstPlan, nextPlan}
 use Rattle.network.specs.Bridges.{noReach, reachAt}
 use Rattle.network.specs.Choices.{plans, boundByte, boundBytes}
-use Rattle.network.proofs.Walks.{walk-trans, walk-within}
+use Rattle.network.proofs.Walks.{walk-trans, walk-within, walk-alike}
 use Rattle.network.proofs.Ways.{shut-out}
 use Rattle.network.proofs.Cuts.{strong-walks, walks-strong}
 use Rattle.network.proofs.Networks.{endsBelow, fault-none, accepted, wet-make, wet-by, basin-in, basin-wet, basin-below, arcs-in-basins}
@@ -337,12 +337,8 @@ module _ (M : Network) (settled : Settled M) where
       let same = settled .loops (k .number) (k .below) (k .two-way) in
       ⊎-elim (λ e. sym (e .0) ∙ same ∙ e .1) (λ e. sym (e .0) ∙ sym same ∙ e .1) (k .ends)
 
-  walk-loop : {u v : ℕ} → Walk (twoWayArcs (M .reaches)) u v → u ≡ v
-  walk-loop stay = refl
-  walk-loop (step {u = c} {v = d} m p) = arc-loop c d m ∙ walk-loop p
-
   alone : (u v : ℕ) → connected M u v ≡ true → u ≡ v
-  alone u v e = walk-loop (connected-walk M u v e)
+  alone u v e = walk-alike (λ w. w) arc-loop (connected-walk M u v e)
 
   -- so each has its own number, and every reach stays as it is
   represents : (v : ℕ) → v < M .basins → representative M v ≡ v

@@ -10,7 +10,7 @@ use mathlib.Core.List.{List}
 use lib.ListN.{length, getD, set, length-set}
 use lib.Seq.{getD-set-same, getD-set-other}
 use Rattle.lists.proofs.Bools.{decide, clash}
-use Rattle.network.specs.Networks.{Network}
+use Rattle.network.specs.Networks.{Network, maxBasins}
 use Rattle.network.specs.Bridges.{noReach, reachAt}
 use Rattle.network.specs.Tables.{stateOf, stateNumber}
 use Rattle.tables.specs.Rows.{netOf}
@@ -39,11 +39,11 @@ pub record KeptFilling (n : ℕ) (ks xs ys notes₀ ks₀ xs₀ ys₀ notes ks�
 pub record Places (xs ys labels notes ks₂ xs₂ ys₂ : List ℕ) (k i : ℕ) : Type 0 where
   pub a-here : i < length xs
   pub b-here : i < length ys
-  pub a-small : getD xs i 0 < 256
-  pub b-small : getD ys i 0 < 256
+  pub a-small : getD xs i 0 < maxBasins
+  pub b-small : getD ys i 0 < maxBasins
   pub a-labelled : getD xs i 0 < length labels
   pub b-labelled : getD ys i 0 < length labels
-  pub c-small : getD labels (getD xs i 0) 0 < 256
+  pub c-small : getD labels (getD xs i 0) 0 < maxBasins
   pub c-noted : getD labels (getD xs i 0) 0 < length notes
   pub few : k ≤ i
   pub kind-room : k < length ks₂

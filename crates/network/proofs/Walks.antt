@@ -1,7 +1,7 @@
 -- Walks, and the test `reached` that decides them.
 -- Assumes nothing.
 use Prim.Native.Nat.{ℕ}
-use mathlib.Core.Path.{_≡_, refl, subst}
+use mathlib.Core.Path.{_≡_, refl, subst, _∙_}
 use mathlib.Core.Bool.{Bool, true}
 use mathlib.Core.Logic.{⊎-elim}
 use mathlib.Core.List.{List, [], _∷_, List·Memᴰ, List·Memᴰ·head, List·Memᴰ·tail, List·Memᴰ·not-nil, List·Memᴰ·cases-cons}
@@ -34,6 +34,11 @@ walk-within h p = walk-along (λ a b m. walk-arc (h (arc a b) m)) p
 pub walk-inside : {A : List Arc} {u v : ℕ} (S : ℕ → Bool) → ((a b : ℕ) → List·Memᴰ (arc a b) A → S a ≡ true → S b ≡ true) → Walk A u v → S u ≡ true → S v ≡ true
 walk-inside S f stay h = h
 walk-inside S f (step {u = a} {v = b} m p) h = walk-inside S f p (f a b m h)
+
+-- what is alike at both ends of each arc is alike at both ends of a walk
+pub walk-alike : {A : List Arc} {X : Type 0} (f : ℕ → X) → ((c d : ℕ) → List·Memᴰ (arc c d) A → f c ≡ f d) → {u v : ℕ} → Walk A u v → f u ≡ f v
+walk-alike f h stay = refl
+walk-alike f h (step {u = c} {v = d} m p) = h c d m ∙ walk-alike f h p
 
 pub arc-from : {a b c d : ℕ} → arc a b ≡ arc c d → a ≡ c
 arc-from e = cc

@@ -33,18 +33,23 @@ module _ (g : Reach → ℕ) (t : List Reach) (row₀ row : List ℕ) where
   pub row-all : (i : ℕ) → RowFilled g t row₀ row i → i ≡ length t → row ≡ map g t ++ drop (length t) row₀
   row-all i f e = f .is ∙ rw (zero-add, e, take-all (length t) (map g t) (omega (arith, length-map t g)))
 
--- Rows that a table was written into hold it in their first entries.
+-- Rows with a table's numbers in front hold it in their first entries, whatever stands after them.
+module _ (t : List Reach) (m : ℕ) (counted : length t ≡ m) where
+  module _ (g : Reach → ℕ) (rest : List ℕ) {row : List ℕ} (e : row ≡ map g t ++ rest) where
+    pub front-long : m ≤ length row
+    front-long = omega (arith, ap length e, length-append (map g t) rest, length-map t g, counted)
+
+    front-is : take m row ≡ map g t
+    front-is = ap (take m) e ∙ take-at (map g t) rest m (length-map t g ∙ counted)
+
+  pub front-table : (rest-k rest-a rest-b : List ℕ) {kinds a b : List ℕ} → kinds ≡ map (λ r. stateNumber (r .state)) t ++ rest-k → a ≡ map (λ r. r .a) t ++ rest-a → b ≡ map (λ r. r .b) t ++ rest-b
+      → tableOf (take m kinds) (take m a) (take m b) ≡ t
+  front-table rest-k rest-a rest-b e f g = rw (front-is (λ r. stateNumber (r .state)) rest-k e, front-is (λ r. r .a) rest-a f, front-is (λ r. r .b) rest-b g) (table-of-rows t)
+
+-- So do the rows that a table was written into.
 module _ (t : List Reach) {kinds a b kinds′ a′ b′ : List ℕ} (rows : RowsFilled t kinds a b kinds′ a′ b′) (m : ℕ) (counted : length t ≡ m) where
-  module _ (g : Reach → ℕ) (row row′ : List ℕ) (e : row′ ≡ map g t ++ drop (length t) row) where
-    row-long : m ≤ length row′
-    row-long = omega (arith, ap length e, length-append (map g t) (drop (length t) row), length-map t g, counted)
-
-    row-front : take m row′ ≡ map g t
-    row-front = ap (take m) e ∙ take-at (map g t) (drop (length t) row) m (length-map t g ∙ counted)
-
   pub filled-long : (m ≤ length kinds′) × (m ≤ length a′) × (m ≤ length b′)
-  filled-long = (row-long _ kinds kinds′ (rows .kind-row), row-long _ a a′ (rows .a-row), row-long _ b b′ (rows .b-row))
+  filled-long = (front-long t m counted _ _ (rows .kind-row), front-long t m counted _ _ (rows .a-row), front-long t m counted _ _ (rows .b-row))
 
   pub filled-table : tableOf (take m kinds′) (take m a′) (take m b′) ≡ t
-  filled-table =
-      rw (row-front (λ r. stateNumber (r .state)) kinds kinds′ (rows .kind-row), row-front (λ r. r .a) a a′ (rows .a-row), row-front (λ r. r .b) b b′ (rows .b-row)) (table-of-rows t)
+  filled-table = front-table t m counted _ _ _ (rows .kind-row) (rows .a-row) (rows .b-row)

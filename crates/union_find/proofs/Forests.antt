@@ -14,9 +14,9 @@ use Rattle.lists.specs.Lists.{range, keep}
 use Rattle.network.specs.declared.Reach.{Reach}
 use Rattle.network.specs.Networks.{Network, net}
 use Rattle.network.specs.Tables.{stateOf, tableOf}
-use Rattle.network.specs.Orientations.{Arc, arc, passing, Walk, stay, step, reached}
+use Rattle.network.specs.Orientations.{Arc, arc, passing, Walk, reached}
 use Rattle.network.specs.Bridges.{noReach}
-use Rattle.network.proofs.Walks.{walk-arc, walk-within, arc-from, arc-to}
+use Rattle.network.proofs.Walks.{walk-arc, walk-within, arc-from, arc-to, walk-alike}
 use Rattle.network.proofs.Networks.{passing-ends}
 use Rattle.tables.specs.Rows.{netOf}
 use Rattle.tables.proofs.Laws.{reachOf, table-at, row-length}
@@ -62,9 +62,8 @@ module _ {n : ℕ} (p₀ : List ℕ) (long : n ≤ length p₀) where
 
 -- ---- no reach
 
-walk-nowhere : {u v : ℕ} → Walk [] u v → v ≡ u
-walk-nowhere stay = refl
-walk-nowhere (step m p) = absurd (List·Memᴰ·not-nil m)
+walk-nowhere : {u v : ℕ} → Walk [] u v → u ≡ v
+walk-nowhere p = walk-alike (λ v. v) (λ c d m. absurd (List·Memᴰ·not-nil m)) p
 
 forest-separate : (n : ℕ) {p : List ℕ} → Separate n p → Forest (net n []) p
 forest-separate n {p} s =
@@ -88,11 +87,6 @@ module _ (n : ℕ) (t : List Reach) (r : Reach) where
       same = sym (two-way-append t (r ∷ []) ∙ rw e (append-nil (twoWayArcs t)))
 
 -- ---- a reach that joins its ends
-
--- what is alike at both ends of each arc is alike at both ends of a walk
-walk-alike : {A : List Arc} (f : ℕ → ℕ) → ((c d : ℕ) → List·Memᴰ (arc c d) A → f c ≡ f d) → {u v : ℕ} → Walk A u v → f u ≡ f v
-walk-alike f h stay = refl
-walk-alike f h (step {u = c} {v = d} m p) = h c d m ∙ walk-alike f h p
 
 module _ (n : ℕ) (t : List Reach) (r : Reach) (joins : isTwoWay (r .state) ≡ true) (a-in : r .a < n) (b-in : r .b < n) where
   -- the network without the reach, and with it
