@@ -1,0 +1,4 @@
+-- The laws of the order of two plan sheets and of the place where they part; the cases computed.
+pub mod Prefixes
+pub mod Orders
+pub mod Cases
