@@ -64,7 +64,7 @@ read-records gs s e h =
 pub plan-long : (N : Network) (s : List ℕ) → isPlan N s ≡ true → length s ≡ gateCount N
 plan-long N s p = setting-length N s (plan-setting N s p)
 
-plan-bits : (N : Network) (s : List ℕ) → isPlan N s ≡ true → every (λ x. leb x 1) s ≡ true
+pub plan-bits : (N : Network) (s : List ℕ) → isPlan N s ≡ true → every (λ x. leb x 1) s ≡ true
 unfolding isSetting
 plan-bits N s p = and-elim-right (eqb (length s) (gateCount N)) _ (plan-setting N s p)
 

@@ -2,4 +2,5 @@
 pub mod Orders
 pub mod Parts
 pub mod Calls
+pub mod Laws
 pub mod Cases
