@@ -2,4 +2,5 @@
 pub mod Prefixes
 pub mod Sheets
 pub mod Orders
+pub mod Laws
 pub mod Cases

@@ -1,6 +1,7 @@
 -- What two sheets are read as, and so their order: a refusal, or the order of two settings of one network; and where the part begins.
 -- Assumes nothing.
 use Prim.Native.Nat.{ℕ}
+use native.Mathlib.Omega.{arith}
 use mathlib.Core.Path.{_≡_, refl, sym, ap, subst, _∙_}
 use mathlib.Core.Bool.{Bool, true, false, cond, true≢false}
 use mathlib.Core.List.{List}
@@ -12,10 +13,9 @@ use Rattle.network.specs.declared.Refusal.the-variants.{BasinCount, TooManyReac
 use Rattle.network.specs.Replies.{refusalNumber}
 use Rattle.network.specs.Networks.{Network}
 use Rattle.network.specs.Settings.{before, gates}
-use Rattle.network.specs.Plans.{isPlan}
 use Rattle.sheet_format.specs.Sheets.{sheetOf}
 use Rattle.sheet_format.specs.Readings.{SheetReading, sheetRefused, sheetSays, readSheet}
-use Rattle.sheet_format.specs.Answers.{settingRead, sheetReadingNumber}
+use Rattle.sheet_format.specs.Answers.{sheetReadingNumber}
 use Rattle.sheet_format.proofs.Sheets.{plan-long, plan-bits, read-is-plan, write-read}
 use Rattle.sheet_order.specs.declared.Order.{Order}
 use Rattle.sheet_order.specs.declared.Order.the-variants.{Refused, Equal, First, Second}
@@ -23,7 +23,7 @@ use Rattle.sheet_order.specs.Orders.{settingOrder, readingOrder, sheetOr
 use Rattle.sheet_order.specs.Parts.{commonPrefix, recordPlace, differingGate, differingRecord, Part, PartFrom}
 use Rattle.sheet_order.specs.Calls.{Ordered, OrderedAt, Compared}
 use Rattle.sheet_order.proofs.Prefixes.{prefix-sym}
-use Rattle.sheet_order.proofs.Sheets.{order-exchanged, Laid, laid, order-sheets, SheetsApart, sheets-apart}
+use Rattle.sheet_order.proofs.Sheets.{order-exchanged, Laid, laid, order-sheets, sheets-apart}
 
 settings-number : (s t : List ℕ) → orderNumber (settingOrder s t) ≡ 0
 settings-number s t = go (before s t) (before t s)
@@ -44,6 +44,9 @@ refused-number TrailingBytes n = refl
 refused-number ShortBuffer n = refl
 refused-number BadSetting n = refl
 refused-number LastPlan n = refl
+
+pub no-number {ℓ} : {A : Type ℓ} (r : Refusal) → refusalNumber r ≡ 0 → A
+no-number r z = absurd (omega (arith, ap (λ m. firstNumber m 1) (sym z) ∙ refused-number r 1, z))
 
 -- both sheets are read
 pub record BothRead (N : Network) (f g s t : List ℕ) : Type 0 where

@@ -11,7 +11,6 @@ use lib.Dec.{eqb, ltb}
 use lib.ListN.{length, getD, take, drop, drop-of-length-le}
 use lib.Seq.{drop-cons}
 use borrow.Author.Tests.{eqb-true, eq-eqb, ne-eqb, lt-ltb, le-ltb, ltb-true, ltb-false}
-use Rattle.network.specs.Settings.{before}
 use Rattle.sheet_order.specs.declared.Order.{Order}
 use Rattle.sheet_order.specs.declared.Order.the-variants.{Equal, First, Second}
 use Rattle.sheet_order.specs.Orders.{settingOrder}

@@ -15,14 +15,14 @@ use Rattle.network.specs.Settings.{before}
 use Rattle.network.proofs.Order.{before-irrefl, before-asym}
 use Rattle.file_records.specs.Records.{twoBytes, endKind}
 use Rattle.sheet_format.specs.Sheets.{planKind, gateRecord, gateRecords, sheetRecords, planSheet}
-use Rattle.sheet_order.specs.declared.Order.the-variants.{Equal, First, Second}
+use Rattle.sheet_order.specs.declared.Order.the-variants.{Equal, First}
 use Rattle.sheet_order.specs.Orders.{settingOrder, exchanged}
 use Rattle.sheet_order.specs.Parts.{commonPrefix, recordPlace}
 use Rattle.sheet_order.proofs.Prefixes.{prefix-same, order-same, prefix-both, order-both}
 
 -- ---- the order of two settings
 
-order-refl : (s : List ℕ) → settingOrder s s ≡ Equal
+pub order-refl : (s : List ℕ) → settingOrder s s ≡ Equal
 order-refl s = rw (before-irrefl s)
 
 -- Exchanging two settings exchanges their order.

@@ -22,7 +22,6 @@ in-both c =
       in-second = omega (arith, c .common-prefix .ensures, prefix-right (s .first .now) (s .second .now));
     }
 
-
 common-prefix-requires : tie.Need-common-prefix-requires
 common-prefix-requires c κs = search needs
 

@@ -1,0 +1,138 @@
+-- The laws of the order of two plan sheets and of the part, from what is told of them: so they hold of the calls on rows and on records alike.
+-- Assumes nothing.
+use Prim.Native.Nat.{ℕ, _+_, _-_}
+use native.Mathlib.Omega.{arith}
+use mathlib.Core.Path.{_≡_, refl, sym, ap, subst, _∙_}
+use mathlib.Core.Bool.{true, true≢false}
+use mathlib.Core.List.{List}
+use lib.ListN.{length, take, drop, take-append-drop, drop-of-length-le}
+use lib.Pow.{areBytes}
+use denote.Ref.{RefT, now}
+use borrow.Rule.Slice.PartAt.{part-to-end}
+use Rattle.network.specs.Networks.{Network}
+use Rattle.sheet_format.specs.Sheets.{sheetOf}
+use Rattle.sheet_format.specs.Readings.{sheetSays, readSheet}
+use Rattle.sheet_format.specs.Answers.{settingRead}
+use Rattle.sheet_order.specs.declared.Order.{Order}
+use Rattle.sheet_order.specs.declared.Order.the-variants.{Refused, Equal, First, Second}
+use Rattle.sheet_order.specs.declared.Parting.{Parting}
+use Rattle.sheet_order.specs.Orders.{settingOrder, sheetOrder, orderNumber, differ, exchanged}
+use Rattle.sheet_order.specs.Parts.{commonPrefix, recordPlace, differingRecord, Part, PartFrom}
+use Rattle.sheet_order.specs.Calls.{Ordered, Compared}
+use Rattle.sheet_order.specs.Laws.{Exchanged, EqualExactly, SamePart, Shown, PartShown}
+use Rattle.sheet_order.proofs.Prefixes.{prefix-sym, prefix-shared}
+use Rattle.sheet_order.proofs.Sheets.{order-refl, order-exchanged, laid-equal, sheets-apart}
+use Rattle.sheet_order.proofs.Orders.{no-number, BothRead, read-order, both-laid, first-sheet, second-sheet, Told, told-refused, told-read, told, swapped, exchanged-first, gate-said, record-place}
+
+-- ---- exchanged
+
+exchange-forth : (N : Network) (f g : List ℕ) {o : Order} → Told N f g o → orderNumber o ≡ 0 → sheetOrder N g f ≡ exchanged o
+exchange-forth N f g (told-refused r) z = no-number r z
+exchange-forth N f g (told-read s t b) z = read-order N g f (swapped b) ∙ order-exchanged s t
+
+-- Exchanging two sheets exchanges their order, but for refusals.
+pub exchange : (N : Network) (f g : List ℕ) {o o′ : Order} → Ordered N f g o → Ordered N g f o′ → Exchanged o o′
+exchange N f g p q =
+    record {
+      forth = λ z. q .order ∙ exchange-forth N f g (subst (Told N f g) (sym (p .order)) (told N f g)) z;
+      back = λ z. p .order ∙ exchange-forth N g f (subst (Told N g f) (sym (q .order)) (told N g f)) z;
+    }
+
+-- ---- equal
+
+equal-same : (N : Network) (f g : List ℕ) → areBytes f ≡ true → areBytes g ≡ true → {o : Order} → Told N f g o → o ≡ Equal → f ≡ g
+equal-same N f g bf bg (told-refused r) e = absurd (true≢false (cc))
+equal-same N f g bf bg (told-read s t b) e =
+    first-sheet N f g b bf bg ∙ ap (sheetOf N) (laid-equal (both-laid N f g b) e) ∙ sym (second-sheet N f g b bf bg)
+
+says-once : {s t : List ℕ} → sheetSays s ≡ sheetSays t → s ≡ t
+says-once e = cc
+
+same-equal : (N : Network) (f : List ℕ) {o : Order} → Told N f f o → orderNumber o ≡ 0 → o ≡ Equal
+same-equal N f (told-refused r) z = no-number r z
+same-equal N f (told-read s t b) z = ap (settingOrder s) (says-once (sym (b .second-says) ∙ b .first-says)) ∙ order-refl s
+
+-- Two sheets that are read are equal exactly if they are the same bytes.
+pub equal-exactly : (N : Network) (f g : List ℕ) → areBytes f ≡ true → areBytes g ≡ true → {o : Order} → Ordered N f g o → EqualExactly f g o
+equal-exactly N f g bf bg {o} p =
+    let w : Told N f g o = subst (Told N f g) (sym (p .order)) (told N f g) in
+    record {
+      same = equal-same N f g bf bg w;
+      equal = λ z e. same-equal N f (subst (λ x. Told N f x o) (sym e) w) z;
+    }
+
+-- ---- the part
+
+-- the earlier sheet first, and the bytes from record k to its end
+shown :
+    (N : Network) (f g : List ℕ) → areBytes f ≡ true → areBytes g ≡ true → {s t : List ℕ} → BothRead N f g s t → settingOrder s t ≡ First
+    → {k : ℕ} → k ≡ commonPrefix s t → {part : List ℕ} → part ≡ drop (recordPlace k) f → Shown N f g part k
+shown N f g bf bg {s} {t} b e {k} q {part} h =
+    let a = sheets-apart (both-laid N f g b) e in
+    rw (h, q) (record {
+      shared = subst (λ n. take n f ≡ take n g) (record-place N f g bf bg b e) (prefix-shared f g);
+      whole = take-append-drop (recordPlace (commonPrefix s t)) f;
+      drawn = ap (λ x. take 3 (drop (recordPlace (commonPrefix s t)) x)) (first-sheet N f g b bf bg) ∙ a .early;
+      turned = ap (λ x. take 3 (drop (recordPlace (commonPrefix s t)) x)) (second-sheet N f g b bf bg) ∙ a .late;
+      gate = a .gate;
+    })
+
+-- what a part to the end of a sheet holds
+to-end : {s r : RefT (List ℕ)} {k : ℕ} → Part s k (length (now s)) r → now r ≡ drop k (now s)
+to-end {s} {r} {k} p = p .bytes ∙ part-to-end (now s) k
+
+module _ (N : Network) (first second r : RefT (List ℕ)) (bf : areBytes (now first) ≡ true) (bg : areBytes (now second) ≡ true) where
+  abbrev Stands : Order → Type 0
+  Stands o = PartFrom (differingRecord N (now first) (now second)) o first second r → PartShown N (now first) (now second) o (now r)
+
+  part-read : {s t : List ℕ} → BothRead N (now first) (now second) s t → (o : Order) → settingOrder s t ≡ o → Stands o
+  part-read b (Refused x) e p = p .bytes
+  part-read b Equal e p = to-end p ∙ drop-of-length-le (now first) {i = length (now first)} (omega arith)
+  part-read b First e p = shown N (now first) (now second) bf bg b e (gate-said b) (to-end p)
+  part-read {s} {t} b Second e p = shown N (now second) (now first) bg bf (swapped b) (exchanged-first s t e) (gate-said b ∙ prefix-sym s t) (to-end p)
+
+  part-told : {o : Order} → Told N (now first) (now second) o → Stands o
+  part-told (told-refused x) p = p .bytes
+  part-told (told-read s t b) p = part-read b (settingOrder s t) refl p
+
+-- What is handed back: behind the bytes that both sheets share the earlier sheet, as drawn where the later one is turned.
+pub part-shown :
+    (N : Network) (first second : RefT (List ℕ)) → areBytes (now first) ≡ true → areBytes (now second) ≡ true → {x : Parting} → Compared N first second x
+    → PartShown N (now first) (now second) (x .order) (now (x .part))
+part-shown N first second bf bg {x} c =
+    part-told N first second (x .part) bf bg (subst (Told N (now first) (now second)) (sym (c .ordered .order)) (told N (now first) (now second))) (c .part)
+
+-- ---- the part of both, exchanged
+
+part-once : {s r r′ : RefT (List ℕ)} {k k′ to : ℕ} → k ≡ k′ → Part s k to r → Part s k′ to r′ → SamePart r r′
+part-once {s} {to = to} e p q =
+    record {
+      block = p .block ∙ sym (q .block);
+      place = p .place ∙ ap (λ k. s .ptr .1 + k) e ∙ sym (q .place);
+      bytes = p .bytes ∙ ap (λ k. take (to - k) (drop k (now s))) e ∙ sym (q .bytes);
+    }
+
+differ-number : (o : Order) → differ o ≡ true → orderNumber o ≡ 0
+differ-number (Refused x) d = absurd (true≢false (sym d))
+differ-number Equal d = refl
+differ-number First d = refl
+differ-number Second d = refl
+
+module _ (N : Network) (first second r r′ : RefT (List ℕ)) where
+  same-place : differingRecord N (now first) (now second) ≡ differingRecord N (now second) (now first)
+  same-place = ap recordPlace (prefix-sym (settingRead (readSheet N (now first))) (settingRead (readSheet N (now second))))
+
+  part-exchanged :
+      (o : Order) → differ o ≡ true → PartFrom (differingRecord N (now first) (now second)) o first second r
+      → PartFrom (differingRecord N (now second) (now first)) (exchanged o) second first r′ → SamePart r r′
+  part-exchanged (Refused x) d p q = absurd (true≢false (sym d))
+  part-exchanged Equal d p q = absurd (true≢false (sym d))
+  part-exchanged First d p q = part-once same-place p q
+  part-exchanged Second d p q = part-once same-place p q
+
+-- Where two sheets differ, exchanging them gives the same part.
+pub same-part :
+    (N : Network) (first second : RefT (List ℕ)) {x y : Parting} → Compared N first second x → Compared N second first y → differ (x .order) ≡ true → SamePart (x .part) (y .part)
+same-part N first second {x} {y} c c′ d =
+    part-exchanged N first second (x .part) (y .part) (x .order) d (c .part)
+    (subst (λ o. PartFrom (differingRecord N (now second) (now first)) o second first (y .part)) (exchange N (now first) (now second) (c .ordered) (c′ .ordered) .forth (differ-number (x .order) d)) (c′ .part))
