@@ -78,8 +78,8 @@ shown N f g bf bg {s} {t} b e {k} q {part} h =
     })
 
 -- what a part to the end of a sheet holds
-to-end : {s r : RefT (List ℕ)} {k : ℕ} → Part s k (length (now s)) r → now r ≡ drop k (now s)
-to-end {s} {r} {k} p = p .bytes ∙ part-to-end (now s) k
+to-end : {s r : RefT (List ℕ)} {k to : ℕ} → Part s k to r → to ≡ length (now s) → now r ≡ drop k (now s)
+to-end {s} {r} {k} p e = p .bytes ∙ ap (λ n. take (n - k) (drop k (now s))) e ∙ part-to-end (now s) k
 
 module _ (N : Network) (first second r : RefT (List ℕ)) (bf : areBytes (now first) ≡ true) (bg : areBytes (now second) ≡ true) where
   abbrev Stands : Order → Type 0
@@ -87,9 +87,9 @@ module _ (N : Network) (first second r : RefT (List ℕ)) (bf : areBytes (now fi
 
   part-read : {s t : List ℕ} → BothRead N (now first) (now second) s t → (o : Order) → settingOrder s t ≡ o → Stands o
   part-read b (Refused x) e p = p .bytes
-  part-read b Equal e p = to-end p ∙ drop-of-length-le (now first) {i = length (now first)} (omega arith)
-  part-read b First e p = shown N (now first) (now second) bf bg b e (gate-said b) (to-end p)
-  part-read {s} {t} b Second e p = shown N (now second) (now first) bg bf (swapped b) (exchanged-first s t e) (gate-said b ∙ prefix-sym s t) (to-end p)
+  part-read b Equal e p = to-end p (omega arith) ∙ drop-of-length-le (now first) {i = length (now first)} (omega arith)
+  part-read b First e p = shown N (now first) (now second) bf bg b e (gate-said b) (to-end p (omega arith))
+  part-read {s} {t} b Second e p = shown N (now second) (now first) bg bf (swapped b) (exchanged-first s t e) (gate-said b ∙ prefix-sym s t) (to-end p (omega arith))
 
   part-told : {o : Order} → Told N (now first) (now second) o → Stands o
   part-told (told-refused x) p = p .bytes

@@ -148,8 +148,8 @@ part-moved :
     {k k′ : ℕ} (first second r : RefT (List ℕ)) (o : Order) → (differ o ≡ true → k ≡ k′) → PartFrom k o first second r → PartFrom k′ o first second r
 part-moved first second r (Refused x) e p = p
 part-moved first second r Equal e p = p
-part-moved first second r First e p = subst (λ k. Part first k (length (now first)) r) (e refl) p
-part-moved first second r Second e p = subst (λ k. Part second k (length (now second)) r) (e refl) p
+part-moved first second r First e p = subst (λ k. PartFrom k First first second r) (e refl) p
+part-moved first second r Second e p = subst (λ k. PartFrom k Second first second r) (e refl) p
 
 pub compared :
     (N : Network) (first second : RefT (List ℕ)) {o : Order} {r : RefT (List ℕ)} → OrderedAt N (now first) (now second) o
