@@ -43,15 +43,15 @@ pub record Got (x : SheetReading) (setting : List ℕ) (r : SheetAnswer) (settin
   pub number : sheetNumber r ≡ sheetReadingNumber x
   pub bytes : setting′ ≡ settingRead x ++ drop (length (settingRead x)) setting
 
--- The same where the bytes s that a sheet says are to be judged and kept: 1, 2 and 3 of the table, 8 where they are no plan, 7.
-abbrev pub PlanKept : Network → List ℕ → List ℕ → SheetAnswer → List ℕ → Type 0
-PlanKept N s setting r setting′ = Got (sheetWithRoom (length setting) (unlessFault (tableFault N) (ifPlan N (sheetSays s)))) setting r setting′
-
--- The same of the working memory that a sheet is read into before its setting is judged: the setting that was read stands first. What stands behind
--- it is free, and all of it where the sheet is refused.
+-- The same of the working memory that a sheet is read into: the setting that was read stands first. What stands behind it is free, and all of it where the
+-- sheet is refused.
 pub record Held (x : SheetReading) (r : SheetAnswer) (held′ : List ℕ) : Type 0 where
   pub answer : r ≡ sheetAnswer x
   pub bytes : take (length (settingRead x)) held′ ≡ settingRead x
+
+-- What is answered where the bytes s that a sheet says are judged: 1, 2 and 3 of the table, 8 where they are no plan.
+abbrev pub PlanJudged : Network → List ℕ → SheetAnswer → Type 0
+PlanJudged N s r = r ≡ sheetAnswer (unlessFault (tableFault N) (ifPlan N (sheetSays s)))
 
 -- "The setting (8 also if it isn't a plan)": a plan has the right length and no byte over 1.
 abbrev pub planFault : Network → List ℕ → Option Refusal

@@ -1,4 +1,4 @@
--- What the reader comes to, case by case: the head, the working memory, the planner's check, the room.
+-- What the reader comes to, case by case: the planner's check, the working memory, the setting's buffer.
 -- Assumes nothing.
 use Prim.Native.Nat.{ℕ, _≤_, _<_}
 use native.Mathlib.Nat.{zero-add}
@@ -8,7 +8,7 @@ use mathlib.Core.Bool.{Bool, true, false, cond, true≢false}
 use mathlib.Core.List.{List, _++_}
 use mathlib.Core.Option.{Option, none, some}
 use lib.ListN.{length, take, drop, length-take}
-use lib.Seq.{sets, sets-eq}
+use lib.Seq.{sets, sets-eq, length-take-le}
 use borrow.Author.Tests.{le-leb, lt-leb}
 use Rattle.network.specs.declared.Refusal.{Refusal}
 use Rattle.network.specs.declared.Refusal.the-variants.{ShortBuffer, BadSetting}
@@ -21,16 +21,9 @@ use Rattle.replies.specs.Answers.{checkOf}
 use Rattle.sheet_format.specs.declared.SheetAnswer.{SheetAnswer}
 use Rattle.sheet_format.specs.declared.SheetAnswer.the-variants.{Refused, Read}
 use Rattle.sheet_format.specs.Readings.{SheetReading, sheetRefused, sheetSays, readRecords, ifPlan, unlessFault, readSheet, sheetWithRoom}
-use Rattle.sheet_format.specs.Answers.{sheetAnswer, settingRead, Got, Held}
+use Rattle.sheet_format.specs.Answers.{sheetAnswer, settingRead, Got, Held, PlanJudged}
+use Rattle.sheet_format.proofs.Scan.{held-refused}
 use Rattle.sheet_plans.proofs.Calls.{faultSaid, judged}
-
--- ---- what is left in the buffer
-
-pub got-refused : {x : SheetReading} (setting : List ℕ) (r : Refusal) → x ≡ sheetRefused r → Got x setting (Refused r) setting
-got-refused setting r e = rw e (record { answer = refl; number = refl; bytes = refl })
-
-got-read : {x : SheetReading} (s setting setting′ : List ℕ) → x ≡ sheetSays s → setting′ ≡ s ++ drop (length s) setting → Got x setting (Read (length s)) setting′
-got-read s setting setting′ e q = rw e (record { answer = refl; number = refl; bytes = q })
 
 -- ---- the planner's check of what was read
 
@@ -41,31 +34,11 @@ plan-cases none true s = refl
 plan-cases none false s = refl
 plan-cases (some r) b s = refl
 
-module _ (N : Network) (s setting : List ℕ) (v : CheckAnswer) (e : checkOf N s ≡ v) where
-  abbrev kept : SheetReading
-  kept = sheetWithRoom (length setting) (unlessFault (tableFault N) (ifPlan N (sheetSays s)))
+pub plan-judged : (N : Network) (s : List ℕ) {v : CheckAnswer} → checkOf N s ≡ v → PlanJudged N s (sheetAnswer (unlessFault (faultSaid v) (sheetSays s)))
+plan-judged N s {v} e =
+    sym (ap sheetAnswer (plan-cases (tableFault N) (isPlan N s) s ∙ ap (λ o. unlessFault o (sheetSays s)) (judged N s v e)))
 
-  kept-is : kept ≡ sheetWithRoom (length setting) (unlessFault (faultSaid v) (sheetSays s))
-  kept-is =
-      ap (sheetWithRoom (length setting))
-      (plan-cases (tableFault N) (isPlan N s) s ∙ ap (λ o. unlessFault o (sheetSays s)) (judged N s v e))
-
-  pub kept-refused : (r : Refusal) → faultSaid v ≡ some r → Got kept setting (Refused r) setting
-  kept-refused r f = got-refused setting r (kept-is ∙ ap (λ o. sheetWithRoom (length setting) (unlessFault o (sheetSays s))) f)
-
-  module _ (f : faultSaid v ≡ none) where
-    sound : kept ≡ sheetWithRoom (length setting) (sheetSays s)
-    sound = kept-is ∙ ap (λ o. sheetWithRoom (length setting) (unlessFault o (sheetSays s))) f
-
-    pub kept-short : length setting < length s → Got kept setting (Refused ShortBuffer) setting
-    kept-short l = got-refused setting ShortBuffer (sound ∙ rw (lt-leb (length s) (length setting) l))
-
-    pub kept-plan : (setting′ : List ℕ) → length s ≤ length setting → setting′ ≡ sets setting 0 s → Got kept setting (Read (length s)) setting′
-    kept-plan setting′ l q =
-        got-read s setting setting′ (sound ∙ rw (le-leb (length s) (length setting) l))
-        (q ∙ sets-eq s setting 0 (omega arith) ∙ ap (λ n. s ++ drop n setting) (zero-add (length s)))
-
--- ---- from the working memory to the buffer
+-- ---- what is read into the working memory
 
 pub refused-is : (x : SheetReading) (r : Refusal) → Refused r ≡ sheetAnswer x → x ≡ sheetRefused r
 refused-is (sheetRefused e) r h = cc
@@ -85,23 +58,55 @@ stored-of (sheetSays s) n held h b =
 pub stored : {x : SheetReading} {n : ℕ} {held : List ℕ} → Held x (Read n) held → Stored x n held
 stored {x} {n} {held} h = stored-of x n held (h .answer) (h .bytes)
 
-module _ (N : Network) (f setting : List ℕ) where
-  pub got-table : (r : Refusal) → tableFault N ≡ some r → Got (sheetWithRoom (length setting) (readSheet N f)) setting (Refused r) setting
+-- it stands there still once it is judged
+still-held :
+    (b : Bool) {n : ℕ} {held : List ℕ} {r : SheetAnswer} → n ≤ length held → r ≡ sheetAnswer (cond b (sheetSays (take n held)) (sheetRefused BadSetting))
+    → Held (cond b (sheetSays (take n held)) (sheetRefused BadSetting)) r held
+still-held true {n} {held} l j = record { answer = j; bytes = ap (λ k. take k held) (length-take-le n held l) }
+still-held false l j = record { answer = j; bytes = refl }
+
+-- the table is refused, the records are, and the bytes that they say are judged
+module _ (N : Network) (f : List ℕ) where
+  pub held-table : {r : Refusal} {held : List ℕ} → tableFault N ≡ some r → Held (readSheet N f) (Refused r) held
   unfolding readSheet
-  got-table r t = got-refused setting r (rw t)
+  held-table {r} {held} t = held-refused r held (rw t)
 
-  module _ (ok : Accepted N) (gs : List ℕ) (e : gs ≡ gates N) where
-    pub got-torn : (r : Refusal) (held : List ℕ) → Held (readRecords gs f) (Refused r) held → Got (sheetWithRoom (length setting) (readSheet N f)) setting (Refused r) setting
+  module _ (ok : Accepted N) {gs : List ℕ} (e : gs ≡ gates N) where
+    sheet-is : readSheet N f ≡ ifPlan N (readRecords gs f)
     unfolding readSheet
-    got-torn r held h =
-        let x : readRecords (gates N) f ≡ sheetRefused r = ap (λ gs. readRecords gs f) (sym e) ∙ refused-is (readRecords gs f) r (h .answer) in
-        got-refused setting r (rw (ok, x))
+    sheet-is = rw (ok, e)
 
-    pub got-kept :
-        (n : ℕ) (held : List ℕ) → Held (readRecords gs f) (Read n) held → (r : SheetAnswer) (setting′ : List ℕ)
-        → Got (sheetWithRoom (length setting) (unlessFault (tableFault N) (ifPlan N (sheetSays (take n held))))) setting r setting′
-        → Got (sheetWithRoom (length setting) (readSheet N f)) setting r setting′
-    unfolding readSheet
-    got-kept n held h r setting′ g =
-        let x : readRecords (gates N) f ≡ sheetSays (take n held) = ap (λ gs. readRecords gs f) (sym e) ∙ stored h .is in
-        subst (λ x. Got (sheetWithRoom (length setting) (unlessFault (tableFault N) (ifPlan N x))) setting r setting′) (sym x) g
+    pub held-torn : {r : Refusal} {held : List ℕ} → Held (readRecords gs f) (Refused r) held → Held (readSheet N f) (Refused r) held
+    held-torn {r} {held} h = held-refused r held (sheet-is ∙ ap (ifPlan N) (refused-is (readRecords gs f) r (h .answer)))
+
+    pub held-judged :
+        {n : ℕ} {held : List ℕ} → Held (readRecords gs f) (Read n) held → {r : SheetAnswer} → PlanJudged N (take n held) r → Held (readSheet N f) r held
+    held-judged {n} {held} h j = rw (sheet-is, stored h .is) (still-held (isPlan N (take n held)) (stored h .fits) (rw ok at j))
+
+-- ---- what is left in the buffer
+
+pub got-refused : {x : SheetReading} (setting : List ℕ) (r : Refusal) → x ≡ sheetRefused r → Got x setting (Refused r) setting
+got-refused setting r e = rw e (record { answer = refl; number = refl; bytes = refl })
+
+-- the bytes that a sheet says, by the room
+module _ (s setting : List ℕ) where
+  pub got-short : length setting < length s → Got (sheetWithRoom (length setting) (sheetSays s)) setting (Refused ShortBuffer) setting
+  got-short l = got-refused setting ShortBuffer (rw (lt-leb (length s) (length setting) l))
+
+  pub got-whole : {setting′ : List ℕ} → length s ≤ length setting → setting′ ≡ sets setting 0 s → Got (sheetWithRoom (length setting) (sheetSays s)) setting (Read (length s)) setting′
+  got-whole l q =
+      rw (le-leb (length s) (length setting) l) (record {
+        answer = refl;
+        number = refl;
+        bytes = q ∙ sets-eq s setting 0 (omega arith) ∙ ap (λ n. s ++ drop n setting) (zero-add (length s));
+      })
+
+-- a sheet, by what the working memory holds
+module _ {x : SheetReading} (setting : List ℕ) where
+  pub got-none : {r : Refusal} {held : List ℕ} → Held x (Refused r) held → Got (sheetWithRoom (length setting) x) setting (Refused r) setting
+  got-none {r} h = got-refused setting r (ap (sheetWithRoom (length setting)) (refused-is x r (h .answer)))
+
+  pub got-held :
+      {n : ℕ} {held : List ℕ} → Held x (Read n) held → {r : SheetAnswer} {setting′ : List ℕ}
+      → Got (sheetWithRoom (length setting) (sheetSays (take n held))) setting r setting′ → Got (sheetWithRoom (length setting) x) setting r setting′
+  got-held h {r} {setting′} = subst (λ y. Got (sheetWithRoom (length setting) y) setting r setting′) (sym (stored h .is))

@@ -1,4 +1,4 @@
-// What of the sheets asks the planner, whose promises alone say what is a plan and what a network gets: the plan that a sheet says is kept, and a
+// What of the sheets asks the planner, whose promises alone say what is a plan and what a network gets: what a sheet says is judged, and a
 // network's reply is put down as a sheet. For the crate `sheet_rows`.
 // The functions with a `requires` are for the crates above, which have checked it.
 use file_records::WriteAnswer;
@@ -12,32 +12,16 @@ ghost use lib.ListN.{length};
 ghost use Rattle.network.specs.Networks.{maxReaches};
 ghost use Rattle.network.specs.Marks.{markBytes};
 ghost use Rattle.tables.specs.Rows.{netOf};
-ghost use Rattle.sheet_format.specs.Answers.{PlanKept, ReplyWritten};
+ghost use Rattle.sheet_format.specs.Answers.{PlanJudged, ReplyWritten};
 
-// The bytes that a sheet says, if they are a plan of the network, go to the first bytes of the setting's buffer. Refuses: 1, 2, 3, 8, 7.
-pub fn keep_plan(
-    basins: u16,
-    kinds: &[u8],
-    a: &[u16],
-    b: &[u16],
-    bytes: &[u8],
-    setting: &mut [u8],
-) -> SheetAnswer
-    ensures { λ r. ⌜
-        PlanKept (netOf basins (now (kinds .entry)) (now (a .entry)) (now (b .entry))) (now (bytes .entry)) (now (setting .entry))
-        r (now (setting .exit))
-        ⌝ }
+// Whether the bytes that a sheet says are a plan of the network. Refuses: 1, 2, 3, 8.
+pub fn judge_plan(basins: u16, kinds: &[u8], a: &[u16], b: &[u16], bytes: &[u8]) -> SheetAnswer
+    ensures { λ r. ⌜ PlanJudged (netOf basins (now (kinds .entry)) (now (a .entry)) (now (b .entry))) (now (bytes .entry)) r ⌝ }
 {
     match planner_rows::check(basins, kinds, a, b, bytes) {
         CheckAnswer::Refused(r) => SheetAnswer::Refused(r),
         CheckAnswer::No => SheetAnswer::Refused(Refusal::BadSetting),
-        CheckAnswer::Yes => {
-            if setting.len() < bytes.len() {
-                return SheetAnswer::Refused(Refusal::ShortBuffer);
-            }
-            file_records::put_bytes(setting, 0, bytes);
-            SheetAnswer::Read(bytes.len())
-        }
+        CheckAnswer::Yes => SheetAnswer::Read(bytes.len()),
     }
 }
 

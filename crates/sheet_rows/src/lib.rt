@@ -1,5 +1,6 @@
 // Plan sheets and finding sheets: their reader, their writer, and the writer of a network's reply. The reach table is lent as three rows of
 // numbers, kinds, ends A and ends B, as the crate `tables` has them. What is a plan, and what a network gets, only the planner's promises say.
+// `read_plan`, which has a `requires`, is for the crates above, which have checked it.
 use file_records::WriteAnswer;
 use marks::MARK_BYTES;
 use network::MAX_REACHES;
@@ -11,7 +12,8 @@ ghost use mathlib.Core.Path.{_≡_};
 ghost use lib.ListN.{length};
 ghost use Rattle.network.specs.Networks.{maxReaches};
 ghost use Rattle.tables.specs.Rows.{netOf};
-ghost use Rattle.sheet_format.specs.Answers.{SheetRead, SheetWritten, ReplyWritten};
+ghost use Rattle.sheet_format.specs.Readings.{sheetSays, readSheet, sheetWithRoom};
+ghost use Rattle.sheet_format.specs.Answers.{Got, Held, SheetRead, SheetWritten, ReplyWritten};
 
 // The sheet of a plan goes to the first bytes of the buffer. Refuses: 1, 2, 3, 8, 7.
 pub fn write_sheet(
@@ -43,6 +45,46 @@ pub fn write_reply(basins: u16, kinds: &[u8], a: &[u16], b: &[u16], out: &mut [u
     sheet_plans::write_reply_in(basins, kinds, a, b, &mut plan, &mut marks, out)
 }
 
+// The plan that a sheet says goes to the first bytes of lent working memory; what stands behind it is free, and all of it on a refusal.
+// Refuses: 1, 2, 3, 5, 4, 8, 6.
+pub fn read_plan(
+    basins: u16,
+    kinds: &[u8],
+    a: &[u16],
+    b: &[u16],
+    sheet: &[u8],
+    held: &mut [u8],
+) -> SheetAnswer
+    requires { ⌜ length (now held) ≡ maxReaches ⌝ }
+    ensures { λ r. ⌜
+        Held (readSheet (netOf basins (now (kinds .entry)) (now (a .entry)) (now (b .entry))) (now (sheet .entry)))
+        r (now (held .exit))
+        ⌝ }
+{
+    if let TableAnswer::Refused(r) = tables::table_check(basins, kinds, a, b) {
+        return SheetAnswer::Refused(r);
+    }
+    let m = tables::row_count(kinds, a, b);
+    match sheet_reading::read_records(&kinds[..m], sheet, held) {
+        SheetAnswer::Refused(r) => SheetAnswer::Refused(r),
+        SheetAnswer::Read(n) => sheet_plans::judge_plan(basins, kinds, a, b, &held[..n]),
+    }
+}
+
+// The bytes go to the first bytes of the setting's buffer. Refuses: 7.
+fn keep(bytes: &[u8], setting: &mut [u8]) -> SheetAnswer
+    ensures { λ r. ⌜
+        Got (sheetWithRoom (length (now (setting .entry))) (sheetSays (now (bytes .entry)))) (now (setting .entry))
+        r (now (setting .exit))
+        ⌝ }
+{
+    if setting.len() < bytes.len() {
+        return SheetAnswer::Refused(Refusal::ShortBuffer);
+    }
+    file_records::put_bytes(setting, 0, bytes);
+    SheetAnswer::Read(bytes.len())
+}
+
 // The reader, with lent working memory. What it leaves there is free.
 fn read_sheet_in(
     basins: u16,
@@ -59,13 +101,9 @@ fn read_sheet_in(
         r (now (setting .exit))
         ⌝ }
 {
-    if let TableAnswer::Refused(r) = tables::table_check(basins, kinds, a, b) {
-        return SheetAnswer::Refused(r);
-    }
-    let m = tables::row_count(kinds, a, b);
-    match sheet_reading::read_records(&kinds[..m], sheet, held) {
+    match read_plan(basins, kinds, a, b, sheet, held) {
         SheetAnswer::Refused(r) => SheetAnswer::Refused(r),
-        SheetAnswer::Read(n) => sheet_plans::keep_plan(basins, kinds, a, b, &held[..n], setting),
+        SheetAnswer::Read(n) => keep(&held[..n], setting),
     }
 }
 

@@ -1,105 +1,51 @@
--- `sheet_rows::read_sheet_in` meets its contract: the table, the whole sheet into the working memory, and then the plan.
+-- `sheet_rows::read_sheet_in` meets its contract: the sheet into the working memory, and from there to the setting's buffer.
 -- Assumes nothing.
-use native.Mathlib.Omega.{arith}
-use mathlib.Core.Path.{sym, subst, _∙_}
-use lib.ListN.{take}
+use mathlib.Core.Path.{sym, subst}
 use lib.Seq.{length-take-le}
 use borrow.Author.Needs.{needs}
-use Rattle.network.specs.Networks.{Network, Accepted, tableFault}
-use Rattle.network.proofs.Networks.{accepted}
 use Rattle.tables.specs.Rows.{netOf}
-use Rattle.tables.proofs.Faults.{answer-refused, answer-accepted}
 use Rattle.sheet_format.specs.declared.SheetAnswer.{SheetAnswer}
 use Rattle.sheet_format.specs.declared.SheetAnswer.the-variants.{Read}
-use Rattle.sheet_format.specs.Readings.{readRecords}
-use Rattle.sheet_format.specs.Rows.{gatesRow}
+use Rattle.sheet_format.specs.Readings.{readSheet}
 use Rattle.sheet_format.specs.Answers.{Held}
-use Rattle.sheet_format.proofs.Gates.{gates-few}
-use Rattle.tables.proofs.Cuts.{cut-kinds}
-use Rattle.sheet_format.proofs.Puts.{cut-gates}
-use Rattle.sheet_plans.proofs.Getting.{stored, got-table, got-torn, got-kept}
+use Rattle.sheet_plans.proofs.Getting.{stored, got-none, got-held}
 use Rattle.sheet_rows.proofs.read_sheet_in.Statement.{statement}
 use Rattle.sheet_rows.proofs.read_sheet_in.Tie as tie
 
--- the network that is lent
-abbrev net : tie.Start → Network
-net c = let s = c .args in netOf (s .basins) (s .kinds .now) (s .a .now) (s .b .now)
-
--- after the check the table is accepted
-sound : (c : tie.After-enum-told) → Accepted (net (c .before .before .before .before .before .before .before .before .before))
-sound c = answer-accepted (tableFault (net (c .before .before .before .before .before .before .before .before .before))) (sym (c .before .before .table-check .ensures .answer) ∙ c .enum-told .given .1)
-
 -- what is held where the answer is r, and where a count was read
-abbrev HeldAs : tie.After-read-records → SheetAnswer → Type 0
+abbrev HeldAs : tie.After-read-plan → SheetAnswer → Type 0
 HeldAs c r =
-    let s = c .before .before .before .before .before .before .before .before .before .before .before .before .before .args in
-    Held (readRecords (gatesRow 0 (take (c .before .before .before .row-count .result) (s .kinds .now))) (s .sheet .now)) r (c .read-records .last .1 .1 .0)
+    let s = c .before .before .before .before .before .before .before .before .args in
+    Held (readSheet (netOf (s .basins) (s .kinds .now) (s .a .now) (s .b .now)) (s .sheet .now)) r (c .read-plan .last .1 .1 .1 .1 .1 .0)
 
 was-read : (c : tie.After-n) → HeldAs (c .before .before .before .before) (Read (c .n .given .0 .0))
-was-read c = subst (HeldAs (c .before .before .before .before)) (c .n .given .1) (c .before .before .before .before .read-records .ensures)
+was-read c = subst (HeldAs (c .before .before .before .before)) (c .n .given .1) (c .before .before .before .before .read-plan .ensures)
 
-table-check-requires : tie.Need-table-check-requires
-table-check-requires c κs = search needs
+read-plan-requires : tie.Need-read-plan-requires
+read-plan-requires c κs = c .before .before .before .before .before .before .before .pre
 
 enum-known-r : tie.Need-enum-known-r
 enum-known-r c = search needs
 
-returns : tie.Need-returns
-returns c =
-    let s = c .before .before .before .before .before .before .before .before .before .before in
-    got-table (net s) (s .args .sheet .now) (s .args .setting .now) _ (answer-refused (tableFault (net s)) _ (sym (c .before .before .before .table-check .ensures .answer) ∙ c .before .r .given .1))
-
-enum-told : tie.Need-enum-told
-enum-told c = search needs
-
-row-count-requires : tie.Need-row-count-requires
-row-count-requires c κs = search needs
-
-slice-aggregate-read-records : tie.Need-slice-aggregate-read-records
-slice-aggregate-read-records c =
-    let s = c .before .before .before .before .before .before .before .before .before .before .before .args in
-    let count = c .before .row-count in
-    sym (length-take-le (count .result) (s .kinds .now) (cut-kinds (s .kinds .now) (s .a .now) (s .b .now) (count .result) (count .ensures)))
-
-read-records-requires : tie.Need-read-records-requires
-read-records-requires c κs =
-    let s = c .before .before .before .before .before .before .before .before .before .before .before .before in
-    let count = c .before .before .row-count in
-    let ks = s .args .kinds .now in
-    omega (
-      arith,
-      s .pre,
-      gates-few 0 (take (count .result) ks),
-      length-take-le (count .result) ks (cut-kinds ks (s .args .a .now) (s .args .b .now) (count .result) (count .ensures)),
-      count .ensures,
-      accepted (net s) (sound (c .before .before .before)) .few-reaches,
-    )
-
-enum-known-r-2 : tie.Need-enum-known-r-2
-enum-known-r-2 c = search needs
-
 enum-known-n : tie.Need-enum-known-n
 enum-known-n c = search needs
 
-slice-reshare-prefix-keep-plan : tie.Need-slice-reshare-prefix-keep-plan
-slice-reshare-prefix-keep-plan c = stored (was-read (c .before)) .fits
+slice-reshare-prefix-keep : tie.Need-slice-reshare-prefix-keep
+slice-reshare-prefix-keep c = stored (was-read (c .before)) .fits
 
-slice-aggregate-keep-plan : tie.Need-slice-aggregate-keep-plan
-slice-aggregate-keep-plan c = sym (length-take-le _ _ (stored (was-read (c .before .before)) .fits))
+slice-aggregate-keep : tie.Need-slice-aggregate-keep
+slice-aggregate-keep c = sym (length-take-le _ _ (stored (was-read (c .before .before)) .fits))
 
-keep-plan-requires : tie.Need-keep-plan-requires
-keep-plan-requires c κs = search needs
+keep-requires : tie.Need-keep-requires
+keep-requires c κs = tt
 
 same-length : tie.Need-same-length
 same-length c = search needs
 
-returns-2 : tie.Need-returns-2
-returns-2 c =
-    let s = c .before .before .before .before .before .before .before .before .before .before .before .before .before .before .before .before .before .before in
-    let count = c .before .before .before .before .before .before .before .before .row-count in
+returns : tie.Need-returns
+returns c =
     let k = c .before .before .before .before .before in
-    got-torn (net s) (s .args .sheet .now) (s .args .setting .now) (sound (c .before .before .before .before .before .before .before .before .before)) _ (cut-gates (s .args .kinds .now) (s .args .a .now) (s .args .b .now) (count .result) (count .ensures)) _ _
-    (subst (HeldAs k) (c .before .r2 .given .1) (k .read-records .ensures))
+    got-none (c .before .before .before .before .before .before .before .before .before .before .before .before .before .args .setting .now) (subst (HeldAs k) (c .before .r .given .1) (k .read-plan .ensures))
 
 same-length-2 : tie.Need-same-length-2
 same-length-2 c = search needs
@@ -107,32 +53,21 @@ same-length-2 c = search needs
 same-length-3 : tie.Need-same-length-3
 same-length-3 c = search needs
 
-returns-3 : tie.Need-returns-3
-returns-3 c =
-    let s = c .before .before .before .before .before .before .before .before .before .before .before .before .before .before .before .before .before .before .before .before .before .before .before in
-    let count = c .before .before .before .before .before .before .before .before .before .before .before .before .before .row-count in
-    let kept = c .before .before .keep-plan in
-    got-kept (net s) (s .args .sheet .now) (s .args .setting .now) (sound (c .before .before .before .before .before .before .before .before .before .before .before .before .before .before)) _ (cut-gates (s .args .kinds .now) (s .args .a .now) (s .args .b .now) (count .result) (count .ensures)) _ _
-    (was-read (c .before .before .before .before .before .before)) (kept .result) (kept .last .1 .1 .1 .1 .1 .0) (kept .ensures)
+returns-2 : tie.Need-returns-2
+returns-2 c = got-held (c .before .before .before .before .before .before .before .before .before .before .before .before .before .before .before .before .before .before .args .setting .now) (was-read (c .before .before .before .before .before .before)) (c .before .before .keep .ensures)
 
 pub read-sheet-in-spec : {M : Type 1} → statement M
 read-sheet-in-spec =
     tie.close
     (tie.spec
-    table-check-requires
+    read-plan-requires
     enum-known-r
-    returns
-    enum-told
-    row-count-requires
-    slice-aggregate-read-records
-    read-records-requires
-    enum-known-r-2
     enum-known-n
-    slice-reshare-prefix-keep-plan
-    slice-aggregate-keep-plan
-    keep-plan-requires
+    slice-reshare-prefix-keep
+    slice-aggregate-keep
+    keep-requires
     same-length
-    returns-2
+    returns
     same-length-2
     same-length-3
-    returns-3)
+    returns-2)
