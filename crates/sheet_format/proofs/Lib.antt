@@ -6,5 +6,6 @@ pub mod Steps
 pub mod Sheets
 pub mod Writing
 pub mod Scan
+pub mod Getting
 pub mod Puts
 pub mod Heads

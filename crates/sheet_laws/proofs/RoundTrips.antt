@@ -39,7 +39,7 @@ use Rattle.sheet_laws.specs.Laws.{SheetWriteRead, sheetAgain, SheetReadW
 use Rattle.sheet_format.proofs.Sheets.{read-write, write-read, was-read}
 use Rattle.file_records.proofs.Puts.{put-refused, unwritten, written, written-front}
 use Rattle.sheet_plans.proofs.Calls.{Plan, no-fault}
-use Rattle.sheet_plans.proofs.Getting.{got-refused, refused-is}
+use Rattle.sheet_format.proofs.Getting.{got-refused, refused-is}
 use Rattle.sheet_plans.proofs.Replies.{First, is-plan, is-shut, is-bridge, first-cases}
 
 -- ---- written, then read

@@ -1,4 +1,4 @@
--- What the planner's check says of a setting, and what the writer then does.
+-- What the planner's check says of a setting, and what the reader and the writer then do.
 -- Assumes nothing.
 use Prim.Native.Nat.{ℕ, _-_}
 use mathlib.Core.Path.{_≡_, refl, sym, ap, subst, _∙_}
@@ -21,8 +21,9 @@ use Rattle.replies.specs.declared.CheckAnswer.the-variants as C
 use Rattle.replies.specs.Answers.{yesOr, unlessRefused, checkOf}
 use Rattle.replies.proofs.Answers.{yes-plan}
 use Rattle.sheet_format.specs.Sheets.{sheetOf}
+use Rattle.sheet_format.specs.Readings.{sheetRefused, sheetSays, unlessFault}
 use Rattle.sheet_format.specs.Rows.{Fitting}
-use Rattle.sheet_format.specs.Answers.{planFault, sheetFault, SheetWritten}
+use Rattle.sheet_format.specs.Answers.{sheetAnswer, PlanJudged, planFault, sheetFault, SheetWritten}
 use Rattle.sheet_format.proofs.Sheets.{plan-long}
 use Rattle.network.proofs.Replies.{first-assoc}
 use Rattle.file_records.proofs.Puts.{put-refused}
@@ -52,6 +53,18 @@ module _ (N : Network) (s : List ℕ) (v : CheckAnswer) (e : checkOf N s ≡ v) 
 
   pub judged-sheet : (room : ℕ) → sheetFault N s room ≡ firstOf (faultSaid v) (roomFor (sheetOf N s) room)
   judged-sheet room = first-assoc (tableFault N) (planFault N s) (roomFor (sheetOf N s) room) ∙ ap (λ o. firstOf o (roomFor (sheetOf N s) room)) judged
+
+-- the bytes that a sheet says, by what the check said of them
+plan-cases :
+    (o : Option Refusal) (b : Bool) (s : List ℕ)
+    → unlessFault o (cond b (sheetSays s) (sheetRefused BadSetting)) ≡ unlessFault (firstOf o (cond b none (some BadSetting))) (sheetSays s)
+plan-cases none true s = refl
+plan-cases none false s = refl
+plan-cases (some r) b s = refl
+
+pub plan-judged : (N : Network) (s : List ℕ) {v : CheckAnswer} → checkOf N s ≡ v → PlanJudged N s (sheetAnswer (unlessFault (faultSaid v) (sheetSays s)))
+plan-judged N s {v} e =
+    sym (ap sheetAnswer (plan-cases (tableFault N) (isPlan N s) s ∙ ap (λ o. unlessFault o (sheetSays s)) (judged N s v e)))
 
 -- no fault: the network is accepted and the setting is a plan
 pub record Plan (N : Network) (s : List ℕ) : Type 0 where

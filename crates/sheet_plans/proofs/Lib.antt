@@ -1,4 +1,3 @@
 -- What the planner's promises come to for the sheets.
 pub mod Calls
-pub mod Getting
 pub mod Replies

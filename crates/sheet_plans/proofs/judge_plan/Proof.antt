@@ -4,7 +4,7 @@ use mathlib.Core.Path.{sym, _∙_}
 use Rattle.network.specs.Networks.{Network}
 use Rattle.tables.specs.Rows.{netOf}
 use borrow.Author.Needs.{needs}
-use Rattle.sheet_plans.proofs.Getting.{plan-judged}
+use Rattle.sheet_plans.proofs.Calls.{plan-judged}
 use Rattle.sheet_plans.proofs.judge_plan.Statement.{statement}
 use Rattle.sheet_plans.proofs.judge_plan.Tie as tie
 

@@ -2,7 +2,7 @@
 -- Assumes nothing.
 use native.Mathlib.Omega.{arith}
 use borrow.Author.Needs.{needs}
-use Rattle.sheet_plans.proofs.Getting.{got-short, got-whole}
+use Rattle.sheet_format.proofs.Getting.{got-short, got-whole}
 use Rattle.sheet_rows.proofs.keep.Statement.{statement}
 use Rattle.sheet_rows.proofs.keep.Tie as tie
 

@@ -17,7 +17,7 @@ use Rattle.sheet_format.specs.Answers.{Held}
 use Rattle.sheet_format.proofs.Gates.{gates-few}
 use Rattle.tables.proofs.Cuts.{cut-kinds}
 use Rattle.sheet_format.proofs.Puts.{cut-gates}
-use Rattle.sheet_plans.proofs.Getting.{stored, held-table, held-torn, held-judged}
+use Rattle.sheet_format.proofs.Getting.{stored, held-table, held-torn, held-judged}
 use Rattle.sheet_rows.proofs.read_plan.Statement.{statement}
 use Rattle.sheet_rows.proofs.read_plan.Tie as tie
 

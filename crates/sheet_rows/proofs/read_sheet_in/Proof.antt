@@ -8,7 +8,7 @@ use Rattle.sheet_format.specs.declared.SheetAnswer.{SheetAnswer}
 use Rattle.sheet_format.specs.declared.SheetAnswer.the-variants.{Read}
 use Rattle.sheet_format.specs.Readings.{readSheet}
 use Rattle.sheet_format.specs.Answers.{Held}
-use Rattle.sheet_plans.proofs.Getting.{stored, got-none, got-held}
+use Rattle.sheet_format.proofs.Getting.{stored, got-none, got-held}
 use Rattle.sheet_rows.proofs.read_sheet_in.Statement.{statement}
 use Rattle.sheet_rows.proofs.read_sheet_in.Tie as tie
 

@@ -1,4 +1,4 @@
--- What the reader comes to, case by case: the planner's check, the working memory, the setting's buffer.
+-- What a sheet that is read comes to, case by case: the working memory, the setting's buffer.
 -- Assumes nothing.
 use Prim.Native.Nat.{ℕ, _≤_, _<_}
 use native.Mathlib.Nat.{zero-add}
@@ -6,7 +6,7 @@ use native.Mathlib.Omega.{arith}
 use mathlib.Core.Path.{_≡_, refl, sym, ap, subst, _∙_}
 use mathlib.Core.Bool.{Bool, true, false, cond, true≢false}
 use mathlib.Core.List.{List, _++_}
-use mathlib.Core.Option.{Option, none, some}
+use mathlib.Core.Option.{some}
 use lib.ListN.{length, take, drop, length-take}
 use lib.Seq.{sets, sets-eq, length-take-le}
 use borrow.Author.Tests.{le-leb, lt-leb}
@@ -15,28 +15,11 @@ use Rattle.network.specs.declared.Refusal.the-variants.{ShortBuffer, BadSetting
 use Rattle.network.specs.Networks.{Network, tableFault, Accepted}
 use Rattle.network.specs.Settings.{gates}
 use Rattle.network.specs.Plans.{isPlan}
-use Rattle.network.specs.Replies.{firstOf}
-use Rattle.replies.specs.declared.CheckAnswer.{CheckAnswer}
-use Rattle.replies.specs.Answers.{checkOf}
 use Rattle.sheet_format.specs.declared.SheetAnswer.{SheetAnswer}
 use Rattle.sheet_format.specs.declared.SheetAnswer.the-variants.{Refused, Read}
-use Rattle.sheet_format.specs.Readings.{SheetReading, sheetRefused, sheetSays, readRecords, ifPlan, unlessFault, readSheet, sheetWithRoom}
+use Rattle.sheet_format.specs.Readings.{SheetReading, sheetRefused, sheetSays, readRecords, ifPlan, readSheet, sheetWithRoom}
 use Rattle.sheet_format.specs.Answers.{sheetAnswer, settingRead, Got, Held, PlanJudged}
 use Rattle.sheet_format.proofs.Scan.{held-refused}
-use Rattle.sheet_plans.proofs.Calls.{faultSaid, judged}
-
--- ---- the planner's check of what was read
-
-plan-cases :
-    (o : Option Refusal) (b : Bool) (s : List ℕ)
-    → unlessFault o (cond b (sheetSays s) (sheetRefused BadSetting)) ≡ unlessFault (firstOf o (cond b none (some BadSetting))) (sheetSays s)
-plan-cases none true s = refl
-plan-cases none false s = refl
-plan-cases (some r) b s = refl
-
-pub plan-judged : (N : Network) (s : List ℕ) {v : CheckAnswer} → checkOf N s ≡ v → PlanJudged N s (sheetAnswer (unlessFault (faultSaid v) (sheetSays s)))
-plan-judged N s {v} e =
-    sym (ap sheetAnswer (plan-cases (tableFault N) (isPlan N s) s ∙ ap (λ o. unlessFault o (sheetSays s)) (judged N s v e)))
 
 -- ---- what is read into the working memory
 
