@@ -1,6 +1,6 @@
 -- The laws of the order of two plan sheets and of the part, from what is told of them: so they hold of the calls on rows and on records alike.
 -- Assumes nothing.
-use Prim.Native.Nat.{ℕ, _+_, _-_}
+use Prim.Native.Nat.{ℕ, _-_}
 use native.Mathlib.Omega.{arith}
 use mathlib.Core.Path.{_≡_, refl, sym, ap, subst, _∙_}
 use mathlib.Core.Bool.{true, true≢false}
@@ -102,15 +102,7 @@ pub part-shown :
 part-shown N first second bf bg {x} c =
     part-told N first second (x .part) bf bg (subst (Told N (now first) (now second)) (sym (c .ordered .order)) (told N (now first) (now second))) (c .part)
 
--- ---- the part of both, exchanged
-
-part-once : {s r r′ : RefT (List ℕ)} {k k′ to : ℕ} → k ≡ k′ → Part s k to r → Part s k′ to r′ → SamePart r r′
-part-once {s} {to = to} e p q =
-    record {
-      block = p .block ∙ sym (q .block);
-      place = p .place ∙ ap (λ k. s .ptr .1 + k) e ∙ sym (q .place);
-      bytes = p .bytes ∙ ap (λ k. take (to - k) (drop k (now s))) e ∙ sym (q .bytes);
-    }
+-- ---- exchanged, the same part
 
 differ-number : (o : Order) → differ o ≡ true → orderNumber o ≡ 0
 differ-number (Refused x) d = absurd (true≢false (sym d))
@@ -118,21 +110,36 @@ differ-number Equal d = refl
 differ-number First d = refl
 differ-number Second d = refl
 
-module _ (N : Network) (first second r r′ : RefT (List ℕ)) where
-  same-place : differingRecord N (now first) (now second) ≡ differingRecord N (now second) (now first)
-  same-place = ap recordPlace (prefix-sym (settingRead (readSheet N (now first))) (settingRead (readSheet N (now second))))
+part-once : {s r r′ : RefT (List ℕ)} {k to : ℕ} → Part s k to r → Part s k to r′ → SamePart r r′
+part-once p q = record { block = p .block ∙ sym (q .block); place = p .place ∙ sym (q .place); bytes = p .bytes ∙ sym (q .bytes) }
 
-  part-exchanged :
-      (o : Order) → differ o ≡ true → PartFrom (differingRecord N (now first) (now second)) o first second r
-      → PartFrom (differingRecord N (now second) (now first)) (exchanged o) second first r′ → SamePart r r′
-  part-exchanged (Refused x) d p q = absurd (true≢false (sym d))
-  part-exchanged Equal d p q = absurd (true≢false (sym d))
-  part-exchanged First d p q = part-once same-place p q
-  part-exchanged Second d p q = part-once same-place p q
+module _ (k : ℕ) (first second : RefT (List ℕ)) where
+  part-back : (r : RefT (List ℕ)) (o : Order) → differ o ≡ true → PartFrom k (exchanged o) second first r → PartFrom k o first second r
+  part-back r (Refused x) d p = absurd (true≢false (sym d))
+  part-back r Equal d p = absurd (true≢false (sym d))
+  part-back r First d p = p
+  part-back r Second d p = p
 
--- Where two sheets differ, exchanging them gives the same part.
-pub same-part :
-    (N : Network) (first second : RefT (List ℕ)) {x y : Parting} → Compared N first second x → Compared N second first y → differ (x .order) ≡ true → SamePart (x .part) (y .part)
-same-part N first second {x} {y} c c′ d =
-    part-exchanged N first second (x .part) (y .part) (x .order) d (c .part)
-    (subst (λ o. PartFrom (differingRecord N (now second) (now first)) o second first (y .part)) (exchange N (now first) (now second) (c .ordered) (c′ .ordered) .forth (differ-number (x .order) d)) (c′ .part))
+  one-part : (r r′ : RefT (List ℕ)) (o : Order) → differ o ≡ true → PartFrom k o first second r → PartFrom k o first second r′ → SamePart r r′
+  one-part r r′ (Refused x) d p q = absurd (true≢false (sym d))
+  one-part r r′ Equal d p q = absurd (true≢false (sym d))
+  one-part r r′ First d p q = part-once p q
+  one-part r r′ Second d p q = part-once p q
+
+module _ (N : Network) (first second : RefT (List ℕ)) where
+  abbrev at : ℕ
+  at = differingRecord N (now first) (now second)
+
+  same-place : differingRecord N (now second) (now first) ≡ at
+  same-place = ap recordPlace (prefix-sym (settingRead (readSheet N (now second))) (settingRead (readSheet N (now first))))
+
+  -- Where two sheets differ, the part that they hand back exchanged is theirs as they were lent.
+  pub part-exchanged : {y : Parting} → Compared N second first y → {o : Order} → Ordered N (now first) (now second) o → differ o ≡ true → PartFrom at o first second (y .part)
+  part-exchanged {y} c {o} p d =
+      let turned : y .order ≡ exchanged o = exchange N (now first) (now second) p (c .ordered) .forth (differ-number o d) in
+      part-back at first second (y .part) o d
+      (subst (λ k. PartFrom k (exchanged o) second first (y .part)) same-place (subst (λ o. PartFrom (differingRecord N (now second) (now first)) o second first (y .part)) turned (c .part)))
+
+  -- So the two are one part.
+  pub same-part : {x y : Parting} → Compared N first second x → Compared N second first y → differ (x .order) ≡ true → SamePart (x .part) (y .part)
+  same-part {x} {y} c c′ d = one-part at first second (x .part) (y .part) (x .order) d (c .part) (part-exchanged c′ (c .ordered) d)

@@ -48,19 +48,28 @@ refused-number LastPlan n = refl
 pub no-number {ℓ} : {A : Type ℓ} (r : Refusal) → refusalNumber r ≡ 0 → A
 no-number r z = absurd (omega (arith, ap (λ m. firstNumber m 1) (sym z) ∙ refused-number r 1, z))
 
+reading-number : (x y : SheetReading) → orderNumber (readingOrder x y) ≡ firstNumber (sheetReadingNumber x) (sheetReadingNumber y)
+reading-number (sheetRefused r) y = sym (refused-number r (sheetReadingNumber y))
+reading-number (sheetSays s) (sheetRefused r) = refl
+reading-number (sheetSays s) (sheetSays t) = settings-number s t
+
 -- both sheets are read
 pub record BothRead (N : Network) (f g s t : List ℕ) : Type 0 where
   pub first-says : readSheet N f ≡ sheetSays s
   pub second-says : readSheet N g ≡ sheetSays t
 
 module _ (N : Network) (f g : List ℕ) where
+  pub ordered : {r : Order} → r ≡ sheetOrder N f g → Ordered N f g r
+  unfolding sheetOrder
+  ordered e = record { order = e; number = ap orderNumber e ∙ reading-number (readSheet N f) (readSheet N g) }
+
   pub refused-first : {r : Refusal} → readSheet N f ≡ sheetRefused r → Ordered N f g (Refused r)
   unfolding sheetOrder
-  refused-first {r} e = record { order = rw e; number = rw e (sym (refused-number r (sheetReadingNumber (readSheet N g)))) }
+  refused-first e = ordered (rw e)
 
   pub refused-second : {s : List ℕ} {r : Refusal} → readSheet N f ≡ sheetSays s → readSheet N g ≡ sheetRefused r → Ordered N f g (Refused r)
   unfolding sheetOrder
-  refused-second e h = record { order = rw (e, h); number = rw (e, h) }
+  refused-second e h = ordered (rw (e, h))
 
   -- what two sheets that are read come to
   module _ {s t : List ℕ} (b : BothRead N f g s t) where
@@ -85,9 +94,7 @@ module _ (N : Network) (f g : List ℕ) where
       bytes-order = rw (first-sheet, second-sheet) (order-sheets both-laid)
 
   pub both-read : areBytes f ≡ true → areBytes g ≡ true → {s t : List ℕ} → BothRead N f g s t → {r : Order} → r ≡ settingOrder f g → Ordered N f g r
-  both-read bf bg {s} {t} b {r} q =
-      let o : r ≡ settingOrder s t = q ∙ bytes-order b bf bg in
-      record { order = o ∙ sym (read-order b); number = rw (b .first-says, b .second-says, o) (settings-number s t) }
+  both-read bf bg b q = ordered (q ∙ bytes-order b bf bg ∙ sym (read-order b))
 
 -- ---- an order that was told: a refusal, or that of two sheets that are read
 
