@@ -3,7 +3,7 @@
 use Prim.Native.Nat.{ℕ, _≤_}
 use native.Mathlib.Omega.{arith}
 use mathlib.Core.Path.{_≡_, refl, sym, ap, subst, _∙_}
-use mathlib.Core.Bool.{false, cond, true≢false}
+use mathlib.Core.Bool.{cond, true≢false}
 use mathlib.Core.List.{List, [], _++_}
 use mathlib.Core.Option.{Option, none, some}
 use lib.ListN.{length, take, drop}
@@ -12,12 +12,11 @@ use lib.Dec.{eqb}
 use borrow.Author.Tests.{le-leb}
 use Rattle.network.specs.declared.Reach.{Reach}
 use Rattle.network.specs.declared.Refusal.{Refusal}
-use Rattle.network.specs.declared.Refusal.the-variants.{BasinCount, TooManyReaches, EndOutOfRange, Truncated, UnknownKind, TrailingBytes, ShortBuffer, BadSetting, LastPlan}
 use Rattle.network.specs.Networks.{Network, net, maxReaches, tableFault, Accepted}
-use Rattle.network.specs.Replies.{refusalNumber, Outcome, plan, shutIn, lone, refused, number, firstOf, firstReply, nextReply}
+use Rattle.network.specs.Replies.{Outcome, plan, shutIn, lone, refused, number, firstOf, firstReply, nextReply}
 use Rattle.network.specs.Choices.{boundBytes, boundIn, boundAfter}
 use Rattle.network.proofs.Networks.{accepted}
-use Rattle.network.proofs.Replies.{first-of-none}
+use Rattle.network.proofs.Replies.{first-of-none, refusal-number}
 use Rattle.tables.specs.Rows.{roomOf, RowsFilled}
 use Rattle.tables.proofs.Filling.{filled-long, filled-table}
 use Rattle.replies.specs.declared.Answer.{Answer}
@@ -45,22 +44,11 @@ unfolding nextReply
 next-refused N s planLength marksLength d = rw d
 
 -- no refusal has the number of a plan, so the bytes of bound gates go by the number of the reply
-no-plan : (e : Refusal) → eqb (refusalNumber e) 0 ≡ false
-no-plan BasinCount = refl
-no-plan TooManyReaches = refl
-no-plan EndOutOfRange = refl
-no-plan Truncated = refl
-no-plan UnknownKind = refl
-no-plan TrailingBytes = refl
-no-plan ShortBuffer = refl
-no-plan BadSetting = refl
-no-plan LastPlan = refl
-
 by-number : (N : Network) (o : Outcome) → boundIn N o ≡ cond (eqb (number o) 0) (boundBytes N) []
 by-number N (plan s) = refl
 by-number N (shutIn m k) = refl
 by-number N (lone i m k) = refl
-by-number N (refused e) = rw (no-plan e)
+by-number N (refused e) = rw (refusal-number e)
 
 -- networks with the same bound gates that get the same choice get the same bytes
 same-bytes : (M N : Network) → boundBytes M ≡ boundBytes N → (o o′ : Outcome) → SameChoice o o′ → boundIn M o ≡ boundIn N o′

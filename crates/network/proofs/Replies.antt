@@ -3,13 +3,14 @@
 use Prim.Native.Nat.{ℕ, zero, suc, _≤_}
 use native.Mathlib.Omega.{arith}
 use mathlib.Core.Path.{_≡_, refl, sym, ap, _∙_}
-use mathlib.Core.Bool.{Bool, true, false, cond}
+use mathlib.Core.Bool.{Bool, true, false, cond, true≢false}
 use mathlib.Core.Logic.{_↔_}
 use mathlib.Core.Option.{Option, none, some, Option·some-ne-none}
 use mathlib.Core.List.{List, []}
 use lib.ListN.{length}
 use mathlib.Mathlib.Data.Bool.Basic.{bool-eq-false}
-use borrow.Author.Tests.{le-leb}
+use lib.Dec.{eqb}
+use borrow.Author.Tests.{le-leb, ne-eqb}
 use Rattle.network.specs.declared.Refusal.{Refusal}
 use Rattle.network.specs.declared.Refusal.the-variants.{BasinCount, TooManyReaches, EndOutOfRange, Truncated, UnknownKind, TrailingBytes, ShortBuffer, BadSetting, LastPlan}
 use Rattle.lists.specs.Lists.{range}
@@ -65,6 +66,11 @@ decode-refusal TrailingBytes = refl
 decode-refusal ShortBuffer = refl
 decode-refusal BadSetting = refl
 decode-refusal LastPlan = refl
+
+-- No refusal has the number of a plan.
+pub refusal-number : (r : Refusal) → eqb (refusalNumber r) 0 ≡ false
+unfolding decode
+refusal-number r = ne-eqb (refusalNumber r) 0 (λ z. let e : plan [] ≡ refused r = ap (λ n. decode n [] 0 [] 0) (sym z) ∙ decode-refusal r in true≢false (cc))
 
 decode-back : (o : Outcome) → decode (number o) (planIn o) (reachIn o) (marksIn o) (countIn o) ≡ o
 unfolding decode

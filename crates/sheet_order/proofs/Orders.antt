@@ -1,16 +1,16 @@
 -- What two sheets are read as, and so their order: a refusal, or the order of two settings of one network; and where the part begins.
 -- Assumes nothing.
-use Prim.Native.Nat.{ℕ}
-use native.Mathlib.Omega.{arith}
+use Prim.Native.Nat.{ℕ, zero, suc}
 use mathlib.Core.Path.{_≡_, refl, sym, ap, subst, _∙_}
 use mathlib.Core.Bool.{Bool, true, false, cond, true≢false}
 use mathlib.Core.List.{List}
-use lib.ListN.{length}
+use lib.Dec.{eqb}
+use borrow.Author.Tests.{eqb-false}
 use lib.Pow.{areBytes}
 use denote.Ref.{RefT, now}
 use Rattle.network.specs.declared.Refusal.{Refusal}
-use Rattle.network.specs.declared.Refusal.the-variants.{BasinCount, TooManyReaches, EndOutOfRange, Truncated, UnknownKind, TrailingBytes, ShortBuffer, BadSetting, LastPlan}
 use Rattle.network.specs.Replies.{refusalNumber}
+use Rattle.network.proofs.Replies.{refusal-number}
 use Rattle.network.specs.Networks.{Network}
 use Rattle.network.specs.Settings.{before, gates}
 use Rattle.sheet_format.specs.Sheets.{sheetOf}
@@ -20,7 +20,7 @@ use Rattle.sheet_format.proofs.Sheets.{plan-long, plan-bits, read-is-plan, writ
 use Rattle.sheet_order.specs.declared.Order.{Order}
 use Rattle.sheet_order.specs.declared.Order.the-variants.{Refused, Equal, First, Second}
 use Rattle.sheet_order.specs.Orders.{settingOrder, readingOrder, sheetOrder, orderNumber, firstNumber, differ, exchanged}
-use Rattle.sheet_order.specs.Parts.{commonPrefix, recordPlace, differingGate, differingRecord, Part, PartFrom}
+use Rattle.sheet_order.specs.Parts.{commonPrefix, recordPlace, differingGate, differingRecord, PartFrom}
 use Rattle.sheet_order.specs.Calls.{Ordered, OrderedAt, Compared}
 use Rattle.sheet_order.proofs.Prefixes.{prefix-sym}
 use Rattle.sheet_order.proofs.Sheets.{order-exchanged, Laid, laid, order-sheets, sheets-apart}
@@ -34,22 +34,15 @@ settings-number s t = go (before s t) (before t s)
     go false false = refl
 
 -- a refusal has a number of its own, and is told before any other
-refused-number : (r : Refusal) (n : ℕ) → firstNumber (refusalNumber r) n ≡ refusalNumber r
-refused-number BasinCount n = refl
-refused-number TooManyReaches n = refl
-refused-number EndOutOfRange n = refl
-refused-number Truncated n = refl
-refused-number UnknownKind n = refl
-refused-number TrailingBytes n = refl
-refused-number ShortBuffer n = refl
-refused-number BadSetting n = refl
-refused-number LastPlan n = refl
-
 pub no-number {ℓ} : {A : Type ℓ} (r : Refusal) → refusalNumber r ≡ 0 → A
-no-number r z = absurd (omega (arith, ap (λ m. firstNumber m 1) (sym z) ∙ refused-number r 1, z))
+no-number r z = absurd (eqb-false (refusalNumber r) 0 (refusal-number r) z)
+
+first-number : (m n : ℕ) → eqb m 0 ≡ false → firstNumber m n ≡ m
+first-number zero n h = absurd (true≢false h)
+first-number (suc m) n h = refl
 
 reading-number : (x y : SheetReading) → orderNumber (readingOrder x y) ≡ firstNumber (sheetReadingNumber x) (sheetReadingNumber y)
-reading-number (sheetRefused r) y = sym (refused-number r (sheetReadingNumber y))
+reading-number (sheetRefused r) y = sym (first-number (refusalNumber r) (sheetReadingNumber y) (refusal-number r))
 reading-number (sheetSays s) (sheetRefused r) = refl
 reading-number (sheetSays s) (sheetSays t) = settings-number s t
 
