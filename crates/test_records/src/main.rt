@@ -47,6 +47,8 @@ const BOUND: u8 = 11;
 
 const CONTRACT: u8 = 12;
 
+const COMPARE: u8 = 13;
+
 fn over_rows(
     call: u8,
     basins: u16,
@@ -333,8 +335,8 @@ struct Bytes {
     bytes: [u8; 6200],
 }
 
-// The file that a reader is lent: the reply's sheet, or the network file, and sometimes a byte less.
-fn file(call: u8, n: usize, basins: u16, t: Twice, seed: u64) -> Bytes {
+// What a call over rows writes, of a table and a setting. Of a file its length counts, for some seeds a byte less.
+fn written(call: u8, n: usize, basins: u16, t: Twice, s: &[u8], seed: u64) -> Bytes {
     let kinds = t.kinds;
     let a = t.a;
     let b = t.b;
@@ -342,25 +344,86 @@ fn file(call: u8, n: usize, basins: u16, t: Twice, seed: u64) -> Bytes {
     let walker = Walker { setting: bits };
     let mut bytes = [0u8; 6200];
     let mut marks = [0u8; 40];
-    let writer = if call == READ_SHEET {
-        WRITE_REPLY
-    } else {
-        WRITE_NETWORK
-    };
     let x = over_rows(
-        writer,
+        call,
         basins,
         front(&kinds, n),
         front_words(&a, n),
         front_words(&b, n),
         walker,
-        &bits,
+        s,
         &mut bytes,
         &mut marks,
     );
     let less = 100 + seed % 4 / 3;
     let n = if x < less { 0 } else { (x - less) as usize };
     Bytes { n, bytes }
+}
+
+// The sheet of the next plan after the setting of a table.
+fn next_sheet(n: usize, basins: u16, t: Twice) -> Bytes {
+    let kinds = t.kinds;
+    let bits = t.bits;
+    let g = tables::count_gates(front(&kinds, n));
+    let p = written(NEXT, n, basins, t, front(&bits, g), 0);
+    let plan = p.bytes;
+    written(WRITE_SHEET, n, basins, t, front(&plan, g), 0)
+}
+
+// Two sheets are compared: the sum of their order and of the part.
+fn compare_rows<'a>(
+    basins: u16,
+    kinds: &[u8],
+    a: &[u16],
+    b: &[u16],
+    first: &'a [u8],
+    second: &'a [u8],
+) -> u64 {
+    let order = comparison::order_rows(basins, kinds, a, b, first, second);
+    sum(
+        sums::of_order(order),
+        sheet_order::part(order, first, second),
+    )
+}
+
+fn compare_records<'a>(
+    n: usize,
+    basins: u16,
+    reaches: [Reach; ROOM],
+    first: &'a [u8],
+    second: &'a [u8],
+) -> u64
+    requires { ⌜ n ≤ 1030 ⌝ }
+{
+    let order = relays::compare_order(n, basins, reaches, first, second);
+    sum(
+        sums::of_order(order),
+        relays::compare_part(n, basins, reaches, first, second),
+    )
+}
+
+fn compare(n: usize, basins: u16, t: Twice, f: Bytes, g: Bytes) -> Pair
+    requires { ⌜ n ≤ 1030 ⌝ }
+{
+    let kinds = t.kinds;
+    let a = t.a;
+    let b = t.b;
+    let reaches = t.reaches;
+    let first = f.bytes;
+    let second = g.bytes;
+    let x = front(&first, f.n);
+    let y = front(&second, g.n);
+    Pair {
+        rows: compare_rows(
+            basins,
+            front(&kinds, n),
+            front_words(&a, n),
+            front_words(&b, n),
+            x,
+            y,
+        ),
+        records: compare_records(n, basins, reaches, x, y),
+    }
 }
 
 // How many reaches the table of a seed has: a few, or about as many as a network may have.
@@ -427,12 +490,20 @@ fn play(call: u8, seed: u64) -> Pair {
     let basins = basins_of(seed, ends);
     let t = table(seed, n, ends);
     if call == READ_NETWORK {
-        let f = file(call, n, basins, t, seed);
+        let f = written(WRITE_NETWORK, n, basins, t, b"", seed);
         return on_file(call, n, basins, table(seed % 65536 + 1, n, ends), f, 0);
     }
     if call == READ_SHEET {
-        let f = file(call, n, basins, t, seed);
+        let f = written(WRITE_REPLY, n, basins, t, b"", seed);
         return on_file(call, n, basins, t, f, room(seed));
+    }
+    if call == COMPARE {
+        let f = written(WRITE_REPLY, n, basins, t, b"", seed / 32);
+        let g = next_sheet(n, basins, t);
+        if seed % 2 == 0 {
+            return compare(n, basins, t, f, g);
+        }
+        return compare(n, basins, t, g, f);
     }
     if call == CONTRACT {
         let into = table(seed % 65536 + 1, MAX_REACHES, ends);
@@ -483,4 +554,5 @@ fn main() {
     show(b"write the reply", WRITE_REPLY);
     show(b"bound gates", BOUND);
     show(b"contract", CONTRACT);
+    show(b"compare two sheets", COMPARE);
 }

@@ -7,6 +7,7 @@ use network::Reach;
 use replies::Answer;
 use replies::CheckAnswer;
 use sheet_format::SheetAnswer;
+use sheet_order::Order;
 use tables::TableAnswer;
 use walker::Made;
 use walker::Stepped;
@@ -160,4 +161,29 @@ pub fn contracted(
 {
     contraction::contract(basins, &reaches[..n], &mut out[..k]);
     out
+}
+
+// Comparing two sheets over records, in two: their order, and the part of the earlier one.
+pub fn compare_order<'a>(
+    n: usize,
+    basins: u16,
+    reaches: [Reach; ROOM],
+    first: &'a [u8],
+    second: &'a [u8],
+) -> Order
+    requires { ⌜ n ≤ 1030 ⌝ }
+{
+    comparison::compare(basins, &reaches[..n], first, second).order
+}
+
+pub fn compare_part<'a>(
+    n: usize,
+    basins: u16,
+    reaches: [Reach; ROOM],
+    first: &'a [u8],
+    second: &'a [u8],
+) -> &'a [u8]
+    requires { ⌜ n ≤ 1030 ⌝ }
+{
+    comparison::compare(basins, &reaches[..n], first, second).part
 }

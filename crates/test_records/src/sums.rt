@@ -8,6 +8,7 @@ use replies::CheckAnswer;
 use replies::Finding;
 use replies::Verdict;
 use sheet_format::SheetAnswer;
+use sheet_order::Order;
 use tables::TableAnswer;
 use walker::Made;
 use walker::MakeAnswer;
@@ -133,5 +134,14 @@ pub fn of_contracted(answer: ContractAnswer) -> u64 {
         ContractAnswer::Contracted { basins, reaches } => {
             mix(mix(0, basins as u64), reaches as u64)
         }
+    }
+}
+
+pub fn of_order(order: Order) -> u64 {
+    match order {
+        Order::Refused(r) => number(r),
+        Order::Equal => 20,
+        Order::First => 21,
+        Order::Second => 22,
     }
 }
