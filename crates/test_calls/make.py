@@ -1,10 +1,11 @@
 #!/usr/bin/env python3
 """Writes the case file `stdin` and the expected output `stdout` of the program test_calls, into the folder that this file stands in.
 
-What is expected is worked out here from document 01 and items 1 to 4 of document 02 alone. Small networks are planned by trying every setting, from every
+What is expected is worked out here from document 01 and items 1 to 5 of document 02 alone. Small networks are planned by trying every setting, from every
 wet basin, and every division of the wet basins, and their bound gates are looked up in all their plans; larger ones go by the theorem, gate by gate. Where
 both can be had they are compared. Clusters are found by relabelling until nothing changes; of small networks the folded one must have the same plans, by
-trying every setting. The pseudo-random sequence is fixed: the files never change by themselves.
+trying every setting. Two plan sheets are ordered by their settings, and cut into records to see where they part. The pseudo-random sequence is fixed: the
+files never change by themselves.
 """
 import os
 from bisect import bisect
@@ -339,6 +340,27 @@ def read_sheet(basins, reaches, sheet, p):
     return 7 if p < len(gates) else setting
 
 
+COMPARED, PAIRS = Counter(), set()          # how often each outcome of a comparison came; the pairs of plans
+
+
+def compare_call(basins, reaches, first, second):
+    """The number of a refusal, or which of two plan sheets is earlier (1, 2, or 0 for neither), and the part of it from the first differing record."""
+    one, other = (read_sheet(basins, reaches, sheet, 1024) for sheet in (first, second))
+    refused = [got if isinstance(got, int) else 0 for got in (one, other)]
+    if any(refused):
+        COMPARED['refused %d, %d' % tuple(refused)] += 1
+        return refused[0] or refused[1]
+    PAIRS.add((basins, reaches, tuple(one), tuple(other)))
+    if one == other:
+        COMPARED['equal'] += 1
+        return 0, []
+    earlier = 1 if tuple(one) < tuple(other) else 2
+    cut = [[sheet[i:i + 3] for i in range(0, len(sheet), 3)] for sheet in (first, second)]         # a head, a record for each gate, an end of one byte
+    place = [x == y for x, y in zip(*cut)].index(False)
+    COMPARED['%d of %d gates, %d' % (place - 1, len(one), earlier)] += 1
+    return earlier, [x for record in cut[earlier - 1][place:] for x in record]
+
+
 def plan_sheet(reaches, setting):
     gates = [i for i, r in enumerate(reaches) if r[0] == GATED]
     return [16] + two(len(gates)) + [x for i, s in zip(gates, setting) for x in [17 + s] + two(i)] + [9]
@@ -432,7 +454,7 @@ class Out:
 
 # first plan is a walk that does not go on, a step a walker that does not
 CALLS = ['table', 'check', 'walk', 'bound', 'next', 'make', 'walker', 'read network', 'write network', 'read sheet', 'write sheet', 'write reply', 'list',
-         'list placed', 'contract']
+         'list placed', 'contract', 'compare']
 CODES = dict([(call, i) for i, call in enumerate(CALLS)] + [('first', 2), ('step', 6)])
 
 
@@ -513,6 +535,12 @@ def play(o, c, table):
         show_rows(o, got, k, x, y)
     elif call == 'contract':
         show_rows(o, contract_call(basins, reaches, min(p, m, limit)), p, m, limit)
+    elif call == 'compare':
+        got = compare_call(basins, reaches, s[:p], s[limit:limit + m])
+        o.reply(got if isinstance(got, int) else 0)
+        if not isinstance(got, int):
+            o.value(got[0])
+        o.row([] if isinstance(got, int) else got[1])
     elif call == 'list':
         text = listing(s)
         for at in range(0, p * limit + 1, p or 1):
@@ -683,6 +711,23 @@ def settings(g):
     return [(i, 2, 0) for i in range(g)]
 
 
+def hung(g, at=0):
+    """The kinds of the records of a plan sheet that stands at this place, in all ways."""
+    return [(at + 3 + 3 * i, 2, 17) for i in range(g)]
+
+
+def beside(first, second):
+    """Two sheets to compare, with a byte behind each."""
+    return dict(data=first + [0] + second + [0], p=len(first), m=len(second), limit=len(first) + 1)
+
+
+def all_pairs(gr, basins):
+    """The sheet of every setting beside that of every setting."""
+    g = gates_of(gr.reaches)
+    sheet = plan_sheet(gr.reaches, [0] * g)
+    gr.case('compare', basins, vary=hung(g) + hung(g, len(sheet) + 1), mode=BRIEF if g <= 3 else QUIET, **beside(sheet, sheet))
+
+
 # ---- cases 1 to 11, 13: all calls on small networks
 
 def whole(title, basins, reaches):
@@ -706,8 +751,9 @@ def whole(title, basins, reaches):
     gr.case('write reply', basins, vary=[('p', 3, len(reply_sheet(reaches)) - 1)])
     gr.case('write sheet', basins, zeros, p=4 + 3 * g, vary=settings(g))
     sheet = plan_sheet(reaches, zeros)
-    gr.case('read sheet', basins, sheet, p=g, vary=[(3 + 3 * i, 2, 17) for i in range(g)])
+    gr.case('read sheet', basins, sheet, p=g, vary=hung(g))
     gr.case('read sheet', basins, reply_sheet(reaches), p=g + 1)
+    all_pairs(gr, basins)
     gr.case('list', 0, file, p=len(listing(file)) + 16)
     gr.case('contract', basins, **new_rows(len(reaches)))
 
@@ -772,7 +818,8 @@ def cuts(title, basins, reaches):
     gr.case('write reply', basins, p=38, vary=vary, mode=FULL)
     gr.case('write sheet', basins, zeros, p=4 + 3 * g, vary=any_setting, mode=QUIET)
     gr.case('read sheet', basins, [16, 0, 0, 9], p=g, vary=vary)
-    gr.case('read sheet', basins, sheet, p=g, vary=vary + [(3 + 3 * i, 2, 17) for i in range(g)])
+    gr.case('read sheet', basins, sheet, p=g, vary=vary + hung(g))
+    gr.case('compare', basins, vary=vary + hung(g) + hung(g, len(sheet) + 1), mode=QUIET, **beside(sheet, sheet))
     gr.case('contract', basins, vary=vary, **new_rows(len(reaches)))
 
 
@@ -818,6 +865,7 @@ for title, kind in (('flaps', F), ('two-way reaches', T), ('shut gates', SG)):
     for call in ('table', 'check', 'first', 'bound', 'next', 'make', 'step', 'write reply', 'write sheet'):
         gr.case(call, 0, p=4, k=1024, vary=EDGES)
     gr.case('read sheet', 0, [16, 0, 0, 9], p=0, k=1024, vary=EDGES)
+    gr.case('compare', 0, k=1024, vary=EDGES + [('p', 3, 3), ('m', 3, 3)], **beside([16, 0, 0, 9], [16, 0, 0, 9]))
     length = len(network_file(256, gr.reaches[:1024]))
     gr.case('write network', 0, p=length, k=1024, vary=EDGES)
     gr.case('write network', 256, p=length - 1, k=1024, vary=[('p', 3, length % 256 - 1)])
@@ -840,6 +888,9 @@ gr.case('make', 256, zeros, n=1024, p=16, k=1024, vary=[('k', 2, 0), ('n', 2, 0)
 gr.case('step', 256, zeros[:1024], p=1024, k=1024, vary=[('k', 2, 0), (1023, 3, 0)])
 gr.case('write sheet', 256, zeros, n=1024, p=3076, k=1024, vary=[('k', 2, 0), ('n', 2, 0), ('p', 3, 3)])
 gr.case('read sheet', 256, plan_sheet(gr.reaches[:1024], zeros[:1024]), p=1024, k=1024, vary=[('k', 2, 0), (3 + 3 * 1023, 2, 17)])
+sheet = plan_sheet(gr.reaches[:1024], [int(i in (256, 768)) for i in range(1024)])           # no plan if gates 0 and 512 are turned too
+varied = [(at + 3 + 3 * gate, 2, 17) for at in (0, 3077) for gate in (0, 512, 1023)]
+gr.case('compare', 0, k=1024, vary=EDGES + [('p', 3, 3), ('m', 3, 3)] + varied, **beside(sheet, sheet))
 gr.case('walk', 256, p=1024, k=1024, limit=2)
 gr.case('walker', 256, zeros[:1024], p=1024, k=1024, limit=2)
 gr.case('table', 256, k=1025, x=1024, y=1026)
@@ -864,6 +915,7 @@ for odd in [(kind, a, b) for kind in (F, ST) for a, b in ((3, 3), (3, 4), (4, 3)
     for call in ('table', 'check', 'first', 'bound', 'next', 'make', 'step', 'write network', 'write sheet', 'write reply'):
         gr.case(call, 4, p=30)
     gr.case('read sheet', 4, [16, 0, 0, 9], p=0)
+    gr.case('compare', 4, vary=[(0, 2, 16), (5, 2, 16)], **beside([16, 0, 0, 9], [16, 0, 0, 9]))
 
 for place, odd in ((245, (G, 245, 246)), (9, (F, 10, 9)), (0, (F, 0, 1)), (100, (ST, 100, 101))):
     gr = group('256 basins in a line of two-way reaches, and reach %d is %s' % (place, letters([odd])), ring(256, 255, T, (place, odd)))
@@ -956,6 +1008,7 @@ for title, reaches in TABLES:
     gr.case('write sheet', 3, [0, 0, 0, 0], vary=table + setting + [('p', 3, 12)], **at_six)
     sheet = plan_sheet(reaches, [0, 0, 0])
     gr.case('read sheet', 3, sheet + [0], vary=table + [('n', 4, 11), (9, 4, 16), ('p', 3, 2)], **at_six)
+    gr.case('compare', 3, vary=table + [('p', 3, 12), (9, 4, 16), ('m', 3, 12), (23, 4, 16)], **beside(sheet, sheet), **at_six)
     lengths = [('k', 4, 5), ('x', 4, 5), ('y', 4, 5)]
     gr.case('table', 3, vary=lengths)
     gr.case('first', 3, p=8, vary=lengths)
@@ -963,6 +1016,7 @@ for title, reaches in TABLES:
     gr.case('write network', 3, p=40, vary=lengths)
     gr.case('check', 3, [0, 0, 0, 0, 0], vary=lengths + [('n', 3, 2)])
     gr.case('read sheet', 3, sheet, p=8, vary=lengths)
+    gr.case('compare', 3, vary=lengths + [(9, 2, 17), (23, 2, 17)], **beside(sheet, sheet))
     rows = [('p', 3, 5), ('m', 3, 5), ('limit', 3, 5)]
     gr.case('contract', 3, vary=table + rows, **at_six)
     gr.case('contract', 3, vary=lengths + rows, mode=QUIET)
@@ -1038,6 +1092,8 @@ for basins, g in product(range(1, 7), range(11)):
         if g <= 4:
             gr.case('step', basins, zeros, p=g, vary=settings(g))
     gr.case('write reply', basins, vary=[('p', 3, len(reply_sheet(reaches)) - 1)])
+    if g <= 5:
+        all_pairs(gr, basins)
 
 # twenty more of each, ten with plans: the first replies, and the sums of all others; steps and reply sheets with a basin more too, which is dry
 
@@ -1433,7 +1489,7 @@ assert Out.listed >= {'end\n', 'more\n'} | {'refused %d\n' % number for number i
 
 reaches = TABLES[0][1]
 sheet = plan_sheet(reaches, [0, 0, 0])
-kinds = [(3, 2, 17), (6, 2, 17), (9, 2, 17)]
+kinds = hung(3)
 gr = group('sheets: three basins, ' + letters(reaches), reaches)
 gr.case('read sheet', 3, sheet, p=3)
 gr.case('read sheet', 3, sheet, p=3, vary=kinds)
@@ -1445,7 +1501,7 @@ for place in range(len(sheet)):
     gr.case('read sheet', 3, sheet, vary=[('p', 5, 0), (place, 256, 0)], name='rooms of 0 to 4, each value at %d' % place)
 for n in range(5):
     records = [x for _ in range(n) for x in (17, 0, 0)]
-    gr.case('read sheet', 3, [16, 3, 0] + records + [9], p=4, vary=[(4 + 3 * i, 6, 0) for i in range(n)] + [(3 + 3 * i, 2, 17) for i in range(n)],
+    gr.case('read sheet', 3, [16, 3, 0] + records + [9], p=4, vary=[(4 + 3 * i, 6, 0) for i in range(n)] + hung(n),
             name='read sheet, %d records of reaches 0 to 5' % n)
 for place in (1, 4, 7, 10):
     gr.case('read sheet', 3, sheet, p=4, vary=[(place + 1, 256, 0), (place, 256, 0)], name='read sheet, each number at %d' % place)
@@ -1453,6 +1509,67 @@ for found in ([20] + mark_bytes(1 << 0 | 1 << 9) + [9], [21, 1, 0] + mark_bytes(
     gr.case('read sheet', 3, found, p=3, name='read a finding sheet')
 gr.case('write sheet', 3, [0, 0, 0, 0], vary=[('n', 5, 0), (0, 4, 0), (1, 4, 0), (2, 4, 0), (3, 4, 0), ('p', 4, 11)])
 gr.case('write sheet', 3, [0, 0, 0], vary=settings(3) + [('p', 16, 0)])
+
+
+# ---- two plan sheets laid side by side (document 02, item 5): all pairs of settings of networks with several plans
+
+def draw_choices(basins, gates):
+    """A new network with several plans, which are not all settings."""
+    while True:
+        reaches = draw_reaches(draw_ends(basins), gates, gates + NUMBERS.below(13 - gates))
+        if outcome(reaches) == 0 and 3 < len(network(reaches).plans) < 2 ** gates and are_new([(basins, reaches)]):
+            return reaches
+
+
+for basins, gates, _ in product(range(2, 7), (3, 4, 5), range(4)):
+    reaches = draw_choices(basins, gates)
+    all_pairs(group('side by side: %d basins, %s' % (basins, letters(reaches)), reaches), basins)
+
+served_at = {0: (G, 0, 1), 255: (G, 1, 2), 256: (G, 2, 0), 299: (G, 1, 0)}
+gr = group('side by side: gates 0, 255, 256 and 299 among shut reaches', [served_at.get(i, (SHUT + i % 3, i % 3, i % 4 % 3)) for i in range(300)])
+all_pairs(gr, 3)
+sheet = plan_sheet(gr.reaches, [0, 0, 0, 0])
+numbers = [(at + place, 2, lowest) for at in (0, len(sheet) + 1) for place, lowest in ((7, 254), (8, 0), (10, 0), (11, 0))]
+gr.case('compare', 3, vary=[(12, 2, 17), (29, 2, 17)] + numbers, name='compare, reach numbers changed', **beside(sheet, sheet))
+
+# sheets that are damaged, on either side and on both: cut, a byte too many, each value of each byte
+
+reaches = TABLES[0][1]
+sheet = plan_sheet(reaches, [0, 0, 0])
+end = len(sheet) + 1
+gr = group('side by side: three basins, ' + letters(reaches), reaches)
+all_pairs(gr, 3)
+gr.case('compare', 3, sheet, p=len(sheet), m=len(sheet), vary=hung(3), name='compare with itself')
+gr.case('compare', 3, vary=[(9, 2, 17), (end + 9, 2, 17), ('p', 15, 0), ('m', 15, 0)], name='compare, every cut', **beside(sheet, sheet))
+for place, (side, at, other, length) in product(range(len(sheet) + 1), (('first', 0, end, 'p'), ('second', end, 0, 'm'))):
+    gr.case('compare', 3, vary=[(other + 3, 2, 17), (length, 3, 12), (at + place, 256, 0)], mode=BRIEF if place < len(sheet) else QUIET,
+            name='each value at %d of the %s' % (place, side), **beside(sheet, sheet))
+damages = [v for at, length in ((0, 'p'), (end, 'm')) for v in ((at, 2, 16), (at + 1, 2, 2), (at + 9, 4, 16), (at + 12, 2, 8), (length, 3, 12))]
+gr.case('compare', 3, vary=damages, name='compare, both damaged', **beside(sheet, sheet))
+
+# each of these beside every part of all of them: two sheets of the network, those of others, findings, an end, a network file, none
+
+others = [sheet, plan_sheet(reaches, [1, 1, 1])] + [plan_sheet([(G, 0, 1)] * g, [0] * g) for g in (2, 3, 4)] + \
+    [[20] + mark_bytes(1) + [9], [21, 0, 0] + mark_bytes(6) + [9], [9], network_file(2, [(G, 0, 1)]), []]
+every = sum(others, [])
+for i, other in enumerate(others):
+    gr.case('compare', 3, other + every, p=len(other), limit=len(other), vary=[('limit', len(every), len(other)), ('m', 37, 0)], mode=QUIET,
+            name='sheet %d beside every part' % i)
+
+
+# the plans of each network beside each other; sheets that part at every gate, the first earlier and the second; refusals of either sheet and of both
+
+def came(least, *names):
+    return all(COMPARED[name] >= least for name in names)
+
+
+PARTS = [(g, i) for g in (3, 4, 5, 6) for i in range(g)]
+assert len(PAIRS) >= 13000 and len({(basins, reaches) for basins, reaches, one, other in PAIRS if one != other}) >= 90
+assert came(30, *('%d of %d gates, %d' % (i, g, earlier) for g, i in PARTS if g < 6 for earlier in (1, 2)))
+assert came(3, *('%d of %d gates, %d' % (i, g, earlier) for g, i in PARTS + [(1024, 0), (1024, 512), (1024, 1023)] for earlier in (1, 2)))
+assert came(1000, 'equal', 'refused 1, 1', 'refused 2, 2', 'refused 3, 3')
+assert came(500, *('refused %d, %d' % numbers for n in (4, 5, 6, 8) for numbers in ((n, 0), (0, n))))
+assert came(90, *('refused %d, %d' % numbers for numbers in product((4, 5, 6, 8), repeat=2)))
 
 
 def main():
@@ -1463,7 +1580,7 @@ def main():
         tables += g.table
     cases = [x for g, place in zip(GROUPS, places) for x in g.bytes(place)]
     file = bytes(two(sum(len(g.cases) for g in GROUPS)) + two((4 + len(tables)) // 4) + tables + cases)
-    assert len(file) <= 390000          # the program reads no more
+    assert len(file) <= 430000          # the program reads no more
     with open(os.path.join(here, 'stdin'), 'wb') as f:
         f.write(file)
     with open(os.path.join(here, 'stdout'), 'w') as f:

@@ -1,6 +1,7 @@
-// The public calls over rows, replayed from a file of cases. Of each call is printed what it replies and what it leaves in every lent buffer and in
-// two entries beyond. What is to be printed comes from make.py, which knows nothing of this code.
+// The public calls over rows, replayed from a file of cases. Of each call is printed what it replies, the part that it hands back, and what it leaves in
+// every lent buffer and in two entries beyond. What is to be printed comes from make.py, which knows nothing of this code.
 mod bounds;
+mod comparisons;
 mod contractions;
 mod files;
 mod plans;
@@ -38,6 +39,8 @@ const LIST: u8 = 12;
 const LIST_PLACED: u8 = 13;
 
 const CONTRACT: u8 = 14;
+
+const COMPARE: u8 = 15;
 
 // A case's bytes: the call; the basin count; the lengths of the three rows; those of two buffers; that of the data; how often to go on; where the
 // table stands, in steps of four bytes; the data, which is the table where that stands nowhere.
@@ -110,6 +113,7 @@ fn play_on(o: Out, c: &[u8], kinds: &[u8], a: &[u16], b: &[u16]) -> Out {
         LIST => files::list(o, s, room, n),
         LIST_PLACED => files::list(o, ks, room, n),
         CONTRACT => contract(o, c, ks, xs, ys),
+        COMPARE => comparisons::compare(o, c, ks, xs, ys, s),
         _ => write(o, c, ks, xs, ys, s),
     }
 }
@@ -235,7 +239,7 @@ fn play_cases(file: &[u8]) {
 }
 
 fn main() {
-    let mut cases = [0u8; 390000];
+    let mut cases = [0u8; 430000];
     let n = io::read_full(0, &mut cases);
     play_cases(&cases[..n]);
 }
