@@ -21,8 +21,8 @@ use Rattle.sheet_order.specs.Parts.{commonPrefix, recordPlace, differing
 use Rattle.sheet_order.specs.Calls.{Ordered, Compared}
 use Rattle.sheet_order.specs.Laws.{Exchanged, EqualExactly, SamePart, Shown, PartShown}
 use Rattle.sheet_order.proofs.Prefixes.{prefix-sym, prefix-shared}
-use Rattle.sheet_order.proofs.Sheets.{order-refl, order-exchanged, laid-equal, sheets-apart}
-use Rattle.sheet_order.proofs.Orders.{no-number, BothRead, read-order, both-laid, first-sheet, second-sheet, Told, told-refused, told-read, told, swapped, exchanged-first, gate-said, record-place}
+use Rattle.sheet_order.proofs.Sheets.{order-refl, order-exchanged, equal-settings, sheets-apart}
+use Rattle.sheet_order.proofs.Orders.{no-number, BothRead, read-order, both-alongside, first-sheet, second-sheet, Told, told-refused, told-read, told, swapped, exchanged-first, gate-said, record-place}
 
 -- ---- exchanged
 
@@ -43,7 +43,7 @@ exchange N f g p q =
 equal-same : (N : Network) (f g : List ℕ) → areBytes f ≡ true → areBytes g ≡ true → {o : Order} → Told N f g o → o ≡ Equal → f ≡ g
 equal-same N f g bf bg (told-refused r) e = absurd (true≢false (cc))
 equal-same N f g bf bg (told-read s t b) e =
-    first-sheet N f g b bf bg ∙ ap (sheetOf N) (laid-equal (both-laid N f g b) e) ∙ sym (second-sheet N f g b bf bg)
+    first-sheet N f g b bf bg ∙ ap (sheetOf N) (equal-settings (both-alongside N f g b) e) ∙ sym (second-sheet N f g b bf bg)
 
 says-once : {s t : List ℕ} → sheetSays s ≡ sheetSays t → s ≡ t
 says-once e = cc
@@ -68,7 +68,7 @@ shown :
     (N : Network) (f g : List ℕ) → areBytes f ≡ true → areBytes g ≡ true → {s t : List ℕ} → BothRead N f g s t → settingOrder s t ≡ First
     → {k : ℕ} → k ≡ commonPrefix s t → {part : List ℕ} → part ≡ drop (recordPlace k) f → Shown N f g part k
 shown N f g bf bg {s} {t} b e {k} q {part} h =
-    let a = sheets-apart (both-laid N f g b) e in
+    let a = sheets-apart (both-alongside N f g b) e in
     rw (h, q) (record {
       shared = subst (λ n. take n f ≡ take n g) (record-place N f g bf bg b e) (prefix-shared f g);
       whole = take-append-drop (recordPlace (commonPrefix s t)) f;

@@ -23,7 +23,7 @@ use Rattle.sheet_order.specs.Orders.{settingOrder, readingOrder, sheetOr
 use Rattle.sheet_order.specs.Parts.{commonPrefix, recordPlace, differingGate, differingRecord, PartFrom}
 use Rattle.sheet_order.specs.Calls.{Ordered, OrderedAt, Compared}
 use Rattle.sheet_order.proofs.Prefixes.{prefix-sym}
-use Rattle.sheet_order.proofs.Sheets.{order-exchanged, Laid, laid, order-sheets, sheets-apart}
+use Rattle.sheet_order.proofs.Sheets.{order-exchanged, Alongside, alongside, order-sheets, sheets-apart}
 
 settings-number : (s t : List ℕ) → orderNumber (settingOrder s t) ≡ 0
 settings-number s t = go (before s t) (before t s)
@@ -70,11 +70,11 @@ module _ (N : Network) (f g : List ℕ) where
     unfolding sheetOrder
     read-order = rw (b .first-says, b .second-says)
 
-    pub both-laid : Laid (gates N) s t
-    both-laid =
+    pub both-alongside : Alongside (gates N) s t
+    both-alongside =
         let p = read-is-plan N f s (b .first-says) in
         let q = read-is-plan N g t (b .second-says) in
-        laid (gates N) s t (plan-long N s p) (plan-long N t q) (plan-bits N s p) (plan-bits N t q)
+        alongside (gates N) s t (plan-long N s p) (plan-long N t q) (plan-bits N s p) (plan-bits N t q)
 
     module _ (bf : areBytes f ≡ true) (bg : areBytes g ≡ true) where
       pub first-sheet : f ≡ sheetOf N s
@@ -84,7 +84,7 @@ module _ (N : Network) (f g : List ℕ) where
       second-sheet = write-read N g t bg (b .second-says)
 
       pub bytes-order : settingOrder f g ≡ settingOrder s t
-      bytes-order = rw (first-sheet, second-sheet) (order-sheets both-laid)
+      bytes-order = rw (first-sheet, second-sheet) (order-sheets both-alongside)
 
   pub both-read : areBytes f ≡ true → areBytes g ≡ true → {s t : List ℕ} → BothRead N f g s t → {r : Order} → r ≡ settingOrder f g → Ordered N f g r
   both-read bf bg b q = ordered (q ∙ bytes-order b bf bg ∙ sym (read-order b))
@@ -118,7 +118,7 @@ gate-said b = rw (b .first-says, b .second-says)
 -- the earlier sheet first
 pub record-place : (N : Network) (f g : List ℕ) → areBytes f ≡ true → areBytes g ≡ true → {s t : List ℕ} → BothRead N f g s t → settingOrder s t ≡ First → commonPrefix f g ≡ recordPlace (commonPrefix s t)
 record-place N f g bf bg {s} {t} b e =
-    ap (λ x. commonPrefix x g) (first-sheet N f g b bf bg) ∙ ap (commonPrefix (sheetOf N s)) (second-sheet N f g b bf bg) ∙ sheets-apart (both-laid N f g b) e .place
+    ap (λ x. commonPrefix x g) (first-sheet N f g b bf bg) ∙ ap (commonPrefix (sheetOf N s)) (second-sheet N f g b bf bg) ∙ sheets-apart (both-alongside N f g b) e .place
 
 module _ (N : Network) (f g : List ℕ) (bf : areBytes f ≡ true) (bg : areBytes g ≡ true) where
   -- Where two sheets that are read differ, the first byte that differs is the first of the first differing record.

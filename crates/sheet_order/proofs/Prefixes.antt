@@ -32,14 +32,14 @@ none-right (x ∷ xs) = refl
 
 -- ---- the scan: the first i entries are the same
 
-pub record Alike (xs ys : List ℕ) (i : ℕ) : Type 0 where
+pub record CommonTo (xs ys : List ℕ) (i : ℕ) : Type 0 where
   pub within : i ≤ length xs
   pub rest : commonPrefix xs ys ≡ i + commonPrefix (drop i xs) (drop i ys)
 
-pub alike-start : (xs ys : List ℕ) → Alike xs ys 0
-alike-start xs ys = record { within = omega arith; rest = omega arith }
+pub common-start : (xs ys : List ℕ) → CommonTo xs ys 0
+common-start xs ys = record { within = omega arith; rest = omega arith }
 
-module _ {xs ys : List ℕ} {i : ℕ} (a : Alike xs ys i) where
+module _ {xs ys : List ℕ} {i : ℕ} (a : CommonTo xs ys i) where
   stops : commonPrefix (drop i xs) (drop i ys) ≡ 0 → i ≡ commonPrefix xs ys
   stops e = omega (arith, a .rest, e)
 
@@ -56,7 +56,7 @@ module _ {xs ys : List ℕ} {i : ℕ} (a : Alike xs ys i) where
     goes : eqb (getD xs i 0) (getD ys i 0) ≡ true → commonPrefix (drop i xs) (drop i ys) ≡ suc (commonPrefix (drop (suc i) xs) (drop (suc i) ys))
     goes e = rw (drop-cons xs i 0 l, drop-cons ys i 0 m, e)
 
-    pub goes-on : eqb (getD xs i 0) (getD ys i 0) ≡ true → Alike xs ys (i + 1)
+    pub goes-on : eqb (getD xs i 0) (getD ys i 0) ≡ true → CommonTo xs ys (i + 1)
     goes-on e = record { within = omega arith; rest = rw add-one (omega (arith, a .rest, goes e)) }
 
 -- ---- one entry more in front
@@ -78,12 +78,12 @@ order-both (w ∷ ws) xs ys = order-same w (ws ++ xs) (ws ++ ys) ∙ order-both 
 
 -- ---- the first entries of both: the same, or one is lower
 
-pub data Heads (x y : ℕ) : Type 0 where
+data Heads (x y : ℕ) : Type 0 where
   same : x ≡ y → Heads x y
   lower : x < y → Heads x y
   higher : y < x → Heads x y
 
-pub heads : (x y : ℕ) → Heads x y
+heads : (x y : ℕ) → Heads x y
 heads x y = go (ltb x y) refl (ltb y x) refl
   where
     go : (t : Bool) → ltb x y ≡ t → (u : Bool) → ltb y x ≡ u → Heads x y

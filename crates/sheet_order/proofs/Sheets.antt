@@ -37,11 +37,11 @@ order-exchanged s t = go (before s t) refl (before t s) refl
 
 -- ---- two settings of the gates with these numbers, gate by gate up to the first at which they differ
 
-pub data Laid : List ℕ → List ℕ → List ℕ → Type 0 where
-  ended : Laid [] [] []
-  alike : (i x : ℕ) {gs s t : List ℕ} → Laid gs s t → Laid (i ∷ gs) (x ∷ s) (x ∷ t)
-  drawn-first : (i : ℕ) (gs s t : List ℕ) → Laid (i ∷ gs) (0 ∷ s) (1 ∷ t)
-  turned-first : (i : ℕ) (gs s t : List ℕ) → Laid (i ∷ gs) (1 ∷ s) (0 ∷ t)
+pub data Alongside : List ℕ → List ℕ → List ℕ → Type 0 where
+  ended : Alongside [] [] []
+  alike : (i x : ℕ) {gs s t : List ℕ} → Alongside gs s t → Alongside (i ∷ gs) (x ∷ s) (x ∷ t)
+  drawn-first : (i : ℕ) (gs s t : List ℕ) → Alongside (i ∷ gs) (0 ∷ s) (1 ∷ t)
+  turned-first : (i : ℕ) (gs s t : List ℕ) → Alongside (i ∷ gs) (1 ∷ s) (0 ∷ t)
 
 -- a byte is 0 or 1
 data Bit : ℕ → Type 0 where
@@ -53,33 +53,33 @@ bit zero h = drawn
 bit (suc zero) h = turned
 bit (suc (suc x)) h = let l = leb-true (suc (suc x)) 1 h in absurd (omega (arith, l))
 
-laid-bits : (i : ℕ) (gs : List ℕ) {x y : ℕ} (s t : List ℕ) → Bit x → Bit y → Laid gs s t → Laid (i ∷ gs) (x ∷ s) (y ∷ t)
-laid-bits i gs s t drawn drawn l = alike i 0 l
-laid-bits i gs s t drawn turned l = drawn-first i gs s t
-laid-bits i gs s t turned drawn l = turned-first i gs s t
-laid-bits i gs s t turned turned l = alike i 1 l
+alongside-bits : (i : ℕ) (gs : List ℕ) {x y : ℕ} (s t : List ℕ) → Bit x → Bit y → Alongside gs s t → Alongside (i ∷ gs) (x ∷ s) (y ∷ t)
+alongside-bits i gs s t drawn drawn l = alike i 0 l
+alongside-bits i gs s t drawn turned l = drawn-first i gs s t
+alongside-bits i gs s t turned drawn l = turned-first i gs s t
+alongside-bits i gs s t turned turned l = alike i 1 l
 
-pub laid : (gs s t : List ℕ) → length s ≡ length gs → length t ≡ length gs → every (λ x. leb x 1) s ≡ true → every (λ x. leb x 1) t ≡ true → Laid gs s t
-laid [] [] [] ls lt bs bt = ended
-laid [] (x ∷ s) t ls lt bs bt = absurd (omega (arith, ls))
-laid [] [] (y ∷ t) ls lt bs bt = absurd (omega (arith, lt))
-laid (i ∷ gs) [] t ls lt bs bt = absurd (omega (arith, ls))
-laid (i ∷ gs) (x ∷ s) [] ls lt bs bt = absurd (omega (arith, lt))
-laid (i ∷ gs) (x ∷ s) (y ∷ t) ls lt bs bt =
-    laid-bits i gs s t (bit x (and-elim-left (leb x 1) _ bs)) (bit y (and-elim-left (leb y 1) _ bt))
-    (laid gs s t (omega (arith, ls)) (omega (arith, lt)) (and-elim-right (leb x 1) _ bs) (and-elim-right (leb y 1) _ bt))
+pub alongside : (gs s t : List ℕ) → length s ≡ length gs → length t ≡ length gs → every (λ x. leb x 1) s ≡ true → every (λ x. leb x 1) t ≡ true → Alongside gs s t
+alongside [] [] [] ls lt bs bt = ended
+alongside [] (x ∷ s) t ls lt bs bt = absurd (omega (arith, ls))
+alongside [] [] (y ∷ t) ls lt bs bt = absurd (omega (arith, lt))
+alongside (i ∷ gs) [] t ls lt bs bt = absurd (omega (arith, ls))
+alongside (i ∷ gs) (x ∷ s) [] ls lt bs bt = absurd (omega (arith, lt))
+alongside (i ∷ gs) (x ∷ s) (y ∷ t) ls lt bs bt =
+    alongside-bits i gs s t (bit x (and-elim-left (leb x 1) _ bs)) (bit y (and-elim-left (leb y 1) _ bt))
+    (alongside gs s t (omega (arith, ls)) (omega (arith, lt)) (and-elim-right (leb x 1) _ bs) (and-elim-right (leb y 1) _ bt))
 
 -- settings none of which is earlier are the same
-pub laid-equal : {gs s t : List ℕ} → Laid gs s t → settingOrder s t ≡ Equal → s ≡ t
-laid-equal ended e = refl
-laid-equal (alike i x {gs} {s} {t} l) e = ap (λ u. x ∷ u) (laid-equal l (sym (order-same x s t) ∙ e))
-laid-equal (drawn-first i gs s t) e = absurd (true≢false (cc))
-laid-equal (turned-first i gs s t) e = absurd (true≢false (cc))
+pub equal-settings : {gs s t : List ℕ} → Alongside gs s t → settingOrder s t ≡ Equal → s ≡ t
+equal-settings ended e = refl
+equal-settings (alike i x {gs} {s} {t} l) e = ap (λ u. x ∷ u) (equal-settings l (sym (order-same x s t) ∙ e))
+equal-settings (drawn-first i gs s t) e = absurd (true≢false (cc))
+equal-settings (turned-first i gs s t) e = absurd (true≢false (cc))
 
 -- ---- the records of both, with the same behind them
 
 module _ (tail : List ℕ) where
-  order-records : {gs s t : List ℕ} → Laid gs s t → settingOrder (gateRecords gs s ++ tail) (gateRecords gs t ++ tail) ≡ settingOrder s t
+  order-records : {gs s t : List ℕ} → Alongside gs s t → settingOrder (gateRecords gs s ++ tail) (gateRecords gs t ++ tail) ≡ settingOrder s t
   order-records ended = order-refl tail
   order-records (alike i x {gs} {s} {t} l) = order-both (gateRecord i x) (gateRecords gs s ++ tail) (gateRecords gs t ++ tail) ∙ order-records l ∙ sym (order-same x s t)
   order-records (drawn-first i gs s t) = refl
@@ -104,7 +104,7 @@ module _ (tail : List ℕ) where
         late = rw (n, p) (a .late);
       }
 
-  apart : {gs s t : List ℕ} → Laid gs s t → settingOrder s t ≡ First → Apart gs s t
+  apart : {gs s t : List ℕ} → Alongside gs s t → settingOrder s t ≡ First → Apart gs s t
   apart ended e = absurd (true≢false (cc))
   apart (alike i x {gs} {s} {t} l) e = apart-more i x (apart l (sym (order-same x s t) ∙ e))
   apart (drawn-first i gs s t) e = record { gate = omega arith; place = refl; early = refl; late = refl }
@@ -115,7 +115,7 @@ module _ (tail : List ℕ) where
 abbrev head : List ℕ → List ℕ
 head gs = planKind ∷ twoBytes (length gs)
 
-pub order-sheets : {gs s t : List ℕ} → Laid gs s t → settingOrder (planSheet gs s) (planSheet gs t) ≡ settingOrder s t
+pub order-sheets : {gs s t : List ℕ} → Alongside gs s t → settingOrder (planSheet gs s) (planSheet gs t) ≡ settingOrder s t
 order-sheets {gs} {s} {t} l = order-both (head gs) (sheetRecords gs s) (sheetRecords gs t) ∙ order-records (endKind ∷ []) l
 
 -- where the first is earlier
@@ -125,7 +125,7 @@ pub record SheetsApart (gs s t : List ℕ) : Type 0 where
   pub early : take 3 (drop (recordPlace (commonPrefix s t)) (planSheet gs s)) ≡ gateRecord (getD gs (commonPrefix s t) 0) 0
   pub late : take 3 (drop (recordPlace (commonPrefix s t)) (planSheet gs t)) ≡ gateRecord (getD gs (commonPrefix s t) 0) 1
 
-pub sheets-apart : {gs s t : List ℕ} → Laid gs s t → settingOrder s t ≡ First → SheetsApart gs s t
+pub sheets-apart : {gs s t : List ℕ} → Alongside gs s t → settingOrder s t ≡ First → SheetsApart gs s t
 sheets-apart {gs} {s} {t} l e =
     let a = apart (endKind ∷ []) l e in
     let n : recordPlace (commonPrefix s t) ≡ suc (suc (suc (3 * commonPrefix s t))) = omega arith in

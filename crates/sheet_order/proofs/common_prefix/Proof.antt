@@ -5,18 +5,18 @@ use native.Mathlib.Omega.{arith}
 use lib.ListN.{length}
 use borrow.Author.Needs.{needs}
 use borrow.Author.Tests.{eq-eqb, ne-eqb}
-use Rattle.sheet_order.proofs.Prefixes.{Alike, alike-start, ends-left, ends-right, ends-apart, goes-on}
+use Rattle.sheet_order.proofs.Prefixes.{CommonTo, common-start, ends-left, ends-right, ends-apart, goes-on}
 use Rattle.sheet_order.proofs.common_prefix.Statement.{statement}
 use Rattle.sheet_order.proofs.common_prefix.Tie as tie
 
 abbrev Inv-loop : tie.InvT-loop
-Inv-loop first second i₀ i = Alike first second i
+Inv-loop first second i₀ i = CommonTo first second i
 
 abbrev μ-loop : tie.MeasureT-loop
 μ-loop first second i₀ i = length first - i
 
 loop-holds : tie.Need-loop-holds Inv-loop μ-loop
-loop-holds c = alike-start _ _
+loop-holds c = common-start _ _
 
 returns : tie.Need-returns Inv-loop μ-loop
 returns c = ends-right (c .before .before .loop .inv) (c .if1 .taken)
