@@ -25,13 +25,14 @@ readingOrder (sheetSays s) (sheetSays t) = settingOrder s t
 unfoldable pub sheetOrder : Network → List ℕ → List ℕ → Order
 sheetOrder N f g = readingOrder (readSheet N f) (readSheet N g)
 
--- Document 01's number of the answer, 0 where both sheets are read; and the same of two readings, by the numbers of each.
+-- Document 01's number of the answer, 0 where both sheets are read.
 abbrev pub orderNumber : Order → ℕ
 orderNumber (Refused r) = refusalNumber r
 orderNumber Equal = 0
 orderNumber First = 0
 orderNumber Second = 0
 
+-- The same by the numbers of the two readings: "the first sheet's refusal before the second's".
 abbrev pub firstNumber : ℕ → ℕ → ℕ
 firstNumber zero n = n
 firstNumber (suc m) n = suc m
