@@ -78,7 +78,7 @@ read-write N s ok p = rw (ok, read-records (gates N) s (plan-long N s p) (plan-b
 no-setting {ℓ} : {A : Type ℓ} (r : Refusal) (s : List ℕ) → sheetRefused r ≡ sheetSays s → A
 no-setting r s e = absurd (true≢false (cc))
 
-read-inj : (s t : List ℕ) → sheetSays s ≡ sheetSays t → t ≡ s
+pub read-inj : (s t : List ℕ) → sheetSays s ≡ sheetSays t → t ≡ s
 read-inj s t e = cc
 
 end-is : (f s : List ℕ) → atSheetEnd f ≡ sheetSays s → (f ≡ []) × (s ≡ [])

@@ -11,8 +11,9 @@ use denote.Ref.{RefT, now}
 use borrow.Rule.Slice.PartAt.{part-to-end}
 use Rattle.network.specs.Networks.{Network}
 use Rattle.sheet_format.specs.Sheets.{sheetOf}
-use Rattle.sheet_format.specs.Readings.{sheetSays, readSheet}
+use Rattle.sheet_format.specs.Readings.{readSheet}
 use Rattle.sheet_format.specs.Answers.{settingRead}
+use Rattle.sheet_format.proofs.Sheets.{read-inj}
 use Rattle.sheet_order.specs.declared.Order.{Order}
 use Rattle.sheet_order.specs.declared.Order.the-variants.{Refused, Equal, First, Second}
 use Rattle.sheet_order.specs.declared.Parting.{Parting}
@@ -22,7 +23,7 @@ use Rattle.sheet_order.specs.Calls.{Ordered, Compared}
 use Rattle.sheet_order.specs.Laws.{Exchanged, EqualExactly, SamePart, Shown, PartShown}
 use Rattle.sheet_order.proofs.Prefixes.{prefix-sym, prefix-shared}
 use Rattle.sheet_order.proofs.Sheets.{order-refl, order-exchanged, equal-settings, sheets-apart}
-use Rattle.sheet_order.proofs.Orders.{no-number, BothRead, read-order, both-alongside, first-sheet, second-sheet, Told, told-refused, told-read, told, swapped, exchanged-first, gate-said, record-place}
+use Rattle.sheet_order.proofs.Orders.{no-number, BothRead, read-order, both-alongside, first-sheet, second-sheet, Told, told-refused, told-read, told-of, swapped, exchanged-first, gate-said, record-place}
 
 -- ---- exchanged
 
@@ -34,8 +35,8 @@ exchange-forth N f g (told-read s t b) z = read-order N g f (swapped b) ∙ orde
 pub exchange : (N : Network) (f g : List ℕ) {o o′ : Order} → Ordered N f g o → Ordered N g f o′ → Exchanged o o′
 exchange N f g p q =
     record {
-      forth = λ z. q .order ∙ exchange-forth N f g (subst (Told N f g) (sym (p .order)) (told N f g)) z;
-      back = λ z. p .order ∙ exchange-forth N g f (subst (Told N g f) (sym (q .order)) (told N g f)) z;
+      forth = λ z. q .order ∙ exchange-forth N f g (told-of p) z;
+      back = λ z. p .order ∙ exchange-forth N g f (told-of q) z;
     }
 
 -- ---- equal
@@ -45,20 +46,16 @@ equal-same N f g bf bg (told-refused r) e = absurd (true≢false (cc))
 equal-same N f g bf bg (told-read s t b) e =
     first-sheet N f g b bf bg ∙ ap (sheetOf N) (equal-settings (both-alongside N f g b) e) ∙ sym (second-sheet N f g b bf bg)
 
-says-once : {s t : List ℕ} → sheetSays s ≡ sheetSays t → s ≡ t
-says-once e = cc
-
 same-equal : (N : Network) (f : List ℕ) {o : Order} → Told N f f o → orderNumber o ≡ 0 → o ≡ Equal
 same-equal N f (told-refused r) z = no-number r z
-same-equal N f (told-read s t b) z = ap (settingOrder s) (says-once (sym (b .second-says) ∙ b .first-says)) ∙ order-refl s
+same-equal N f (told-read s t b) z = ap (settingOrder s) (read-inj s t (sym (b .first-says) ∙ b .second-says)) ∙ order-refl s
 
 -- Two sheets that are read are equal exactly if they are the same bytes.
 pub equal-exactly : (N : Network) (f g : List ℕ) → areBytes f ≡ true → areBytes g ≡ true → {o : Order} → Ordered N f g o → EqualExactly f g o
 equal-exactly N f g bf bg {o} p =
-    let w : Told N f g o = subst (Told N f g) (sym (p .order)) (told N f g) in
     record {
-      same = equal-same N f g bf bg w;
-      equal = λ z e. same-equal N f (subst (λ x. Told N f x o) (sym e) w) z;
+      same = equal-same N f g bf bg (told-of p);
+      equal = λ z e. same-equal N f (subst (λ x. Told N f x o) (sym e) (told-of p)) z;
     }
 
 -- ---- the part
@@ -100,7 +97,7 @@ pub part-shown :
     (N : Network) (first second : RefT (List ℕ)) → areBytes (now first) ≡ true → areBytes (now second) ≡ true → {x : Parting} → Compared N first second x
     → PartShown N (now first) (now second) (x .order) (now (x .part))
 part-shown N first second bf bg {x} c =
-    part-told N first second (x .part) bf bg (subst (Told N (now first) (now second)) (sym (c .ordered .order)) (told N (now first) (now second))) (c .part)
+    part-told N first second (x .part) bf bg (told-of (c .ordered)) (c .part)
 
 -- ---- exchanged, the same part
 

@@ -95,7 +95,7 @@ pub data Told (N : Network) (f g : List ℕ) : Order → Type 0 where
   told-refused : (r : Refusal) → Told N f g (Refused r)
   told-read : (s t : List ℕ) → BothRead N f g s t → Told N f g (settingOrder s t)
 
-pub told : (N : Network) (f g : List ℕ) → Told N f g (sheetOrder N f g)
+told : (N : Network) (f g : List ℕ) → Told N f g (sheetOrder N f g)
 unfolding sheetOrder
 told N f g = go (readSheet N f) refl (readSheet N g) refl
   where
@@ -103,6 +103,9 @@ told N f g = go (readSheet N f) refl (readSheet N g) refl
     go (sheetRefused r) e y h = told-refused r
     go (sheetSays s) e (sheetRefused r) h = told-refused r
     go (sheetSays s) e (sheetSays t) h = told-read s t (record { first-says = e; second-says = h })
+
+pub told-of : {N : Network} {f g : List ℕ} {o : Order} → Ordered N f g o → Told N f g o
+told-of {N} {f} {g} p = subst (Told N f g) (sym (p .order)) (told N f g)
 
 -- ---- where the part begins
 
@@ -141,9 +144,9 @@ module _ (N : Network) (f g : List ℕ) (bf : areBytes f ≡ true) (bg : areByte
   place-told (told-read s t b) d = place-read b (settingOrder s t) refl d
 
   pub ordered-at : {r : Order} → Ordered N f g r → OrderedAt N f g r
-  ordered-at o = record { ordered = o; place = place-told (subst (Told N f g) (sym (o .order)) (told N f g)) }
+  ordered-at o = record { ordered = o; place = place-told (told-of o) }
 
--- The order of two lent sheets, and the part from the first byte that differs: the reply.
+-- a part from one place is one from another, where that is the same in sheets that differ
 part-moved :
     {k k′ : ℕ} (first second r : RefT (List ℕ)) (o : Order) → (differ o ≡ true → k ≡ k′) → PartFrom k o first second r → PartFrom k′ o first second r
 part-moved first second r (Refused x) e p = p
@@ -151,6 +154,7 @@ part-moved first second r Equal e p = p
 part-moved first second r First e p = subst (λ k. PartFrom k First first second r) (e refl) p
 part-moved first second r Second e p = subst (λ k. PartFrom k Second first second r) (e refl) p
 
+-- The order of two lent sheets, and the part from the first byte that differs: the reply.
 pub compared :
     (N : Network) (first second : RefT (List ℕ)) {o : Order} {r : RefT (List ℕ)} → OrderedAt N (now first) (now second) o
     → PartFrom (commonPrefix (now first) (now second)) o first second r → Compared N first second (record { order = o; part = r })
