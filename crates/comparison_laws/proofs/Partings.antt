@@ -26,10 +26,10 @@ pub of-two :
     (N : Network) (first second : RefT (List ℕ)) → areBytes (now first) ≡ true → areBytes (now second) ≡ true → {x : Parting} → Compared N first second x
     → PartOfTwo N first second (x .part)
 of-two N first second bf bg {x} c =
-    let both =
-    subst (λ o. PartFrom (differingRecord N (now first) (now second)) o first second (x .part) × PartShown N (now first) (now second) o (now (x .part)))
-    (c .ordered .order) (c .part, part-shown N first second bf bg c) in
-    record { part = both .0; says = both .1 }
+    record {
+      part = subst (λ o. PartFrom (differingRecord N (now first) (now second)) o first second (x .part)) (c .ordered .order) (c .part);
+      says = subst (λ o. PartShown N (now first) (now second) o (now (x .part))) (c .ordered .order) (part-shown N first second bf bg c);
+    }
 
 pub of-exchanged : (N : Network) (first second : RefT (List ℕ)) {y : Parting} → Compared N second first y → PartOfExchanged N first second (y .part)
 of-exchanged N first second c d = part-exchanged N first second c (ordered N (now first) (now second) refl) d
