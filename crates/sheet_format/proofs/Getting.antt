@@ -38,8 +38,13 @@ stored-of (sheetSays s) n held h b =
     let size : n ≡ length s = cc in
     record { fits = omega (arith, ap length b, length-take (length s) held, size); is = ap sheetSays (sym (rw size b)) }
 
-pub stored : {x : SheetReading} {n : ℕ} {held : List ℕ} → Held x (Read n) held → Stored x n held
-stored {x} {n} {held} h = stored-of x n held (h .answer) (h .bytes)
+-- what is read where the answer is known: a refusal, or a setting
+module _ {x : SheetReading} {a : SheetAnswer} {held : List ℕ} (h : Held x a held) where
+  pub refuses : {r : Refusal} → a ≡ Refused r → x ≡ sheetRefused r
+  refuses {r} e = refused-is x r (sym e ∙ h .answer)
+
+  pub stored : {n : ℕ} → a ≡ Read n → Stored x n held
+  stored {n} e = stored-of x n held (sym e ∙ h .answer) (h .bytes)
 
 -- it stands there still once it is judged
 still-held :
@@ -59,12 +64,12 @@ module _ (N : Network) (f : List ℕ) where
     unfolding readSheet
     sheet-is = rw (ok, e)
 
-    pub held-torn : {r : Refusal} {held : List ℕ} → Held (readRecords gs f) (Refused r) held → Held (readSheet N f) (Refused r) held
-    held-torn {r} {held} h = held-refused r held (sheet-is ∙ ap (ifPlan N) (refused-is (readRecords gs f) r (h .answer)))
+    module _ {a : SheetAnswer} {held : List ℕ} (h : Held (readRecords gs f) a held) where
+      pub held-torn : {r : Refusal} → a ≡ Refused r → Held (readSheet N f) (Refused r) held
+      held-torn {r} d = held-refused r held (sheet-is ∙ ap (ifPlan N) (refuses h d))
 
-    pub held-judged :
-        {n : ℕ} {held : List ℕ} → Held (readRecords gs f) (Read n) held → {r : SheetAnswer} → PlanJudged N (take n held) r → Held (readSheet N f) r held
-    held-judged {n} {held} h j = rw (sheet-is, stored h .is) (still-held (isPlan N (take n held)) (stored h .fits) (rw ok at j))
+      pub held-judged : {n : ℕ} → a ≡ Read n → {r : SheetAnswer} → PlanJudged N (take n held) r → Held (readSheet N f) r held
+      held-judged {n} d j = rw (sheet-is, stored h d .is) (still-held (isPlan N (take n held)) (stored h d .fits) (rw ok at j))
 
 -- ---- what is left in the buffer
 
@@ -85,11 +90,11 @@ module _ (s setting : List ℕ) where
       })
 
 -- a sheet, by what the working memory holds
-module _ {x : SheetReading} (setting : List ℕ) where
-  pub got-none : {r : Refusal} {held : List ℕ} → Held x (Refused r) held → Got (sheetWithRoom (length setting) x) setting (Refused r) setting
-  got-none {r} h = got-refused setting r (ap (sheetWithRoom (length setting)) (refused-is x r (h .answer)))
+module _ {x : SheetReading} (setting : List ℕ) {a : SheetAnswer} {held : List ℕ} (h : Held x a held) where
+  pub got-none : {r : Refusal} → a ≡ Refused r → Got (sheetWithRoom (length setting) x) setting (Refused r) setting
+  got-none {r} e = got-refused setting r (ap (sheetWithRoom (length setting)) (refuses h e))
 
   pub got-held :
-      {n : ℕ} {held : List ℕ} → Held x (Read n) held → {r : SheetAnswer} {setting′ : List ℕ}
-      → Got (sheetWithRoom (length setting) (sheetSays (take n held))) setting r setting′ → Got (sheetWithRoom (length setting) x) setting r setting′
-  got-held h {r} {setting′} = subst (λ y. Got (sheetWithRoom (length setting) y) setting r setting′) (sym (stored h .is))
+      {n : ℕ} → a ≡ Read n → {r : SheetAnswer} {setting′ : List ℕ} → Got (sheetWithRoom (length setting) (sheetSays (take n held))) setting r setting′
+      → Got (sheetWithRoom (length setting) x) setting r setting′
+  got-held e {r} {setting′} = subst (λ y. Got (sheetWithRoom (length setting) y) setting r setting′) (sym (stored h e .is))

@@ -1,13 +1,10 @@
 -- `comparison::order_in` meets its contract: the first sheet is read and judged, then the second, and their bytes tell the order.
 -- Assumes nothing.
-use mathlib.Core.Path.{subst}
 use borrow.Author.Needs.{needs}
 use Rattle.network.specs.Networks.{Network}
 use Rattle.tables.specs.Rows.{netOf}
 use Rattle.file_records.proofs.Records.{bytes-make}
-use Rattle.sheet_format.specs.Readings.{readSheet}
-use Rattle.sheet_format.specs.Answers.{Held}
-use Rattle.sheet_format.proofs.Getting.{refused-is, stored}
+use Rattle.sheet_format.proofs.Getting.{refuses, stored}
 use Rattle.sheet_order.proofs.Orders.{refused-first, refused-second, both-read}
 use Rattle.comparison.proofs.order_in.Statement.{statement}
 use Rattle.comparison.proofs.order_in.Tie as tie
@@ -28,9 +25,7 @@ same-length c = search needs
 returns : tie.Need-returns
 returns c =
     let s = c .before .before .before .before .before .before .before .before .before .before .before .before .before in
-    let h = c .before .before .before .before .before .read-plan in
-    refused-first (net s) (s .args .first .now) (s .args .second .now)
-    (refused-is _ _ (subst (λ r. Held (readSheet (net s) (s .args .first .now)) r (h .last .1 .1 .1 .1 .1 .0)) (c .before .r .given .1) (h .ensures) .answer))
+    refused-first (net s) (s .args .first .now) (s .args .second .now) (refuses (c .before .before .before .before .before .read-plan .ensures) (c .before .r .given .1))
 
 enum-told : tie.Need-enum-told
 enum-told c = search needs
@@ -47,11 +42,8 @@ same-length-2 c = search needs
 returns-2 : tie.Need-returns-2
 returns-2 c =
     let s = c .before .before .before .before .before .before .before .before .before .before .before .before .before .before .before .before .before .before .before in
-    let h = c .before .before .before .before .before .before .before .before .before .before .before .read-plan in
-    let k = c .before .before .before .before .before .read-plan2 in
     refused-second (net s) (s .args .first .now) (s .args .second .now)
-    (stored (subst (λ r. Held (readSheet (net s) (s .args .first .now)) r (h .last .1 .1 .1 .1 .1 .0)) (c .before .before .before .before .before .before .before .enum-told .given .1) (h .ensures)) .is)
-    (refused-is _ _ (subst (λ r. Held (readSheet (net s) (s .args .second .now)) r (k .last .1 .1 .1 .1 .1 .0)) (c .before .r2 .given .1) (k .ensures) .answer))
+    (stored (c .before .before .before .before .before .before .before .before .before .before .before .read-plan .ensures) (c .before .before .before .before .before .before .before .enum-told .given .1) .is) (refuses (c .before .before .before .before .before .read-plan2 .ensures) (c .before .r2 .given .1))
 
 enum-told-2 : tie.Need-enum-told-2
 enum-told-2 c = search needs
@@ -65,13 +57,12 @@ same-length-3 c = search needs
 returns-3 : tie.Need-returns-3
 returns-3 c =
     let s = c .before .before .before .before .before .before .before .before .before .before .before .before .before .before .before .before .before .before .before in
-    let h = c .before .before .before .before .before .before .before .before .before .before .before .read-plan in
-    let k = c .before .before .before .before .before .read-plan2 in
     both-read (net s) (s .args .first .now) (s .args .second .now)
-    (bytes-make (s .args .first .now) (λ i. c .before .before .before .before .before .before .before .before .before .before .before .before .before .before .before .shared-slice-known4 .given i .fits)) (bytes-make (s .args .second .now) (λ i. c .before .before .before .before .before .before .before .before .before .before .before .before .before .before .shared-slice-known5 .given i .fits))
+    (bytes-make (s .args .first .now) (λ i. c .before .before .before .before .before .before .before .before .before .before .before .before .before .before .before .shared-slice-known4 .given i .fits))
+    (bytes-make (s .args .second .now) (λ i. c .before .before .before .before .before .before .before .before .before .before .before .before .before .before .shared-slice-known5 .given i .fits))
     (record {
-      first-says = stored (subst (λ r. Held (readSheet (net s) (s .args .first .now)) r (h .last .1 .1 .1 .1 .1 .0)) (c .before .before .before .before .before .before .before .enum-told .given .1) (h .ensures)) .is;
-      second-says = stored (subst (λ r. Held (readSheet (net s) (s .args .second .now)) r (k .last .1 .1 .1 .1 .1 .0)) (c .before .enum-told2 .given .1) (k .ensures)) .is;
+      first-says = stored (c .before .before .before .before .before .before .before .before .before .before .before .read-plan .ensures) (c .before .before .before .before .before .before .before .enum-told .given .1) .is;
+      second-says = stored (c .before .before .before .before .before .read-plan2 .ensures) (c .before .enum-told2 .given .1) .is;
     })
     (c .order-of .ensures)
 

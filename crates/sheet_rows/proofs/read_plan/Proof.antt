@@ -1,7 +1,7 @@
 -- `sheet_rows::read_plan` meets its contract: the table, the whole sheet into the working memory, and then the planner's check.
 -- Assumes nothing.
 use native.Mathlib.Omega.{arith}
-use mathlib.Core.Path.{sym, subst, _∙_}
+use mathlib.Core.Path.{sym, _∙_}
 use lib.ListN.{take}
 use lib.Seq.{length-take-le}
 use borrow.Author.Needs.{needs}
@@ -9,11 +9,6 @@ use Rattle.network.specs.Networks.{Network, Accepted, tableFault}
 use Rattle.network.proofs.Networks.{accepted}
 use Rattle.tables.specs.Rows.{netOf}
 use Rattle.tables.proofs.Faults.{answer-refused, answer-accepted}
-use Rattle.sheet_format.specs.declared.SheetAnswer.{SheetAnswer}
-use Rattle.sheet_format.specs.declared.SheetAnswer.the-variants.{Read}
-use Rattle.sheet_format.specs.Readings.{readRecords}
-use Rattle.sheet_format.specs.Rows.{gatesRow}
-use Rattle.sheet_format.specs.Answers.{Held}
 use Rattle.sheet_format.proofs.Gates.{gates-few}
 use Rattle.tables.proofs.Cuts.{cut-kinds}
 use Rattle.sheet_format.proofs.Puts.{cut-gates}
@@ -28,15 +23,6 @@ net c = let s = c .args in netOf (s .basins) (s .kinds .now) (s .a .now) (s .b .
 -- after the check the table is accepted
 sound : (c : tie.After-enum-told) → Accepted (net (c .before .before .before .before .before .before .before .before))
 sound c = answer-accepted (tableFault (net (c .before .before .before .before .before .before .before .before))) (sym (c .before .before .table-check .ensures .answer) ∙ c .enum-told .given .1)
-
--- what is held where the answer is r, and where a count was read
-abbrev HeldAs : tie.After-read-records → SheetAnswer → Type 0
-HeldAs c r =
-    let s = c .before .before .before .before .before .before .before .before .before .before .before .before .args in
-    Held (readRecords (gatesRow 0 (take (c .before .before .before .row-count .result) (s .kinds .now))) (s .sheet .now)) r (c .read-records .last .1 .1 .0)
-
-was-read : (c : tie.After-n) → HeldAs (c .before .before .before .before) (Read (c .n .given .0 .0))
-was-read c = subst (HeldAs (c .before .before .before .before)) (c .n .given .1) (c .before .before .before .before .read-records .ensures)
 
 table-check-requires : tie.Need-table-check-requires
 table-check-requires c κs = tt
@@ -82,10 +68,10 @@ enum-known-n : tie.Need-enum-known-n
 enum-known-n c = search needs
 
 slice-reshare-prefix-judge-plan : tie.Need-slice-reshare-prefix-judge-plan
-slice-reshare-prefix-judge-plan c = stored (was-read (c .before)) .fits
+slice-reshare-prefix-judge-plan c = stored (c .before .before .before .before .before .read-records .ensures) (c .before .n .given .1) .fits
 
 slice-aggregate-judge-plan : tie.Need-slice-aggregate-judge-plan
-slice-aggregate-judge-plan c = sym (length-take-le _ _ (stored (was-read (c .before .before)) .fits))
+slice-aggregate-judge-plan c = sym (length-take-le _ _ (stored (c .before .before .before .before .before .before .read-records .ensures) (c .before .before .n .given .1) .fits))
 
 judge-plan-requires : tie.Need-judge-plan-requires
 judge-plan-requires c κs = tt
@@ -97,9 +83,8 @@ returns-2 : tie.Need-returns-2
 returns-2 c =
     let s = c .before .before .before .before .before .before .before .before .before .before .before .before .before .before .before .before .before in
     let count = c .before .before .before .before .before .before .before .before .row-count in
-    let k = c .before .before .before .before .before in
     held-torn (net s) (s .args .sheet .now) (sound (c .before .before .before .before .before .before .before .before .before)) (cut-gates (s .args .kinds .now) (s .args .a .now) (s .args .b .now) (count .result) (count .ensures))
-    (subst (HeldAs k) (c .before .r2 .given .1) (k .read-records .ensures))
+    (c .before .before .before .before .before .read-records .ensures) (c .before .r2 .given .1)
 
 same-length-2 : tie.Need-same-length-2
 same-length-2 c = search needs
@@ -109,7 +94,7 @@ returns-3 c =
     let s = c .before .before .before .before .before .before .before .before .before .before .before .before .before .before .before .before .before .before .before in
     let count = c .before .before .before .before .before .before .before .before .before .before .row-count in
     held-judged (net s) (s .args .sheet .now) (sound (c .before .before .before .before .before .before .before .before .before .before .before)) (cut-gates (s .args .kinds .now) (s .args .a .now) (s .args .b .now) (count .result) (count .ensures))
-    (was-read (c .before .before .before)) (c .judge-plan .ensures)
+    (c .before .before .before .before .before .before .before .read-records .ensures) (c .before .before .before .n .given .1) (c .judge-plan .ensures)
 
 pub read-plan-spec : {M : Type 1} → statement M
 read-plan-spec =
