@@ -23,12 +23,12 @@ pub record Comparison : Type 0 where
   pub order : Order
   pub bytes : List ℕ
 
-abbrev pub bytesLaid : Network → List ℕ → List ℕ → Order → List ℕ → Comparison
-bytesLaid N f g o b = record { network = N; first = f; second = g; order = o; bytes = b }
+abbrev pub ofSheets : Network → List ℕ → List ℕ → Order → List ℕ → Comparison
+ofSheets N f g o b = record { network = N; first = f; second = g; order = o; bytes = b }
 
 -- The same of the sheets of two settings.
-abbrev pub plansLaid : Network → List ℕ → List ℕ → Order → List ℕ → Comparison
-plansLaid N s t o b = bytesLaid N (sheetOf N s) (sheetOf N t) o b
+abbrev pub ofSettings : Network → List ℕ → List ℕ → Order → List ℕ → Comparison
+ofSettings N s t o b = ofSheets N (sheetOf N s) (sheetOf N t) o b
 
 -- The bytes of the part, where the sheets differ from byte k on.
 abbrev pub partBytes : ℕ → Order → List ℕ → List ℕ → List ℕ
@@ -57,28 +57,29 @@ apart = net 1 (G 0 0 ∷ T 0 0 ∷ shutReach (G 0 0) ∷ G 0 0 ∷ [])
 abbrev pub comparisons : List Comparison
 comparisons =
     -- Case 3: "which is earlier, or that they are equal", and the part "from the first differing record to that sheet's end".
-    bytesLaid case3 earlier later First (17 ∷ 0 ∷ 0 ∷ 18 ∷ 1 ∷ 0 ∷ 9 ∷ []) ∷
-    bytesLaid case3 later earlier Second (17 ∷ 0 ∷ 0 ∷ 18 ∷ 1 ∷ 0 ∷ 9 ∷ []) ∷
-    bytesLaid case3 earlier earlier Equal [] ∷ bytesLaid case3 later later Equal [] ∷
+    ofSheets case3 earlier later First (17 ∷ 0 ∷ 0 ∷ 18 ∷ 1 ∷ 0 ∷ 9 ∷ []) ∷
+    ofSheets case3 later earlier Second (17 ∷ 0 ∷ 0 ∷ 18 ∷ 1 ∷ 0 ∷ 9 ∷ []) ∷
+    ofSheets case3 earlier earlier Equal [] ∷ ofSheets case3 later later Equal [] ∷
     -- Cases 1, 4, 6 and 8 have one plan each, 7 and 9 two; 2, 5, 10 and 11 have none, and every sheet is refused.
-    plansLaid (net 1 []) [] [] Equal [] ∷ plansLaid (net 2 (T 0 1 ∷ [])) [] [] Equal [] ∷ plansLaid (net 2 []) [] [] Equal [] ∷
-    plansLaid (net 2 (F 1 0 ∷ G 0 1 ∷ [])) (0 ∷ []) (0 ∷ []) Equal [] ∷
-    plansLaid (net 3 (G 0 1 ∷ G 1 2 ∷ G 2 0 ∷ [])) (0 ∷ 0 ∷ 0 ∷ []) (1 ∷ 1 ∷ 1 ∷ []) First (17 ∷ 0 ∷ 0 ∷ 17 ∷ 1 ∷ 0 ∷ 17 ∷ 2 ∷ 0 ∷ 9 ∷ []) ∷
-    plansLaid (net 1 (G 0 0 ∷ [])) (1 ∷ []) (0 ∷ []) Second (17 ∷ 0 ∷ 0 ∷ 9 ∷ []) ∷
-    plansLaid (net 2 (G 0 1 ∷ [])) (0 ∷ []) (1 ∷ []) (Refused BadSetting) [] ∷ plansLaid (net 2 (F 0 1 ∷ [])) [] [] (Refused BadSetting) [] ∷
-    plansLaid (net 3 (G 0 1 ∷ T 1 2 ∷ [])) (0 ∷ []) (0 ∷ []) (Refused BadSetting) [] ∷ plansLaid (net 3 (F 0 1 ∷ G 1 2 ∷ [])) (0 ∷ []) (1 ∷ []) (Refused BadSetting) [] ∷
+    ofSettings (net 1 []) [] [] Equal [] ∷ ofSettings (net 2 (T 0 1 ∷ [])) [] [] Equal [] ∷ ofSettings (net 2 []) [] [] Equal [] ∷
+    ofSettings (net 2 (F 1 0 ∷ G 0 1 ∷ [])) (0 ∷ []) (0 ∷ []) Equal [] ∷
+    ofSettings (net 3 (G 0 1 ∷ G 1 2 ∷ G 2 0 ∷ [])) (0 ∷ 0 ∷ 0 ∷ []) (1 ∷ 1 ∷ 1 ∷ []) First (17 ∷ 0 ∷ 0 ∷ 17 ∷ 1 ∷ 0 ∷ 17 ∷ 2 ∷ 0 ∷ 9 ∷ []) ∷
+    ofSettings (net 1 (G 0 0 ∷ [])) (1 ∷ []) (0 ∷ []) Second (17 ∷ 0 ∷ 0 ∷ 9 ∷ []) ∷
+    ofSettings (net 2 (G 0 1 ∷ [])) (0 ∷ []) (1 ∷ []) (Refused BadSetting) [] ∷ ofSettings (net 2 (F 0 1 ∷ [])) [] [] (Refused BadSetting) [] ∷
+    ofSettings (net 3 (G 0 1 ∷ T 1 2 ∷ [])) (0 ∷ []) (0 ∷ []) (Refused BadSetting) [] ∷
+    ofSettings (net 3 (F 0 1 ∷ G 1 2 ∷ [])) (0 ∷ []) (1 ∷ []) (Refused BadSetting) [] ∷
     -- They part at the last gate, at one between, and at the first although the later gates are as drawn on the later sheet.
-    plansLaid loops (0 ∷ 1 ∷ 0 ∷ []) (0 ∷ 1 ∷ 1 ∷ []) First (17 ∷ 2 ∷ 0 ∷ 9 ∷ []) ∷
-    plansLaid loops (1 ∷ 1 ∷ 0 ∷ []) (1 ∷ 0 ∷ 1 ∷ []) Second (17 ∷ 1 ∷ 0 ∷ 18 ∷ 2 ∷ 0 ∷ 9 ∷ []) ∷
-    plansLaid loops (0 ∷ 1 ∷ 1 ∷ []) (1 ∷ 0 ∷ 0 ∷ []) First (17 ∷ 0 ∷ 0 ∷ 18 ∷ 1 ∷ 0 ∷ 18 ∷ 2 ∷ 0 ∷ 9 ∷ []) ∷
+    ofSettings loops (0 ∷ 1 ∷ 0 ∷ []) (0 ∷ 1 ∷ 1 ∷ []) First (17 ∷ 2 ∷ 0 ∷ 9 ∷ []) ∷
+    ofSettings loops (1 ∷ 1 ∷ 0 ∷ []) (1 ∷ 0 ∷ 1 ∷ []) Second (17 ∷ 1 ∷ 0 ∷ 18 ∷ 2 ∷ 0 ∷ 9 ∷ []) ∷
+    ofSettings loops (0 ∷ 1 ∷ 1 ∷ []) (1 ∷ 0 ∷ 0 ∷ []) First (17 ∷ 0 ∷ 0 ∷ 18 ∷ 1 ∷ 0 ∷ 18 ∷ 2 ∷ 0 ∷ 9 ∷ []) ∷
     -- The place goes by the gated reaches, not by all: reach 3 is the second gate.
-    plansLaid apart (1 ∷ 1 ∷ []) (1 ∷ 0 ∷ []) Second (17 ∷ 3 ∷ 0 ∷ 9 ∷ []) ∷
+    ofSettings apart (1 ∷ 1 ∷ []) (1 ∷ 0 ∷ []) Second (17 ∷ 3 ∷ 0 ∷ 9 ∷ []) ∷
     -- "The first sheet's refusal before the second's", each "read in full"; the table comes before both.
-    bytesLaid case3 [] (17 ∷ []) (Refused Truncated) [] ∷ bytesLaid case3 (17 ∷ []) [] (Refused UnknownKind) [] ∷
-    bytesLaid case3 earlier (17 ∷ []) (Refused UnknownKind) [] ∷ bytesLaid case3 noPlan [] (Refused BadSetting) [] ∷
-    bytesLaid case3 later noPlan (Refused BadSetting) [] ∷ bytesLaid case3 (16 ∷ 3 ∷ 0 ∷ []) [] (Refused BadSetting) [] ∷
-    bytesLaid case3 earlier (16 ∷ 2 ∷ 0 ∷ 17 ∷ 0 ∷ 0 ∷ 18 ∷ 1 ∷ 0 ∷ 9 ∷ 9 ∷ []) (Refused TrailingBytes) [] ∷
-    bytesLaid (net 0 []) [] (17 ∷ []) (Refused BasinCount) [] ∷ bytesLaid (net 2 (G 0 2 ∷ [])) [] (17 ∷ []) (Refused EndOutOfRange) [] ∷ []
+    ofSheets case3 [] (17 ∷ []) (Refused Truncated) [] ∷ ofSheets case3 (17 ∷ []) [] (Refused UnknownKind) [] ∷
+    ofSheets case3 earlier (17 ∷ []) (Refused UnknownKind) [] ∷ ofSheets case3 noPlan [] (Refused BadSetting) [] ∷
+    ofSheets case3 later noPlan (Refused BadSetting) [] ∷ ofSheets case3 (16 ∷ 3 ∷ 0 ∷ []) [] (Refused BadSetting) [] ∷
+    ofSheets case3 earlier (16 ∷ 2 ∷ 0 ∷ 17 ∷ 0 ∷ 0 ∷ 18 ∷ 1 ∷ 0 ∷ 9 ∷ 9 ∷ []) (Refused TrailingBytes) [] ∷
+    ofSheets (net 0 []) [] (17 ∷ []) (Refused BasinCount) [] ∷ ofSheets (net 2 (G 0 2 ∷ [])) [] (17 ∷ []) (Refused EndOutOfRange) [] ∷ []
 
 -- They hold.
 abbrev pub ComparisonHolds : Comparison → Type 0
