@@ -83,7 +83,7 @@ module _ (N : Network) (f g : List ℕ) where
       pub second-sheet : g ≡ sheetOf N t
       second-sheet = write-read N g t bg (b .second-says)
 
-      pub bytes-order : settingOrder f g ≡ settingOrder s t
+      bytes-order : settingOrder f g ≡ settingOrder s t
       bytes-order = rw (first-sheet, second-sheet) (order-sheets both-alongside)
 
   pub both-read : areBytes f ≡ true → areBytes g ≡ true → {s t : List ℕ} → BothRead N f g s t → {r : Order} → r ≡ settingOrder f g → Ordered N f g r

@@ -95,10 +95,10 @@ module _ (x y : ℕ) (xs ys : List ℕ) where
   prefix-apart : (x ≡ y → ⊥) → commonPrefix (x ∷ xs) (y ∷ ys) ≡ 0
   prefix-apart h = rw (ne-eqb x y h)
 
-  pub order-lower : x < y → settingOrder (x ∷ xs) (y ∷ ys) ≡ First
+  order-lower : x < y → settingOrder (x ∷ xs) (y ∷ ys) ≡ First
   order-lower l = rw (lt-ltb x y l)
 
-  pub order-higher : y < x → settingOrder (x ∷ xs) (y ∷ ys) ≡ Second
+  order-higher : y < x → settingOrder (x ∷ xs) (y ∷ ys) ≡ Second
   order-higher l = rw (le-ltb x y (omega (arith, l)), ne-eqb x y (λ e. omega (arith, l, e)), lt-ltb y x l)
 
 -- ---- what is shared is the same, and as long from either row
@@ -145,7 +145,7 @@ order-ended (x ∷ xs) (y ∷ ys) h = go (heads x y) (order-ended xs ys)
 abbrev byEntries : ℕ → List ℕ → List ℕ → Order
 byEntries k xs ys = cond (ltb (getD xs k 0) (getD ys k 0)) First Second
 
-pub order-apart : (xs ys : List ℕ) → commonPrefix xs ys < length xs → commonPrefix xs ys < length ys → settingOrder xs ys ≡ byEntries (commonPrefix xs ys) xs ys
+order-apart : (xs ys : List ℕ) → commonPrefix xs ys < length xs → commonPrefix xs ys < length ys → settingOrder xs ys ≡ byEntries (commonPrefix xs ys) xs ys
 order-apart [] ys l m = absurd (omega (arith, l))
 order-apart (x ∷ xs) [] l m = absurd (omega (arith, m))
 order-apart (x ∷ xs) (y ∷ ys) l m = go (heads x y) (order-apart xs ys)
