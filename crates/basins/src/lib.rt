@@ -1,12 +1,14 @@
 // Which basins are wet, by the indexed half-edges: the lowest, the lowest that a search has not seen, and the side of a lone reach that is marked.
 // The functions with a `requires` are for the crates above, which have checked it.
 ghost use mathlib.Core.Path.{_≡_};
-ghost use mathlib.Core.Bool.{_&&_};
+ghost use mathlib.Core.Bool.{not, _&&_, Bool·beq};
 ghost use Prim.Native.Nat.{_≤_, _<_};
-ghost use lib.ListN.{length};
+ghost use lib.ListN.{length, set};
 ghost use Rattle.network.specs.Networks.{isWet};
 ghost use Rattle.tables.specs.Rows.{netOf};
-ghost use Rattle.basins.specs.Wet.{Tabled, anyBasin, byteIs0, Lowest, notedAt, OthersNoted, FarSideNoted};
+ghost use Rattle.distances.specs.Distances.{noted};
+ghost use Rattle.basins.specs.Wet.{Tabled, anyBasin, isUnnoted, Lowest, sideNote, OthersNoted, FarSideNoted};
+use distances::UNREACHED;
 use half_edges::NONE;
 
 // Whether basin v is wet: whether a reach in service has a half-edge there. Only the contract names the basin count and the ends.
@@ -33,23 +35,34 @@ fn is_wet(
     false
 }
 
-// Whether basin v is wet and its byte is 0.
-fn is_left(
+// Whether basin v is noted as reached.
+fn is_noted(seen: &[u16], v: usize) -> bool
+    ensures { λ r. ⌜ r ≡ noted (now (seen .entry)) v ⌝ }
+{
+    if v < seen.len() {
+        return seen[v] < UNREACHED;
+    }
+    true
+}
+
+// Whether basin v is wet and noted otherwise than x says.
+fn differs(
     n: usize,
     kinds: &[u8],
     a: &[u16],
     b: &[u16],
     head: &[u16],
     next: &[u16],
-    seen: &[u8],
+    seen: &[u16],
     v: usize,
+    x: bool,
 ) -> bool
     requires { ⌜ Tabled n (now kinds) (now a) (now b) (now head) (now next) ⌝ }
     requires { ⌜ n ≤ length (now seen) ⌝ }
     requires { ⌜ v < n ⌝ }
-    ensures { λ r. ⌜ r ≡ isWet (netOf n (now (kinds .entry)) (now (a .entry)) (now (b .entry))) v && byteIs0 (now (seen .entry)) v ⌝ }
+    ensures { λ r. ⌜ r ≡ isWet (netOf n (now (kinds .entry)) (now (a .entry)) (now (b .entry))) v && not (Bool·beq (noted (now (seen .entry)) v) x) ⌝ }
 {
-    if seen[v] != 0 {
+    if is_noted(seen, v) == x {
         return false;
     }
     is_wet(n, kinds, a, b, head, next, v)
@@ -70,7 +83,7 @@ pub fn lowest_wet(n: usize, kinds: &[u8], a: &[u16], b: &[u16], head: &[u16], ne
     n
 }
 
-// The lowest wet basin whose byte is 0, or n if there is none.
+// The lowest wet basin that is not noted as reached, or n if there is none.
 pub fn lowest_unseen(
     n: usize,
     kinds: &[u8],
@@ -78,15 +91,15 @@ pub fn lowest_unseen(
     b: &[u16],
     head: &[u16],
     next: &[u16],
-    seen: &[u8],
+    seen: &[u16],
 ) -> usize
     requires { ⌜ Tabled n (now kinds) (now a) (now b) (now head) (now next) ⌝ }
     requires { ⌜ n ≤ length (now seen) ⌝ }
-    ensures { λ r. ⌜ Lowest (netOf n (now (kinds .entry)) (now (a .entry)) (now (b .entry))) (byteIs0 (now (seen .entry))) r ⌝ }
+    ensures { λ r. ⌜ Lowest (netOf n (now (kinds .entry)) (now (a .entry)) (now (b .entry))) (isUnnoted (now (seen .entry))) r ⌝ }
 {
     let mut v = 0;
     while v < n {
-        if is_left(n, kinds, a, b, head, next, seen, v) {
+        if differs(n, kinds, a, b, head, next, seen, v, true) {
             return v;
         }
         v += 1;
@@ -94,7 +107,7 @@ pub fn lowest_unseen(
     n
 }
 
-// Gives basin v the byte 2 if it is wet and its byte is not x.
+// Notes basin v as reached if it is wet and was noted otherwise than x says, and else as not reached.
 fn note_at(
     n: usize,
     kinds: &[u8],
@@ -103,21 +116,20 @@ fn note_at(
     head: &[u16],
     next: &[u16],
     v: usize,
-    x: u8,
-    seen: &mut [u8],
+    x: bool,
+    seen: &mut [u16],
 )
     requires { ⌜ Tabled n (now kinds) (now a) (now b) (now head) (now next) ⌝ }
     requires { ⌜ n ≤ length (now seen) ⌝ }
     requires { ⌜ v < n ⌝ }
-    ensures { λ _. ⌜ now (seen .exit) ≡ notedAt (netOf n (now (kinds .entry)) (now (a .entry)) (now (b .entry))) x v (now (seen .entry)) ⌝ }
+    ensures { λ _. ⌜ now (seen .exit) ≡ set (now (seen .entry)) v
+        (sideNote (isWet (netOf n (now (kinds .entry)) (now (a .entry)) (now (b .entry))) v && not (Bool·beq (noted (now (seen .entry)) v) x))) ⌝ }
 {
-    if seen[v] == x {
-        return;
+    if differs(n, kinds, a, b, head, next, seen, v, x) {
+        seen[v] = 0;
+    } else {
+        seen[v] = UNREACHED;
     }
-    if !is_wet(n, kinds, a, b, head, next, v) {
-        return;
-    }
-    seen[v] = 2;
 }
 
 // Does so at each basin.
@@ -128,8 +140,8 @@ fn note_others(
     b: &[u16],
     head: &[u16],
     next: &[u16],
-    x: u8,
-    seen: &mut [u8],
+    x: bool,
+    seen: &mut [u16],
 )
     requires { ⌜ Tabled n (now kinds) (now a) (now b) (now head) (now next) ⌝ }
     requires { ⌜ n ≤ length (now seen) ⌝ }
@@ -142,7 +154,7 @@ fn note_others(
     }
 }
 
-// Gives the byte 2 to each wet basin whose byte is another than that of the lowest wet basin.
+// Notes as reached each wet basin that was noted otherwise than the lowest wet basin, and no other.
 pub fn note_side(
     n: usize,
     kinds: &[u8],
@@ -150,15 +162,13 @@ pub fn note_side(
     b: &[u16],
     head: &[u16],
     next: &[u16],
-    seen: &mut [u8],
+    seen: &mut [u16],
 )
     requires { ⌜ Tabled n (now kinds) (now a) (now b) (now head) (now next) ⌝ }
     requires { ⌜ n ≤ length (now seen) ⌝ }
     ensures { λ _. ⌜ FarSideNoted (netOf n (now (kinds .entry)) (now (a .entry)) (now (b .entry))) (now (seen .entry)) (now (seen .exit)) ⌝ }
 {
     let low = lowest_wet(n, kinds, a, b, head, next);
-    if low < n {
-        let x = seen[low];
-        note_others(n, kinds, a, b, head, next, x, seen);
-    }
+    let x = is_noted(seen, low);
+    note_others(n, kinds, a, b, head, next, x, seen);
 }

@@ -22,7 +22,7 @@ pub fn bound_at(
     next: &[u16],
     i: usize,
     way: u8,
-    seen: &mut [u8],
+    seen: &mut [u16],
     queue: &mut [u16],
 ) -> bool
     requires { ⌜ Ready n (now a) (now b) (now ways) (now head) (now next) (now seen) (now queue) ⌝ }
@@ -57,7 +57,7 @@ pub fn tell_bound(
     head: &[u16],
     next: &[u16],
     bytes: &mut [u8],
-    seen: &mut [u8],
+    seen: &mut [u16],
     queue: &mut [u16],
 )
     requires { ⌜ Ready n (now a) (now b) (now ways) (now head) (now next) (now seen) (now queue) ⌝ }

@@ -49,7 +49,7 @@ fn tell_in(
     ways: &mut [u8],
     head: &mut [u16; MAX_BASINS],
     next: &mut [u16; HALF_EDGES],
-    seen: &mut [u8; MAX_BASINS],
+    seen: &mut [u16; MAX_BASINS],
     queue: &mut [u16; MAX_BASINS],
 )
     requires { ⌜ Planned n (now kinds) (now a) (now b) (now bytes) ⌝ }
@@ -72,7 +72,7 @@ fn tell(n: usize, kinds: &[u8], a: &[u16], b: &[u16], bytes: &mut [u8])
     let mut ways = [0u8; MAX_REACHES];
     let mut head = [0u16; MAX_BASINS];
     let mut next = [0u16; HALF_EDGES];
-    let mut seen = [0u8; MAX_BASINS];
+    let mut seen = [0u16; MAX_BASINS];
     let mut queue = [0u16; MAX_BASINS];
     tell_in(
         n,

@@ -20,7 +20,7 @@ pub fn follow(
     ways: &mut [u8],
     head: &[u16],
     next: &[u16],
-    seen: &mut [u8],
+    seen: &mut [u16],
     queue: &mut [u16],
 ) -> usize
     requires { ⌜ Ready n (now a) (now b) (now ways) (now head) (now next) (now seen) (now queue) ⌝ }
@@ -52,7 +52,7 @@ pub fn turn_back(
     head: &[u16],
     next: &[u16],
     to: usize,
-    seen: &mut [u8],
+    seen: &mut [u16],
     queue: &mut [u16],
 ) -> usize
     requires { ⌜ Ready n (now a) (now b) (now ways) (now head) (now next) (now seen) (now queue) ⌝ }

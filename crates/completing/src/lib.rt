@@ -18,7 +18,7 @@ pub fn greedy(
     head: &[u16],
     next: &[u16],
     from: usize,
-    seen: &mut [u8],
+    seen: &mut [u16],
     queue: &mut [u16],
 ) -> usize
     requires { ⌜ Ready n (now a) (now b) (now ways) (now head) (now next) (now seen) (now queue) ⌝ }
@@ -47,7 +47,7 @@ pub fn complete(
     head: &[u16],
     next: &[u16],
     from: usize,
-    seen: &mut [u8],
+    seen: &mut [u16],
     queue: &mut [u16],
 )
     requires { ⌜ Ready n (now a) (now b) (now ways) (now head) (now next) (now seen) (now queue) ⌝ }

@@ -15,7 +15,7 @@ pub fn orient_gate(
     head: &[u16],
     next: &[u16],
     i: usize,
-    seen: &mut [u8],
+    seen: &mut [u16],
     queue: &mut [u16],
 ) -> bool
     requires { ⌜ AtReach n (now kinds) (now a) (now b) (now ways) (now head) (now next) i (now seen) (now queue) ⌝ }
@@ -46,7 +46,7 @@ pub fn settle(
     head: &[u16],
     next: &[u16],
     i: usize,
-    seen: &mut [u8],
+    seen: &mut [u16],
     queue: &mut [u16],
 )
     requires { ⌜ AtReach n (now kinds) (now a) (now b) (now ways) (now head) (now next) i (now seen) (now queue) ⌝ }

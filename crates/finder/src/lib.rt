@@ -40,7 +40,7 @@ pub fn strongly_connected_under(
     ways: &mut [u8],
     head: &mut [u16; MAX_BASINS],
     next: &mut [u16; HALF_EDGES],
-    seen: &mut [u8; MAX_BASINS],
+    seen: &mut [u16; MAX_BASINS],
     queue: &mut [u16; MAX_BASINS],
 ) -> bool
     requires { ⌜ Room n (now kinds) (now a) (now b) (now ways) (now head) (now next) (now seen) (now queue) ⌝ }
@@ -59,7 +59,7 @@ pub fn find_first(
     ways: &mut [u8],
     head: &mut [u16; MAX_BASINS],
     next: &mut [u16; HALF_EDGES],
-    seen: &mut [u8; MAX_BASINS],
+    seen: &mut [u16; MAX_BASINS],
     queue: &mut [u16; MAX_BASINS],
 ) -> Found
     requires { ⌜ Room n (now kinds) (now a) (now b) (now ways) (now head) (now next) (now seen) (now queue) ⌝ }
@@ -80,7 +80,7 @@ pub fn find_next(
     ways: &mut [u8],
     head: &mut [u16; MAX_BASINS],
     next: &mut [u16; HALF_EDGES],
-    seen: &mut [u8; MAX_BASINS],
+    seen: &mut [u16; MAX_BASINS],
     queue: &mut [u16; MAX_BASINS],
 ) -> Sought
     requires { ⌜ Seekable n (now kinds) (now a) (now b) (now setting) (now under) (now ways) (now head) (now next) (now seen) (now queue) ⌝ }

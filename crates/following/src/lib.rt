@@ -21,7 +21,7 @@ fn next_of_plan(
     ways: &mut [u8],
     head: &[u16],
     next: &[u16],
-    seen: &mut [u8],
+    seen: &mut [u16],
     queue: &mut [u16],
 ) -> Sought
     requires { ⌜ Ready n (now a) (now b) (now ways) (now head) (now next) (now seen) (now queue) ⌝ }
@@ -45,7 +45,7 @@ fn follow_and_part(
     ways: &mut [u8],
     head: &[u16],
     next: &[u16],
-    seen: &mut [u8],
+    seen: &mut [u16],
     queue: &mut [u16],
 ) -> Sought
     requires { ⌜ Ready n (now a) (now b) (now ways) (now head) (now next) (now seen) (now queue) ⌝ }
@@ -69,7 +69,7 @@ fn next_of_other(
     ways: &mut [u8],
     head: &[u16],
     next: &[u16],
-    seen: &mut [u8],
+    seen: &mut [u16],
     queue: &mut [u16],
 ) -> Sought
     requires { ⌜ Ready n (now a) (now b) (now ways) (now head) (now next) (now seen) (now queue) ⌝ }
@@ -96,7 +96,7 @@ pub fn next_of(
     ways: &mut [u8],
     head: &[u16],
     next: &[u16],
-    seen: &mut [u8],
+    seen: &mut [u16],
     queue: &mut [u16],
 ) -> Sought
     requires { ⌜ Ready n (now a) (now b) (now ways) (now head) (now next) (now seen) (now queue) ⌝ }

@@ -1,24 +1,26 @@
-// Whether one basin leads to another, searched for from both ends.
+// Whether one basin leads to another, searched for from both ends. These searches note 0 for each basin that they see, and do not count.
 // The functions with a `requires` are for the crates above, which have checked it.
 ghost use mathlib.Core.Path.{_≡_};
 ghost use Prim.Native.Nat.{_≤_, _<_};
 ghost use lib.ListN.{length, replicate};
+ghost use Rattle.distances.specs.Distances.{unreached};
 ghost use Rattle.network.specs.Networks.{maxBasins};
 ghost use Rattle.network.specs.Orientations.{reached};
 ghost use Rattle.half_edges.specs.Ends.{arcsOf};
 ghost use Rattle.search.specs.Searches.{Searchable, Queued, Meets};
 ghost use Rattle.leading.specs.Leads.{Underway};
+use distances::UNREACHED;
 use network::MAX_BASINS;
 
 // Whether one of the basins at the places of a queue from `from` on and below `to` is seen.
-fn meet(queue: &[u16], from: usize, to: usize, seen: &[u8]) -> bool
+fn meet(queue: &[u16], from: usize, to: usize, seen: &[u16]) -> bool
     requires { ⌜ to ≤ length (now queue) ⌝ }
     requires { ⌜ Queued (now queue) to (length (now seen)) ⌝ }
     ensures { λ r. ⌜ Meets (now (queue .entry)) from to (now (seen .entry)) r ⌝ }
 {
     let mut k = from;
     while k < to {
-        if seen[queue[k] as usize] != 0 {
+        if seen[queue[k] as usize] < UNREACHED {
             return true;
         }
         k += 1;
@@ -37,9 +39,9 @@ fn search_on(
     next: &[u16],
     start: u16,
     goal: u16,
-    seen: &mut [u8],
+    seen: &mut [u16],
     queue: &mut [u16],
-    upseen: &mut [u8],
+    upseen: &mut [u16],
     upqueue: &mut [u16],
     first: usize,
     upfirst: usize,
@@ -57,7 +59,7 @@ fn search_on(
         }
         // Which of the two goes on is free: the one with fewer basins waiting, and each by turns where these are equal.
         if tail - done + (done + updone) % 2 <= uptail - updone {
-            let end = search::scan(a, b, ways, head, next, seen, queue, done, tail, false);
+            let end = search::scan(a, b, ways, head, next, seen, queue, done, tail, false, 0);
             if meet(queue, tail, end, upseen) {
                 return true;
             }
@@ -75,6 +77,7 @@ fn search_on(
                 updone,
                 uptail,
                 true,
+                0,
             );
             if meet(upqueue, uptail, end, seen) {
                 return true;
@@ -86,8 +89,8 @@ fn search_on(
     false
 }
 
-// Whether the goal is reached from start, searched for from both ends. The marks of the search upstream are fresh zeros, and need no clearing. What it
-// leaves in the four rows is free.
+// Whether the goal is reached from start, searched for from both ends. What the search upstream notes in is fresh, and needs no clearing. What it leaves
+// in the four rows is free.
 fn leads_in(
     n: usize,
     a: &[u16],
@@ -97,20 +100,20 @@ fn leads_in(
     next: &[u16],
     start: u16,
     goal: u16,
-    seen: &mut [u8],
+    seen: &mut [u16],
     queue: &mut [u16],
-    upseen: &mut [u8],
+    upseen: &mut [u16],
     upqueue: &mut [u16],
 ) -> bool
     requires { ⌜ Searchable n (now a) (now b) (now ways) (now head) (now next) start (now seen) (now queue) ⌝ }
     requires { ⌜ goal < n ⌝ }
     requires { ⌜ n ≤ maxBasins ⌝ }
-    requires { ⌜ now upseen ≡ replicate maxBasins 0 ⌝ }
+    requires { ⌜ now upseen ≡ replicate maxBasins unreached ⌝ }
     requires { ⌜ length (now upqueue) ≡ maxBasins ⌝ }
     ensures { λ r. ⌜ r ≡ reached (arcsOf (now (a .entry)) (now (b .entry)) (now (ways .entry))) start goal ⌝ }
 {
     let tail = search::begin(n, start, seen, queue);
-    let uptail = search::visit(goal, upseen, upqueue, 0);
+    let uptail = search::visit(goal, 0, upseen, upqueue, 0);
     if meet(queue, 0, tail, upseen) {
         return true;
     }
@@ -142,7 +145,7 @@ pub fn leads(
     next: &[u16],
     start: u16,
     goal: u16,
-    seen: &mut [u8],
+    seen: &mut [u16],
     queue: &mut [u16],
 ) -> bool
     requires { ⌜ Searchable n (now a) (now b) (now ways) (now head) (now next) start (now seen) (now queue) ⌝ }
@@ -150,7 +153,7 @@ pub fn leads(
     requires { ⌜ n ≤ maxBasins ⌝ }
     ensures { λ r. ⌜ r ≡ reached (arcsOf (now (a .entry)) (now (b .entry)) (now (ways .entry))) start goal ⌝ }
 {
-    let mut upseen = [0u8; MAX_BASINS];
+    let mut upseen = [UNREACHED; MAX_BASINS];
     let mut upqueue = [0u16; MAX_BASINS];
     leads_in(
         n,

@@ -71,7 +71,7 @@ fn line_after(
     ways: &mut [u8],
     head: &[u16; MAX_BASINS],
     next: &[u16; HALF_EDGES],
-    seen: &mut [u8; MAX_BASINS],
+    seen: &mut [u16; MAX_BASINS],
     queue: &mut [u16; MAX_BASINS],
 ) -> Turn
     requires { ⌜ g ≡ gatesHeld (stateNet l (now kinds) (now a) (now b)) ⌝ }
@@ -125,7 +125,7 @@ fn turned(
     ways: &mut [u8],
     head: &[u16; MAX_BASINS],
     next: &[u16; HALF_EDGES],
-    seen: &mut [u8; MAX_BASINS],
+    seen: &mut [u16; MAX_BASINS],
     queue: &mut [u16; MAX_BASINS],
 ) -> Turn
     requires { ⌜ g ≡ gatesHeld (stateNet l (now kinds) (now a) (now b)) ⌝ }
@@ -178,7 +178,7 @@ fn print_lines(
     ways: &mut [u8],
     head: &[u16; MAX_BASINS],
     next: &[u16; HALF_EDGES],
-    seen: &mut [u8; MAX_BASINS],
+    seen: &mut [u16; MAX_BASINS],
     queue: &mut [u16; MAX_BASINS],
 ) -> Filled
     requires { ⌜ g ≡ gatesHeld (stateNet l (now kinds) (now a) (now b)) ⌝ }
@@ -236,7 +236,7 @@ fn fill_in(
     ways: &mut [u8],
     head: &mut [u16; MAX_BASINS],
     next: &mut [u16; HALF_EDGES],
-    seen: &mut [u8; MAX_BASINS],
+    seen: &mut [u16; MAX_BASINS],
     queue: &mut [u16; MAX_BASINS],
 ) -> Filled
     requires { ⌜ Space (now ways) (now head) (now next) (now seen) (now queue) ⌝ }
@@ -279,7 +279,7 @@ pub fn fill(l: Lister, kinds: &[u8], a: &[u16], b: &[u16], out: &mut [u8]) -> Fi
     let mut ways = [0u8; MAX_REACHES];
     let mut head = [0u16; MAX_BASINS];
     let mut next = [0u16; HALF_EDGES];
-    let mut seen = [0u8; MAX_BASINS];
+    let mut seen = [0u16; MAX_BASINS];
     let mut queue = [0u16; MAX_BASINS];
     fill_in(
         l,

@@ -34,6 +34,12 @@ range-in {j} i (suc n) m =
     (λ k. let r = range-in (suc i) n k in (omega arith, omega arith))
     (List·Memᴰ·cases-cons m)
 
+-- the member at a place
+pub range-at : (i n k : ℕ) → k < n → getD (range i n) k 0 ≡ i + k
+range-at i zero k h = absurd (omega arith)
+range-at i (suc n) zero h = omega arith
+range-at i (suc n) (suc k) h = range-at (suc i) n k (omega arith) ∙ omega arith
+
 pub range-add : (i m n : ℕ) → range i (m + n) ≡ range i m ++ range (i + m) n
 range-add i zero n = rw (zero-add, add-zero)
 range-add i (suc m) n = rw (suc-add, range-add (suc i) m n, add-suc, suc-add)

@@ -11,8 +11,8 @@ use native.Mathlib.Omega.{arith}
 use mathlib.Mathlib.Data.Bool.Basic.{and-elim-left, and-elim-right, and-intro, or-inl, or-inr, bool-eq-false}
 use lib.ListN.{length, getD, take, drop, drop-of-length-le, length-append, length-take}
 use lib.Seq.{split-at, take-take, getD-take, getD-append-seam}
-use lib.Dec.{eqb}
-use borrow.Author.Tests.{eqb-true, eqb-false, eq-eqb}
+use lib.Dec.{eqb, ltb}
+use borrow.Author.Tests.{eqb-true, eqb-false, eq-eqb, ltb-true, lt-ltb, le-ltb}
 use Rattle.lists.specs.Lists.{range, every, some?, find, keep, elem}
 use Rattle.lists.proofs.Bools.{or-cases, decide, clash, same-test}
 use Rattle.lists.proofs.Lists.{drop-one, length-cond, length-cond-le}
@@ -317,3 +317,41 @@ module _ {A : Type 0} (p : A → Bool) (l : List A) where
 
     pub passed-all : length l ≤ i → true ≡ every p l
     passed-all m = sym (h .left ∙ rw (drop-of-length-le l m))
+
+-- ---- counting by a test
+
+-- what holds of more members keeps more of them
+module _ {A : Type 0} (p q : A → Bool) (more : (x : A) → p x ≡ true → q x ≡ true) where
+  keep-le : (l : List A) → length (keep p l) ≤ length (keep q l)
+  keep-le [] = omega arith
+  keep-le (x ∷ l) = go (p x) (q x) refl refl (keep-le l)
+    where
+      go : (a b : Bool) → p x ≡ a → q x ≡ b → length (keep p l) ≤ length (keep q l) → length (cond a (x ∷ keep p l) (keep p l)) ≤ length (cond b (x ∷ keep q l) (keep q l))
+      go true true e f h = omega arith
+      go true false e f h = clash (more x e) f
+      go false true e f h = omega arith
+      go false false e f h = h
+
+  keep-fewer : {y : A} (l : List A) → List·Memᴰ y l → p y ≡ false → q y ≡ true → length (keep p l) < length (keep q l)
+  keep-fewer (x ∷ l) (List·Memᴰ·head e) n h = rw (ap p (sym e) ∙ n, ap q (sym e) ∙ h) (omega (arith, keep-le l))
+  keep-fewer (x ∷ l) (List·Memᴰ·tail m) n h = go (p x) (q x) refl refl (keep-fewer l m n h)
+    where
+      go : (a b : Bool) → p x ≡ a → q x ≡ b → length (keep p l) < length (keep q l) → length (cond a (x ∷ keep p l) (keep p l)) < length (cond b (x ∷ keep q l) (keep q l))
+      go true true e f h = omega arith
+      go true false e f h = clash (more x e) f
+      go false true e f h = omega arith
+      go false false e f h = h
+
+-- if f gives each number up to k to some member, there are more members than k
+module _ {A : Type 0} (f : A → ℕ) (l : List A) where
+  ltb-more : (d : ℕ) (x : A) → ltb (f x) d ≡ true → ltb (f x) (suc d) ≡ true
+  ltb-more d x e = lt-ltb (f x) (suc d) (omega (arith, ltb-true (f x) d e))
+
+  many-below : (d : ℕ) → ((j : ℕ) → j < d → (x : A) × List·Memᴰ x l × (f x ≡ j)) → d ≤ length (keep (λ x. ltb (f x) d) l)
+  many-below zero h = omega arith
+  many-below (suc d) h =
+      let y = h d (omega arith) in
+      omega (arith, many-below d (λ j b. h j (omega arith)), keep-fewer (λ x. ltb (f x) d) (λ x. ltb (f x) (suc d)) (ltb-more d) l (y .1) (le-ltb (f (y .0)) d (omega (arith, y .2))) (lt-ltb (f (y .0)) (suc d) (omega (arith, y .2))))
+
+  pub attained-below : (k : ℕ) → ((j : ℕ) → j ≤ k → (x : A) × List·Memᴰ x l × (f x ≡ j)) → k < length l
+  attained-below k h = omega (arith, many-below (suc k) (λ j b. h j (omega arith)), length-keep (λ x. ltb (f x) (suc k)) l)

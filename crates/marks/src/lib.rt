@@ -9,45 +9,46 @@ ghost use Rattle.lists.specs.Lists.{elem};
 ghost use Rattle.network.specs.Marks.{markBytes, bit, markByte, marksOf, onesIn};
 ghost use Rattle.lists.specs.Words.{wordOf};
 ghost use Rattle.marks.specs.Sets.{markedSet};
+use distances::UNREACHED;
 
 // The bytes of marks.
 pub const MARK_BYTES: usize = 32;
 
-// The bit of basin b: 1 where it is below n and its byte is x, and 0 elsewhere.
-fn mark_bit(n: usize, seen: &[u8], x: u8, b: usize) -> u8
+// The bit of basin b: 1 where it is below n and noted as reached, and 0 elsewhere.
+fn mark_bit(n: usize, seen: &[u16], b: usize) -> u8
     requires { ⌜ n ≤ length (now seen) ⌝ }
-    ensures { λ r. ⌜ r ≡ bit (elem b (markedSet n (now (seen .entry)) x)) ⌝ }
+    ensures { λ r. ⌜ r ≡ bit (elem b (markedSet n (now (seen .entry)))) ⌝ }
 {
     if b >= n {
         return 0;
     }
-    if seen[b] == x { 1 } else { 0 }
+    if seen[b] < UNREACHED { 1 } else { 0 }
 }
 
 // Byte k of the marks, which takes the bits of its eight basins from the highest to the lowest.
-fn mark_byte(n: usize, seen: &[u8], x: u8, k: usize) -> u8
+fn mark_byte(n: usize, seen: &[u16], k: usize) -> u8
     requires { ⌜ n ≤ length (now seen) ⌝ }
     requires { ⌜ k < markBytes ⌝ }
-    ensures { λ r. ⌜ r ≡ markByte (markedSet n (now (seen .entry)) x) k ⌝ }
+    ensures { λ r. ⌜ r ≡ markByte (markedSet n (now (seen .entry))) k ⌝ }
 {
     let mut byte = 0;
     let mut j = 0;
     while j < 8 {
-        byte = 2 * byte + mark_bit(n, seen, x, 8 * k + 7 - j);
+        byte = 2 * byte + mark_bit(n, seen, 8 * k + 7 - j);
         j += 1;
     }
     byte
 }
 
-// Writes the marks of the basins below n whose byte in `seen` is x.
-pub fn put_marks(n: usize, seen: &[u8], x: u8, marks: &mut [u8])
+// Writes the marks of the basins below n that are noted as reached.
+pub fn put_marks(n: usize, seen: &[u16], marks: &mut [u8])
     requires { ⌜ n ≤ length (now seen) ⌝ }
     requires { ⌜ markBytes ≤ length (now marks) ⌝ }
-    ensures { λ _. ⌜ now (marks .exit) ≡ marksOf (markedSet n (now (seen .entry)) x) ++ drop markBytes (now (marks .entry)) ⌝ }
+    ensures { λ _. ⌜ now (marks .exit) ≡ marksOf (markedSet n (now (seen .entry))) ++ drop markBytes (now (marks .entry)) ⌝ }
 {
     let mut k = 0;
     while k < MARK_BYTES {
-        marks[k] = mark_byte(n, seen, x, k);
+        marks[k] = mark_byte(n, seen, k);
         k += 1;
     }
 }

@@ -7,13 +7,13 @@ use mathlib.Core.Bool.{Bool, true, false, not, cond, _&&_}
 use mathlib.Core.Logic.{_⊎_, inl, inr, ⊎-elim}
 use mathlib.Core.Option.{Option, none, some, Option·some-ne-none}
 use mathlib.Core.List.{List, [], _∷_, List·Memᴰ, List·Memᴰ·head, List·Memᴰ·not-nil, List·Memᴰ·cases-cons}
-use lib.ListN.{length, getD}
+use lib.ListN.{length, getD, take}
 use lib.Dec.{leb, ltb, eqb}
 use borrow.Author.Tests.{leb-true, ltb-true, eqb-true, eq-eqb}
 use mathlib.Mathlib.Data.Bool.Basic.{and-elim-left, and-elim-right, and-intro, or-inl, or-inr}
 use Rattle.lists.proofs.Bools.{or-cases}
 use Rattle.lists.proofs.Lists.{length-cond-le}
-use Rattle.lists.proofs.Searches.{every-getD, some-getD, some-at, find-lowest, keep-in, keep-has, keep-same, keep-keep, find-keep, keep-first}
+use Rattle.lists.proofs.Searches.{every-getD, some-getD, some-at, find-lowest, keep-in, keep-has, keep-same, keep-keep, find-keep, keep-first, length-keep, kept-from}
 use Rattle.network.specs.declared.Kind.the-variants.{TwoWay}
 use Rattle.network.specs.declared.State.the-variants.{Shut}
 use Rattle.network.specs.declared.Reach.{Reach}
@@ -25,7 +25,7 @@ use Rattle.network.specs.Settings.{isGated, gatesFrom, gateCount}
 use Rattle.network.specs.Orientations.{arc, passing, arcs, Walk, stay, step}
 use Rattle.network.specs.Bridges.{noReach, reachAt}
 use Rattle.lists.specs.Lists.{range, find, keep}
-use Rattle.lists.proofs.Ranges.{range-has, range-in}
+use Rattle.lists.proofs.Ranges.{length-range, range-has, range-in, range-at}
 use Rattle.network.proofs.Ways.{arcs-in, ShutOut, arc-in-service}
 use Rattle.network.proofs.Walks.{arc-from, arc-to}
 
@@ -167,6 +167,38 @@ basins-kept N p = keep-keep (isWet N) p (range 0 (N .basins))
 pub basins-found : (N : Network) (p : ℕ → Bool) → find p (basinsOf N) ≡ find (λ b. isWet N b && p b) (range 0 (N .basins))
 unfolding basinsOf
 basins-found N p = find-keep (isWet N) p (range 0 (N .basins))
+
+-- no more count than there are
+pub basins-few : (N : Network) → length (basinsOf N) ≤ N .basins
+unfolding basinsOf
+basins-few N = omega (arith, length-keep (isWet N) (range 0 (N .basins)), length-range 0 (N .basins))
+
+-- where two or more count, two of them differ
+pub record TwoBasins (N : Network) : Type 0 where
+  pub first : ℕ
+  pub second : ℕ
+  pub first-in : List·Memᴰ first (basinsOf N)
+  pub second-in : List·Memᴰ second (basinsOf N)
+  pub differ : first ≡ second → ⊥
+
+pub two-basins : (N : Network) → 2 ≤ length (basinsOf N) → TwoBasins N
+unfolding basinsOf
+two-basins N h =
+    let r = range 0 (N .basins) in
+    let x = kept-from (isWet N) r 0 0 (omega arith) in
+    let y = kept-from (isWet N) r 0 1 (omega arith) in
+    record {
+      first = x .from;
+      second = y .from;
+      first-in = at (x .from) (x .below) (x .passes);
+      second-in = at (y .from) (y .below) (y .passes);
+      differ = λ e. let same : _≡_ {A = ℕ} 0 1 = sym (x .place) ∙ ap (λ (i : ℕ). length (keep (isWet N) (take i r))) e ∙ y .place in omega (arith, same);
+    }
+  where
+    at : (i : ℕ) → i < length (range 0 (N .basins)) → isWet N (getD (range 0 (N .basins)) i 0) ≡ true → List·Memᴰ i (keep (isWet N) (range 0 (N .basins)))
+    at i l e =
+        let b : i < N .basins = omega (arith, length-range 0 (N .basins)) in
+        keep-has (isWet N) (range-has 0 (N .basins) (omega arith) (omega arith)) (subst (λ (j : ℕ). isWet N j ≡ true) (range-at 0 (N .basins) i b ∙ omega arith) e)
 
 -- both ends of a reach in service count
 pub end-a-in : (N : Network) → Accepted N → (i : ℕ) → i < length (N .reaches) → inService ((reachAt N i) .state) ≡ true → List·Memᴰ ((reachAt N i) .a) (basinsOf N)

@@ -13,7 +13,7 @@ use Rattle.lists.specs.Lists.{find, keep, elem}
 use Rattle.network.specs.Networks.{Network, basinsOf, lowestBasin, tableFault}
 use Rattle.network.specs.Settings.{gateCount, settingFault}
 use Rattle.network.specs.Orientations.{arcsUnder, reached, unoriented}
-use Rattle.network.specs.Plans.{reachesAll, passable, firstPlan, nextPlan}
+use Rattle.network.specs.Plans.{reachesAll, isPlan, passable, firstPlan, nextPlan}
 use Rattle.network.specs.Bridges.{sides, isCut, crossesAlone, lowestBridge}
 use Rattle.network.specs.Marks.{markBytes, marksOf, onesIn}
 
@@ -128,6 +128,10 @@ firstOf none o = o
 -- What the check of a setting refuses: it "answers yes or no after 1, 2, 3, 8".
 unfoldable pub checkFault : Network → List ℕ → Option Refusal
 checkFault N s = firstOf (tableFault N) (settingFault N s)
+
+-- Refusal 8 of calls that need a plan, as the writers do: "the setting (8 also if it isn't a plan)". A plan has the right length and no byte over 1.
+abbrev pub planFault : Network → List ℕ → Option Refusal
+planFault N s = cond (isPlan N s) none (some BadSetting)
 
 -- A refusal if there is one, else the reply.
 abbrev pub unless : Option Refusal → Outcome → Outcome

@@ -22,7 +22,7 @@ fn first_unreached(
     next: &[u16],
     start: u16,
     against: bool,
-    seen: &mut [u8],
+    seen: &mut [u16],
     queue: &mut [u16],
 ) -> usize
     requires { ⌜ Ready n (now a) (now b) (now ways) (now head) (now next) (now seen) (now queue) ⌝ }
@@ -46,7 +46,7 @@ fn shut_in_from(
     head: &[u16],
     next: &[u16],
     low: u16,
-    seen: &mut [u8],
+    seen: &mut [u16],
     queue: &mut [u16],
 ) -> usize
     requires { ⌜ Ready n (now a) (now b) (now ways) (now head) (now next) (now seen) (now queue) ⌝ }
@@ -71,7 +71,7 @@ pub fn shut_in_basin(
     ways: &[u8],
     head: &[u16],
     next: &[u16],
-    seen: &mut [u8],
+    seen: &mut [u16],
     queue: &mut [u16],
 ) -> usize
     requires { ⌜ Ready n (now a) (now b) (now ways) (now head) (now next) (now seen) (now queue) ⌝ }
@@ -112,7 +112,7 @@ pub fn try_way(
     next: &[u16],
     i: usize,
     way: u8,
-    seen: &mut [u8],
+    seen: &mut [u16],
     queue: &mut [u16],
 ) -> bool
     requires { ⌜ Ready n (now a) (now b) (now ways) (now head) (now next) (now seen) (now queue) ⌝ }

@@ -17,7 +17,7 @@ pub fn orient_as(
     head: &[u16],
     next: &[u16],
     i: usize,
-    seen: &mut [u8],
+    seen: &mut [u16],
     queue: &mut [u16],
 ) -> bool
     requires { ⌜ AtReach n (now kinds) (now a) (now b) (now ways) (now head) (now next) i (now seen) (now queue) ⌝ }
@@ -42,7 +42,7 @@ pub fn part_at(
     head: &[u16],
     next: &[u16],
     i: usize,
-    seen: &mut [u8],
+    seen: &mut [u16],
     queue: &mut [u16],
 ) -> bool
     requires { ⌜ AtReach n (now kinds) (now a) (now b) (now ways) (now head) (now next) i (now seen) (now queue) ⌝ }

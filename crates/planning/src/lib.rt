@@ -26,7 +26,7 @@ fn first_in(
     ways: &mut [u8],
     head: &mut [u16; MAX_BASINS],
     next: &mut [u16; HALF_EDGES],
-    seen: &mut [u8; MAX_BASINS],
+    seen: &mut [u16; MAX_BASINS],
     queue: &mut [u16; MAX_BASINS],
 ) -> Reply
     requires { ⌜ Lent n (now kinds) (now a) (now b) (now plan) (now marks) ⌝ }
@@ -56,7 +56,7 @@ pub fn first_accepted(
     let mut ways = [0u8; MAX_REACHES];
     let mut head = [0u16; MAX_BASINS];
     let mut next = [0u16; HALF_EDGES];
-    let mut seen = [0u8; MAX_BASINS];
+    let mut seen = [0u16; MAX_BASINS];
     let mut queue = [0u16; MAX_BASINS];
     first_in(
         n,
@@ -83,7 +83,7 @@ fn check_in(
     ways: &mut [u8],
     head: &mut [u16; MAX_BASINS],
     next: &mut [u16; HALF_EDGES],
-    seen: &mut [u8; MAX_BASINS],
+    seen: &mut [u16; MAX_BASINS],
     queue: &mut [u16; MAX_BASINS],
 ) -> bool
     requires { ⌜ Level n (now kinds) (now a) (now b) ⌝ }
@@ -113,7 +113,7 @@ pub fn check_accepted(n: usize, kinds: &[u8], a: &[u16], b: &[u16], setting: &[u
     let mut ways = [0u8; MAX_REACHES];
     let mut head = [0u16; MAX_BASINS];
     let mut next = [0u16; HALF_EDGES];
-    let mut seen = [0u8; MAX_BASINS];
+    let mut seen = [0u16; MAX_BASINS];
     let mut queue = [0u16; MAX_BASINS];
     check_in(
         n,

@@ -32,7 +32,7 @@ fn next_in(
     ways: &mut [u8],
     head: &mut [u16; MAX_BASINS],
     next: &mut [u16; HALF_EDGES],
-    seen: &mut [u8; MAX_BASINS],
+    seen: &mut [u16; MAX_BASINS],
     queue: &mut [u16; MAX_BASINS],
 ) -> Answer
     requires { ⌜ Lent n (now kinds) (now a) (now b) (now plan) (now marks) ⌝ }
@@ -90,7 +90,7 @@ pub fn next_accepted(
     let mut ways = [0u8; MAX_REACHES];
     let mut head = [0u16; MAX_BASINS];
     let mut next = [0u16; HALF_EDGES];
-    let mut seen = [0u8; MAX_BASINS];
+    let mut seen = [0u16; MAX_BASINS];
     let mut queue = [0u16; MAX_BASINS];
     next_in(
         n,

@@ -52,13 +52,13 @@ pub fn yes_or(yes: bool) -> CheckAnswer
     }
 }
 
-// Marks the basins whose byte is x, and counts them.
-fn write_marks(n: usize, seen: &[u8], x: u8, marks: &mut [u8]) -> u16
+// Marks the basins that are noted as reached, and counts them.
+fn write_marks(n: usize, seen: &[u16], marks: &mut [u8]) -> u16
     requires { ⌜ n ≤ length (now seen) ⌝ }
     requires { ⌜ markBytes ≤ length (now marks) ⌝ }
-    ensures { λ r. ⌜ MarksWritten (markedSet n (now (seen .entry)) x) (now (marks .entry)) (now (marks .exit)) r ⌝ }
+    ensures { λ r. ⌜ MarksWritten (markedSet n (now (seen .entry))) (now (marks .entry)) (now (marks .exit)) r ⌝ }
 {
-    marks::put_marks(n, seen, x, marks);
+    marks::put_marks(n, seen, marks);
     marks::count_marks(marks)
 }
 
@@ -68,7 +68,7 @@ pub fn report(
     n: usize,
     kinds: &[u8],
     ways: &[u8],
-    seen: &[u8],
+    seen: &[u16],
     plan: &mut [u8],
     marks: &mut [u8],
 ) -> Reply
@@ -78,13 +78,13 @@ pub fn report(
 {
     match found {
         Found::Closed => {
-            let count = write_marks(n, seen, 1, marks);
+            let count = write_marks(n, seen, marks);
             Reply {
                 verdict: Verdict::ShutIn(Finding { reach: 0, count }),
             }
         }
         Found::Bridge(r) => {
-            let count = write_marks(n, seen, 2, marks);
+            let count = write_marks(n, seen, marks);
             let reach = r as u16;
             Reply {
                 verdict: Verdict::Lone(Finding { reach, count }),

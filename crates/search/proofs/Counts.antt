@@ -2,21 +2,30 @@
 -- Assumes nothing.
 use Prim.Native.Nat.{ℕ, zero, suc, _≤_, _<_}
 use mathlib.Core.Path.{_≡_, refl, ap}
+use mathlib.Core.Bool.{Bool, true, false, cond}
 use mathlib.Core.List.{List, [], _∷_}
 use native.Mathlib.Omega.{arith}
 use lib.ListN.{length, getD, set}
-use Rattle.search.specs.Searches.{unseen}
+use lib.Dec.{ltb}
+use borrow.Author.Tests.{lt-ltb, le-ltb}
+use Rattle.distances.specs.Distances.{unreached}
+use Rattle.search.specs.Searches.{Unseen, unseen}
 
 -- at most all are unseen
 pub unseen-le : (l : List ℕ) → unseen l ≤ length l
 unseen-le [] = omega arith
-unseen-le (zero ∷ l) = omega (arith, unseen-le l)
-unseen-le (suc x ∷ l) = omega (arith, unseen-le l)
+unseen-le (x ∷ l) = go (ltb x unreached) (unseen-le l)
+  where
+    go : (b : Bool) → unseen l ≤ length l → cond b (unseen l) (suc (unseen l)) ≤ suc (length l)
+    go true h = omega arith
+    go false h = omega arith
 
--- a mark at an unseen basin leaves one unseen basin less
-pub unseen-set : (l : List ℕ) (i : ℕ) → i < length l → getD l i 0 ≡ 0 → unseen l ≡ suc (unseen (set l i 1))
-unseen-set [] i h e = absurd (omega arith)
-unseen-set (zero ∷ l) zero h e = refl
-unseen-set (suc x ∷ l) zero h e = absurd (omega arith)
-unseen-set (zero ∷ l) (suc i) h e = ap suc (unseen-set l i (omega arith) e)
-unseen-set (suc x ∷ l) (suc i) h e = unseen-set l i (omega arith) e
+-- a count at an unseen basin leaves one unseen basin less
+pub unseen-set : (l : List ℕ) (i count : ℕ) → i < length l → count < unreached → Unseen l i → unseen l ≡ suc (unseen (set l i count))
+unseen-set [] i count h c e = absurd (omega arith)
+unseen-set (x ∷ l) zero count h c e = rw (le-ltb x unreached e, lt-ltb count unreached c)
+unseen-set (x ∷ l) (suc i) count h c e = go (ltb x unreached) (unseen-set l i count (omega arith) c e)
+  where
+    go : (b : Bool) → unseen l ≡ suc (unseen (set l i count)) → cond b (unseen l) (suc (unseen l)) ≡ suc (cond b (unseen (set l i count)) (suc (unseen (set l i count))))
+    go true h = h
+    go false h = ap suc h

@@ -1,4 +1,4 @@
--- What visits change: the marks, the queue and the room in it.
+-- What visits change: the counts, the queue and the room in it.
 -- Assumes nothing.
 use Prim.Native.Nat.{ℕ, suc, _≤_, _<_}
 use mathlib.Core.Path.{_≡_, refl, sym, _∙_}
@@ -8,7 +8,8 @@ use native.Mathlib.Decide.{ℕ-discrete}
 use native.Mathlib.Omega.{arith}
 use lib.ListN.{length, getD, set, length-set}
 use lib.Seq.{getD-set-same, getD-set-other}
-use Rattle.search.specs.Searches.{Seen, unseen, Visited, first, again, Grown, stay, more}
+use Rattle.distances.specs.Distances.{unreached}
+use Rattle.search.specs.Searches.{Seen, Unseen, unseen, Visited, first, again, Grown, stay, more}
 use Rattle.search.proofs.Counts.{unseen-set}
 use Rattle.search.specs.Fronts.{QueueRoom, Waits}
 
@@ -41,43 +42,87 @@ grew-trans {s} {q} {s′} {q′} {s″} {q″} {t} {t′} {t″} g h =
     carried : (v : ℕ) → Waits q′ t t′ v → Waits q″ t t″ v
     carried v w = record { place = w .place; from = w .from; below = omega arith; here = h .queue-keeps (w .place) (w .below) ∙ w .here }
 
--- a mark at w
-marked-keeps : (seen : List ℕ) (w v : ℕ) → w < length seen → Seen seen v → Seen (set seen w 1) v
-marked-keeps seen w v l s = at (ℕ-discrete v w)
-  where
-    at : Dec (v ≡ w) → Seen (set seen w 1) v
-    at (yes e) = rw (e, getD-set-same seen w 1 0 l) (omega arith)
-    at (no n) = rw (getD-set-other seen w v 1 0 n) s
+-- a count at w
+module _ (seen : List ℕ) (w count v : ℕ) where
+  set-keeps : w < length seen → count < unreached → Seen seen v → Seen (set seen w count) v
+  set-keeps l c s = at (ℕ-discrete v w)
+    where
+      at : Dec (v ≡ w) → Seen (set seen w count) v
+      at (yes e) = rw (e, getD-set-same seen w count 0 l) c
+      at (no n) = rw (getD-set-other seen w v count 0 n) s
 
-pub marked-news : (seen : List ℕ) (w v : ℕ) → Seen (set seen w 1) v → Seen seen v ⊎ (v ≡ w)
-marked-news seen w v s = at (ℕ-discrete v w)
-  where
-    at : Dec (v ≡ w) → Seen seen v ⊎ (v ≡ w)
-    at (yes e) = inr e
-    at (no n) = inl (rw (getD-set-other seen w v 1 0 n) at s)
+  pub set-news : Seen (set seen w count) v → Seen seen v ⊎ (v ≡ w)
+  set-news s = at (ℕ-discrete v w)
+    where
+      at : Dec (v ≡ w) → Seen seen v ⊎ (v ≡ w)
+      at (yes e) = inr e
+      at (no n) = inl (rw (getD-set-other seen w v count 0 n) at s)
 
-pub visited-grew : {w : ℕ} {seen queue seen′ queue′ : List ℕ} {tail tail′ : ℕ} → w < length seen → QueueRoom seen queue tail
-    → Visited w seen queue tail seen′ queue′ tail′ → Grew seen queue tail seen′ queue′ tail′
-visited-grew {seen} {queue} {tail} l r (again s) = grew-none seen queue tail r
-visited-grew {w} {seen} {queue} {tail} l r (first e) =
-    let u : unseen seen ≡ suc (unseen (set seen w 1)) = unseen-set seen w l e in
+pub visited-grew : {w count : ℕ} {seen queue seen′ queue′ : List ℕ} {tail tail′ : ℕ} → w < length seen → count < unreached → QueueRoom seen queue tail
+    → Visited w count seen queue tail seen′ queue′ tail′ → Grew seen queue tail seen′ queue′ tail′
+visited-grew {seen} {queue} {tail} l c r (again s) = grew-none seen queue tail r
+visited-grew {w} {count} {seen} {queue} {tail} l c r (first e) =
+    let u : unseen seen ≡ suc (unseen (set seen w count)) = unseen-set seen w count l c e in
     record {
-      keeps = λ v s. marked-keeps seen w v l s;
-      news = λ v s. ⊎-elim (λ x. inl x) (λ x. inr (record { place = tail; from = omega arith; below = omega arith; here = getD-set-same queue tail w 0 (omega arith) ∙ sym x })) (marked-news seen w v s);
+      keeps = λ v s. set-keeps seen w count v l c s;
+      news = λ v s. ⊎-elim (λ x. inl x) (λ x. inr (record { place = tail; from = omega arith; below = omega arith; here = getD-set-same queue tail w 0 (omega arith) ∙ sym x })) (set-news seen w count v s);
       queue-keeps = λ k m. getD-set-other queue tail k w 0 (omega arith);
       further = omega arith;
       room = simp length-set (omega arith);
-      seen-length = length-set seen w 1;
+      seen-length = length-set seen w count;
       queue-length = length-set queue tail w;
     }
 
-pub visited-seen : {w : ℕ} {seen queue seen′ queue′ : List ℕ} {tail tail′ : ℕ} → w < length seen → Visited w seen queue tail seen′ queue′ tail′ → Seen seen′ w
-visited-seen l (again s) = s
-visited-seen {w} {seen} l (first e) = rw (getD-set-same seen w 1 0 l) (omega arith)
+pub visited-seen : {w count : ℕ} {seen queue seen′ queue′ : List ℕ} {tail tail′ : ℕ} → w < length seen → count < unreached → Visited w count seen queue tail seen′ queue′ tail′
+    → Seen seen′ w
+visited-seen l c (again s) = s
+visited-seen {w} {count} {seen} l c (first e) = rw (getD-set-same seen w count 0 l) c
 
-pub grown-grew : {P : ℕ → Type 0} {seen queue seen′ queue′ : List ℕ} {tail tail′ : ℕ} → ((w : ℕ) → P w → w < length seen) → QueueRoom seen queue tail
-    → Grown P seen queue tail seen′ queue′ tail′ → Grew seen queue tail seen′ queue′ tail′
-grown-grew {seen} {queue} {tail} f r stay = grew-none seen queue tail r
-grown-grew f r (more {w = w} g p v) =
-    let h = grown-grew f r g in
-    grew-trans h (visited-grew (omega (arith, f w p, h .seen-length)) (h .room) v)
+pub grown-grew : {P : ℕ → Type 0} {count : ℕ} {seen queue seen′ queue′ : List ℕ} {tail tail′ : ℕ} → ((w : ℕ) → P w → w < length seen) → count < unreached → QueueRoom seen queue tail
+    → Grown P count seen queue tail seen′ queue′ tail′ → Grew seen queue tail seen′ queue′ tail′
+grown-grew {seen} {queue} {tail} f c r stay = grew-none seen queue tail r
+grown-grew f c r (more {w = w} g p v) =
+    let h = grown-grew f c r g in
+    grew-trans h (visited-grew (omega (arith, f w p, h .seen-length)) c (h .room) v)
+
+-- ---- the counts
+
+-- What was seen keeps its count; what is newly seen passes the test and has the count, and so has each basin that is newly queued.
+pub record Counted (P : ℕ → Type 0) (count : ℕ) (seen : List ℕ) (tail : ℕ) (seen′ queue′ : List ℕ) (tail′ : ℕ) : Type 0 where
+  pub same : (v : ℕ) → Seen seen v → getD seen′ v 0 ≡ getD seen v 0
+  pub fresh : (v : ℕ) → Seen seen′ v → Seen seen v ⊎ (P v × (getD seen′ v 0 ≡ count))
+  pub queued : (k : ℕ) → tail ≤ k → k < tail′ → getD seen′ (getD queue′ k 0) 0 ≡ count
+
+pub grown-counted : {P : ℕ → Type 0} {count : ℕ} {seen queue seen′ queue′ : List ℕ} {tail tail′ : ℕ} → ((w : ℕ) → P w → w < length seen) → count < unreached → QueueRoom seen queue tail
+    → Grown P count seen queue tail seen′ queue′ tail′ → Counted P count seen tail seen′ queue′ tail′
+grown-counted f c r stay = record { same = λ v s. refl; fresh = λ v s. inl s; queued = λ k l m. absurd (omega arith) }
+grown-counted f c r (more g p (again s)) = grown-counted f c r g
+grown-counted {P} {count} {seen} {tail = tail} f c r (more {w = w} {tail′ = end} {seen′ = s′} {queue′ = q′} g p (first e)) =
+    record {
+      same = λ v s. getD-set-other s′ w v count 0 (old v s) ∙ k .same v s;
+      fresh = λ v s. ⊎-elim (λ x. ⊎-elim (λ y. inl y) (λ y. inr (y .0, renoted v x ∙ y .1)) (k .fresh v x)) (λ q. inr (rw q p, rw q own)) (set-news s′ w count v s);
+      queued = λ j l m. at j l (ℕ-discrete j end) m;
+    }
+  where
+    h : Grew seen _ tail s′ q′ end
+    h = grown-grew f c r g
+
+    k : Counted P count seen tail s′ q′ end
+    k = grown-counted f c r g
+
+    in-seen : w < length s′
+    in-seen = omega (arith, f w p, h .seen-length)
+
+    own : getD (set s′ w count) w 0 ≡ count
+    own = getD-set-same s′ w count 0 in-seen
+
+    -- what was seen is another basin
+    renoted : (v : ℕ) → Seen s′ v → getD (set s′ w count) v 0 ≡ getD s′ v 0
+    renoted v x = getD-set-other s′ w v count 0 (λ q. let z : Unseen s′ v = rw q e in omega (arith, x, z))
+
+    old : (v : ℕ) → Seen seen v → v ≡ w → ⊥
+    old v s q = let z : Unseen s′ v = rw q e in omega (arith, h .keeps v s, z)
+
+    at : (j : ℕ) → tail ≤ j → Dec (j ≡ end) → j < end + 1 → getD (set s′ w count) (getD (set q′ end w) j 0) 0 ≡ count
+    at j l (yes q) m = rw (q, getD-set-same q′ end w 0 (omega (arith, h .room, unseen-set s′ w count in-seen c e))) own
+    at j l (no q) m = let z = k .queued j l (omega arith) in rw (getD-set-other q′ end j w 0 q) (renoted (getD q′ j 0) (omega (arith, z)) ∙ z)

@@ -1,35 +1,38 @@
--- What a search does: how the marks and the queue grow, and what it finds.
+-- What a search does: how the counts and the queue grow, and what it finds.
 -- Assumes nothing.
-use Prim.Native.Nat.{ℕ, zero, suc, _+_, _≤_, _<_}
+use Prim.Native.Nat.{ℕ, suc, _+_, _≤_, _<_}
 use mathlib.Core.Path.{_≡_}
-use mathlib.Core.Bool.{Bool, true, false}
+use mathlib.Core.Bool.{Bool, true, false, cond}
 use mathlib.Core.List.{List, [], _∷_}
 use lib.ListN.{length, getD, set}
-use Rattle.network.specs.Orientations.{Arc, reached}
-use Rattle.network.specs.Marks.{bit}
+use lib.Dec.{ltb}
+use Rattle.network.specs.Orientations.{Arc}
+use Rattle.distances.specs.Distances.{unreached, fewest}
 use Rattle.half_edges.specs.Ends.{Next}
 use Rattle.half_edges.specs.Chains.{Index, Table}
 
--- A basin is seen where its byte is not 0.
+-- A basin is seen where its count is below 65,535.
 abbrev pub Seen : List ℕ → ℕ → Type 0
-Seen seen v = 0 < getD seen v 0
+Seen seen v = getD seen v 0 < unreached
+
+abbrev pub Unseen : List ℕ → ℕ → Type 0
+Unseen seen v = unreached ≤ getD seen v 0
 
 -- the number of basins that are not seen
 abbrev pub unseen : List ℕ → ℕ
 unseen [] = 0
-unseen (zero ∷ seen) = suc (unseen seen)
-unseen (suc x ∷ seen) = unseen seen
+unseen (x ∷ seen) = cond (ltb x unreached) (unseen seen) (suc (unseen seen))
 
--- A visit of w: a basin that was not seen is marked and queued.
-pub data Visited (w : ℕ) (seen queue : List ℕ) (tail : ℕ) : List ℕ → List ℕ → ℕ → Type 0 where
-  first : getD seen w 0 ≡ 0 → Visited w seen queue tail (set seen w 1) (set queue tail w) (tail + 1)
-  again : Seen seen w → Visited w seen queue tail seen queue tail
+-- A visit of w with a count: for a basin that was not seen it is noted, and the basin queued.
+pub data Visited (w count : ℕ) (seen queue : List ℕ) (tail : ℕ) : List ℕ → List ℕ → ℕ → Type 0 where
+  first : Unseen seen w → Visited w count seen queue tail (set seen w count) (set queue tail w) (tail + 1)
+  again : Seen seen w → Visited w count seen queue tail seen queue tail
 
--- Visits of basins that pass the test P.
-pub data Grown (P : ℕ → Type 0) (seen queue : List ℕ) (tail : ℕ) : List ℕ → List ℕ → ℕ → Type 0 where
-  stay : Grown P seen queue tail seen queue tail
-  more : {w tail′ tail″ : ℕ} {seen′ queue′ seen″ queue″ : List ℕ} → Grown P seen queue tail seen′ queue′ tail′ → P w
-      → Visited w seen′ queue′ tail′ seen″ queue″ tail″ → Grown P seen queue tail seen″ queue″ tail″
+-- Visits, all with one count, of basins that pass the test P.
+pub data Grown (P : ℕ → Type 0) (count : ℕ) (seen queue : List ℕ) (tail : ℕ) : List ℕ → List ℕ → ℕ → Type 0 where
+  stay : Grown P count seen queue tail seen queue tail
+  more : {w tail′ tail″ : ℕ} {seen′ queue′ seen″ queue″ : List ℕ} → Grown P count seen queue tail seen′ queue′ tail′ → P w
+      → Visited w count seen′ queue′ tail′ seen″ queue″ tail″ → Grown P count seen queue tail seen″ queue″ tail″
 
 -- What a scan of the basin at place `at` of the queue requires.
 pub record Scannable (xs ys ws head next seen queue : List ℕ) (at tail : ℕ) : Type 0 where
@@ -42,23 +45,25 @@ pub record Scannable (xs ys ws head next seen queue : List ℕ) (at tail : ℕ) 
   pub basin : getD queue at 0 < basins
   pub room : tail + unseen seen ≤ length queue
 
--- What it leaves: only ends of arcs from that basin were visited, and all of them are seen.
-pub record Scanned (A : List Arc) (u : ℕ) (seen queue : List ℕ) (tail : ℕ) (seen′ queue′ : List ℕ) (tail′ : ℕ) : Type 0 where
-  pub grown : Grown (Next A u) seen queue tail seen′ queue′ tail′
+-- What it leaves: only ends of arcs from that basin were visited, each with the count, and all of them are seen.
+pub record Scanned (A : List Arc) (u count : ℕ) (seen queue : List ℕ) (tail : ℕ) (seen′ queue′ : List ℕ) (tail′ : ℕ) : Type 0 where
+  pub grown : Grown (Next A u) count seen queue tail seen′ queue′ tail′
   pub closed : (w : ℕ) → Next A u w → Seen seen′ w
 
--- What a search requires: a table with its index and its ways, a basin to start at, and room.
+-- What a search requires: a table with its index and its ways, fewer basins than 65,535, so that no count is 65,535, a basin to start at, and room.
 pub record Searchable (n : ℕ) (xs ys ws head next : List ℕ) (start : ℕ) (seen queue : List ℕ) : Type 0 where
   pub table : Table n xs ys
   pub ways-room : length xs ≤ length ws
   pub index : Index n xs ys head next
+  pub few-basins : n < unreached
   pub starts : start < n
   pub seen-room : n ≤ length seen
   pub queue-room : length seen ≤ length queue
 
--- What it leaves: a 1 at each basin that is reached from start along A, and a 0 at each other. What seen holds past the n basins is free, and so is the queue.
+-- What it leaves. Document 02, item 6: "The search for the basins reached from one basin now promises for each the fewest reaches, or 65,535 if it isn't
+-- reached." What seen holds past the n basins is free, and so is the queue.
 abbrev pub Noted : List Arc → ℕ → ℕ → List ℕ → Type 0
-Noted A n start seen = (v : ℕ) → v < n → getD seen v 0 ≡ bit (reached A start v)
+Noted A n start seen = (v : ℕ) → v < n → getD seen v 0 ≡ fewest A start v
 
 -- What stands in a queue at the places below t is a basin below n.
 abbrev pub Queued : List ℕ → ℕ → ℕ → Type 0
@@ -67,4 +72,4 @@ Queued queue t n = (k : ℕ) → k < t → getD queue k 0 < n
 -- Whether a basin that stands in a queue at a place from f on and below t is seen.
 pub data Meets (queue : List ℕ) (f t : ℕ) (seen : List ℕ) : Bool → Type 0 where
   meeting : {r : Bool} (k : ℕ) → f ≤ k → k < t → Seen seen (getD queue k 0) → r ≡ true → Meets queue f t seen r
-  apart : {r : Bool} → ((k : ℕ) → f ≤ k → k < t → getD seen (getD queue k 0) 0 ≡ 0) → r ≡ false → Meets queue f t seen r
+  apart : {r : Bool} → ((k : ℕ) → f ≤ k → k < t → Unseen seen (getD queue k 0)) → r ≡ false → Meets queue f t seen r

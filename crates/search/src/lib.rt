@@ -1,21 +1,23 @@
-// Breadth-first search over the indexed half-edges of a reach table.
+// Breadth-first search over the indexed half-edges of a reach table. It notes for each basin the fewest reaches to it.
 // The functions with a `requires` are for the crates above, which have checked it.
 ghost use mathlib.Core.Path.{_≡_};
 ghost use mathlib.Core.List.{_++_};
 ghost use Prim.Native.Nat.{_+_, _≤_, _<_, _/_};
 ghost use lib.ListN.{length, getD, replicate, drop};
+ghost use Rattle.distances.specs.Distances.{unreached};
 ghost use Rattle.half_edges.specs.Ends.{arcsOf, otherOf, sided, leaves};
 ghost use Rattle.search.specs.Searches.{unseen, Visited, Scannable, Scanned, Searchable, Noted};
+use distances::UNREACHED;
 use half_edges::NONE;
 
-// Fills seen[0..n] with 0.
-fn clear(n: usize, seen: &mut [u8])
+// Fills seen[0..n] with UNREACHED.
+fn clear(n: usize, seen: &mut [u16])
     requires { ⌜ n ≤ length (now seen) ⌝ }
-    ensures { λ _. ⌜ now (seen .exit) ≡ replicate n 0 ++ drop n (now (seen .entry)) ⌝ }
+    ensures { λ _. ⌜ now (seen .exit) ≡ replicate n unreached ++ drop n (now (seen .entry)) ⌝ }
 {
     let mut i = 0;
     while i < n {
-        seen[i] = 0;
+        seen[i] = UNREACHED;
         i += 1;
     }
 }
@@ -42,63 +44,76 @@ fn far(a: &[u16], b: &[u16], h: u16) -> u16
     if h % 2 == 0 { b[i] } else { a[i] }
 }
 
-// Marks basin w and puts it at the end of the queue, unless it is seen already. Returns the queue's end.
-pub fn visit(w: u16, seen: &mut [u8], queue: &mut [u16], tail: usize) -> usize
+// Notes the count for basin w and puts it at the end of the queue, unless it is seen already. Returns the queue's end.
+pub fn visit(w: u16, count: u16, seen: &mut [u16], queue: &mut [u16], tail: usize) -> usize
     requires { ⌜ w < length (now seen) ⌝ }
+    requires { ⌜ count < unreached ⌝ }
     requires { ⌜ tail + unseen (now seen) ≤ length (now queue) ⌝ }
-    ensures { λ r. ⌜ Visited w (now (seen .entry)) (now (queue .entry)) tail (now (seen .exit)) (now (queue .exit)) r ⌝ }
+    ensures { λ r. ⌜ Visited w count (now (seen .entry)) (now (queue .entry)) tail (now (seen .exit)) (now (queue .exit)) r ⌝ }
 {
     let v = w as usize;
-    if seen[v] == 0 {
-        seen[v] = 1;
+    if seen[v] >= UNREACHED {
+        seen[v] = count;
         queue[tail] = w;
         return tail + 1;
     }
     tail
 }
 
-// Begins a search: start alone is seen, and stands in the queue. Returns the queue's end.
-pub fn begin(n: usize, start: u16, seen: &mut [u8], queue: &mut [u16]) -> usize
+// Begins a search: start alone is seen, with the count 0, and stands in the queue. Returns the queue's end.
+pub fn begin(n: usize, start: u16, seen: &mut [u16], queue: &mut [u16]) -> usize
     requires { ⌜ start < n ⌝ }
     requires { ⌜ n ≤ length (now seen) ⌝ }
     requires { ⌜ length (now seen) ≤ length (now queue) ⌝ }
-    ensures { λ r. ⌜ Visited start (replicate n 0 ++ drop n (now (seen .entry))) (now (queue .entry)) 0
+    ensures { λ r. ⌜ Visited start 0 (replicate n unreached ++ drop n (now (seen .entry))) (now (queue .entry)) 0
         (now (seen .exit)) (now (queue .exit)) r ⌝ }
 {
     clear(n, seen);
-    visit(start, seen, queue, 0)
+    visit(start, 0, seen, queue, 0)
 }
 
-// Visits each basin to which a half-edge passes from the basin at place `at` of the queue, or passes to it from there. Returns the queue's end.
+// Visits, with the count, each basin to which a half-edge passes from the basin at place `at` of the queue, or passes to it from there. Returns the queue's end.
 pub fn scan(
     a: &[u16],
     b: &[u16],
     ways: &[u8],
     head: &[u16],
     next: &[u16],
-    seen: &mut [u8],
+    seen: &mut [u16],
     queue: &mut [u16],
     at: usize,
     tail: usize,
     against: bool,
+    count: u16,
 ) -> usize
     requires { ⌜ Scannable (now a) (now b) (now ways) (now head) (now next) (now seen) (now queue) at tail ⌝ }
+    requires { ⌜ count < unreached ⌝ }
     ensures { λ r. ⌜ Scanned (arcsOf (now (a .entry)) (now (b .entry)) (sided against (now (ways .entry)))) (getD (now (queue .entry)) at 0)
-        (now (seen .entry)) (now (queue .entry)) tail (now (seen .exit)) (now (queue .exit)) r ⌝ }
+        count (now (seen .entry)) (now (queue .entry)) tail (now (seen .exit)) (now (queue .exit)) r ⌝ }
 {
     let mut end = tail;
     let mut h = head[queue[at] as usize];
     while h != NONE {
         if passes(ways, h, against) {
-            end = visit(far(a, b, h), seen, queue, end);
+            end = visit(far(a, b, h), count, seen, queue, end);
         }
         h = next[h as usize];
     }
     end
 }
 
-// Notes what is reached from start along the arrows or, if so asked, against them: seen holds 1 at each basin reached and 0 at each other. What it holds
-// past the n basins, and what the queue holds, is free.
+// One more than the count of the basin at place `at` of the queue.
+fn count_after(seen: &[u16], queue: &[u16], at: usize) -> u16
+    requires { ⌜ at < length (now queue) ⌝ }
+    requires { ⌜ getD (now queue) at 0 < length (now seen) ⌝ }
+    requires { ⌜ getD (now seen) (getD (now queue) at 0) 0 < unreached ⌝ }
+    ensures { λ r. ⌜ r ≡ getD (now (seen .entry)) (getD (now (queue .entry)) at 0) 0 + 1 ⌝ }
+{
+    seen[queue[at] as usize] + 1
+}
+
+// Notes how far the water goes from start along the arrows or, if so asked, against them: seen holds for each basin the fewest reaches that are crossed to get
+// there, or UNREACHED. What it holds past the n basins, and what the queue holds, is free.
 pub fn search(
     n: usize,
     a: &[u16],
@@ -108,7 +123,7 @@ pub fn search(
     next: &[u16],
     start: u16,
     against: bool,
-    seen: &mut [u8],
+    seen: &mut [u16],
     queue: &mut [u16],
 )
     requires { ⌜ Searchable n (now a) (now b) (now ways) (now head) (now next) start (now seen) (now queue) ⌝ }
@@ -117,7 +132,8 @@ pub fn search(
     let mut tail = begin(n, start, seen, queue);
     let mut at = 0;
     while at < tail {
-        tail = scan(a, b, ways, head, next, seen, queue, at, tail, against);
+        let count = count_after(seen, queue, at);
+        tail = scan(a, b, ways, head, next, seen, queue, at, tail, against, count);
         at += 1;
     }
 }

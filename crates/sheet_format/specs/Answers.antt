@@ -2,15 +2,12 @@
 -- Assumes nothing.
 use Prim.Native.Nat.{ℕ}
 use mathlib.Core.Path.{_≡_}
-use mathlib.Core.Bool.{cond}
 use mathlib.Core.List.{List, [], _++_}
-use mathlib.Core.Option.{Option, none, some}
+use mathlib.Core.Option.{Option}
 use lib.ListN.{length, drop, take}
 use Rattle.network.specs.declared.Refusal.{Refusal}
-use Rattle.network.specs.declared.Refusal.the-variants.{BadSetting}
 use Rattle.network.specs.Networks.{Network, tableFault}
-use Rattle.network.specs.Plans.{isPlan}
-use Rattle.network.specs.Replies.{refusalNumber, firstOf}
+use Rattle.network.specs.Replies.{refusalNumber, firstOf, planFault}
 use Rattle.file_records.specs.declared.WriteAnswer.{WriteAnswer}
 use Rattle.file_records.specs.Puts.{Wrote, roomFor}
 use Rattle.sheet_format.specs.declared.SheetAnswer.{SheetAnswer}
@@ -52,10 +49,6 @@ pub record Held (x : SheetReading) (r : SheetAnswer) (held′ : List ℕ) : Type
 -- What is answered where the bytes s that a sheet says are judged: 1, 2 and 3 of the table, 8 where they are no plan.
 abbrev pub PlanJudged : Network → List ℕ → SheetAnswer → Type 0
 PlanJudged N s r = r ≡ sheetAnswer (unlessFault (tableFault N) (ifPlan N (sheetSays s)))
-
--- "The setting (8 also if it isn't a plan)": a plan has the right length and no byte over 1.
-abbrev pub planFault : Network → List ℕ → Option Refusal
-planFault N s = cond (isPlan N s) none (some BadSetting)
 
 -- "Writers check the table, then the setting (..), then 7."
 abbrev pub sheetFault : Network → List ℕ → ℕ → Option Refusal

@@ -16,7 +16,7 @@ use Rattle.network.specs.declared.Refusal.the-variants.{ShortBuffer}
 use Rattle.network.specs.Networks.{Network, tableFault, Accepted}
 use Rattle.network.specs.Plans.{isPlan}
 use Rattle.network.specs.Marks.{marksOf}
-use Rattle.network.specs.Replies.{Outcome, lone, bridgeSide, firstAnswer, firstOf}
+use Rattle.network.specs.Replies.{Outcome, lone, bridgeSide, firstAnswer, firstOf, planFault}
 use Rattle.lists.proofs.Bools.{clash}
 use Rattle.network.proofs.Bridges.{bridge-blocks}
 use Rattle.network.proofs.Order.{first-is-plan}
@@ -34,7 +34,7 @@ use Rattle.sheet_format.specs.declared.SheetAnswer.{SheetAnswer}
 use Rattle.sheet_format.specs.declared.SheetAnswer.the-variants.{Refused, Read}
 use Rattle.sheet_format.specs.Sheets.{sheetOf, outcomeSheet, replySheet}
 use Rattle.sheet_format.specs.Readings.{SheetReading, sheetRefused, sheetSays, unlessFault, readRecords, readSheet, sheetWithRoom}
-use Rattle.sheet_format.specs.Answers.{sheetAnswer, settingRead, Got, planFault, sheetFault, replyFault, SheetRead, SheetWritten, ReplyWritten}
+use Rattle.sheet_format.specs.Answers.{sheetAnswer, settingRead, Got, sheetFault, replyFault, SheetRead, SheetWritten, ReplyWritten}
 use Rattle.sheet_laws.specs.Laws.{SheetWriteRead, sheetAgain, SheetReadWrite, checkedBack, SheetReadCheck, replyRead, ReplyWriteRead, Replies, says-plan, says-shut-in, says-lone}
 use Rattle.sheet_format.proofs.Sheets.{read-write, write-read, was-read}
 use Rattle.file_records.proofs.Puts.{put-refused, unwritten, written, written-front}

@@ -15,7 +15,7 @@ use Rattle.network.proofs.Networks.{accepted}
 use Rattle.file_records.specs.declared.WriteAnswer.{WriteAnswer}
 use Rattle.file_records.specs.declared.WriteAnswer.the-variants.{Refused as Unwritten}
 use Rattle.file_records.specs.Puts.{Wrote, roomFor, WroteWhole}
-use Rattle.network.specs.Replies.{firstOf, checkFault}
+use Rattle.network.specs.Replies.{firstOf, checkFault, planFault}
 use Rattle.replies.specs.declared.CheckAnswer.{CheckAnswer}
 use Rattle.replies.specs.declared.CheckAnswer.the-variants as C
 use Rattle.replies.specs.Answers.{yesOr, unlessRefused, checkOf}
@@ -23,7 +23,7 @@ use Rattle.replies.proofs.Answers.{yes-plan}
 use Rattle.sheet_format.specs.Sheets.{sheetOf}
 use Rattle.sheet_format.specs.Readings.{sheetRefused, sheetSays, unlessFault}
 use Rattle.sheet_format.specs.Rows.{Fitting}
-use Rattle.sheet_format.specs.Answers.{sheetAnswer, PlanJudged, planFault, sheetFault, SheetWritten}
+use Rattle.sheet_format.specs.Answers.{sheetAnswer, PlanJudged, sheetFault, SheetWritten}
 use Rattle.sheet_format.proofs.Sheets.{plan-long}
 use Rattle.network.proofs.Replies.{first-assoc}
 use Rattle.file_records.proofs.Puts.{put-refused}

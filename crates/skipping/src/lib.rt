@@ -22,7 +22,7 @@ fn note_at(
     next: &[u16],
     i: usize,
     way: u8,
-    seen: &mut [u8],
+    seen: &mut [u16],
     queue: &mut [u16],
 )
     requires { ⌜ Ready n (now a) (now b) (now loose) (now head) (now next) (now seen) (now queue) ⌝ }
@@ -53,7 +53,7 @@ fn note_from(
     next: &[u16],
     from: usize,
     to: usize,
-    seen: &mut [u8],
+    seen: &mut [u16],
     queue: &mut [u16],
 )
     requires { ⌜ Ready n (now a) (now b) (now loose) (now head) (now next) (now seen) (now queue) ⌝ }
@@ -83,7 +83,7 @@ pub fn note_bound(
     next: &[u16],
     from: usize,
     to: usize,
-    seen: &mut [u8],
+    seen: &mut [u16],
     queue: &mut [u16],
 ) -> usize
     requires { ⌜ Ready n (now a) (now b) (now ways) (now head) (now next) (now seen) (now queue) ⌝ }

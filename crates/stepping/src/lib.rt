@@ -30,7 +30,7 @@ pub fn advance(
     ways: &mut [u8],
     head: &[u16],
     next: &[u16],
-    seen: &mut [u8],
+    seen: &mut [u16],
     queue: &mut [u16],
 ) -> usize
     requires { ⌜ Ready n (now a) (now b) (now ways) (now head) (now next) (now seen) (now queue) ⌝ }
