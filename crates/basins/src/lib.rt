@@ -35,18 +35,8 @@ fn is_wet(
     false
 }
 
-// Whether basin v is noted as reached.
-fn is_noted(seen: &[u16], v: usize) -> bool
-    ensures { λ r. ⌜ r ≡ noted (now (seen .entry)) v ⌝ }
-{
-    if v < seen.len() {
-        return seen[v] < UNREACHED;
-    }
-    true
-}
-
-// Whether basin v is wet and noted otherwise than x says.
-fn differs(
+// Whether basin v is wet and not noted as reached.
+fn is_left(
     n: usize,
     kinds: &[u8],
     a: &[u16],
@@ -55,14 +45,13 @@ fn differs(
     next: &[u16],
     seen: &[u16],
     v: usize,
-    x: bool,
 ) -> bool
     requires { ⌜ Tabled n (now kinds) (now a) (now b) (now head) (now next) ⌝ }
     requires { ⌜ n ≤ length (now seen) ⌝ }
     requires { ⌜ v < n ⌝ }
-    ensures { λ r. ⌜ r ≡ isWet (netOf n (now (kinds .entry)) (now (a .entry)) (now (b .entry))) v && not (Bool·beq (noted (now (seen .entry)) v) x) ⌝ }
+    ensures { λ r. ⌜ r ≡ isWet (netOf n (now (kinds .entry)) (now (a .entry)) (now (b .entry))) v && isUnnoted (now (seen .entry)) v ⌝ }
 {
-    if is_noted(seen, v) == x {
+    if seen[v] < UNREACHED {
         return false;
     }
     is_wet(n, kinds, a, b, head, next, v)
@@ -99,12 +88,22 @@ pub fn lowest_unseen(
 {
     let mut v = 0;
     while v < n {
-        if differs(n, kinds, a, b, head, next, seen, v, true) {
+        if is_left(n, kinds, a, b, head, next, seen, v) {
             return v;
         }
         v += 1;
     }
     n
+}
+
+// Whether basin v is noted as reached. Past the end of the row it counts as noted.
+fn is_noted(seen: &[u16], v: usize) -> bool
+    ensures { λ r. ⌜ r ≡ noted (now (seen .entry)) v ⌝ }
+{
+    if v < seen.len() {
+        return seen[v] < UNREACHED;
+    }
+    true
 }
 
 // Notes basin v as reached if it is wet and was noted otherwise than x says, and else as not reached.
@@ -125,11 +124,15 @@ fn note_at(
     ensures { λ _. ⌜ now (seen .exit) ≡ set (now (seen .entry)) v
         (sideNote (isWet (netOf n (now (kinds .entry)) (now (a .entry)) (now (b .entry))) v && not (Bool·beq (noted (now (seen .entry)) v) x))) ⌝ }
 {
-    if differs(n, kinds, a, b, head, next, seen, v, x) {
-        seen[v] = 0;
-    } else {
+    if is_noted(seen, v) == x {
         seen[v] = UNREACHED;
+        return;
     }
+    if !is_wet(n, kinds, a, b, head, next, v) {
+        seen[v] = UNREACHED;
+        return;
+    }
+    seen[v] = 0;
 }
 
 // Does so at each basin.

@@ -5,7 +5,7 @@ ghost use mathlib.Core.Path.{_≡_};
 ghost use mathlib.Core.List.{_++_};
 ghost use Prim.Native.Nat.{_≤_, _<_};
 ghost use lib.ListN.{length, getD, set, replicate, drop};
-ghost use Rattle.half_edges.specs.Chains.{none, Index, Indexable};
+ghost use Rattle.half_edges.specs.Chains.{Index, Indexable};
 
 // The half-edges of the largest table.
 pub const HALF_EDGES: usize = 2048;
@@ -13,14 +13,14 @@ pub const HALF_EDGES: usize = 2048;
 // What stands where there is no half-edge.
 pub const NONE: u16 = 65535;
 
-// Fills head[0..n] with NONE.
-fn empty(n: usize, head: &mut [u16])
-    requires { ⌜ n ≤ length (now head) ⌝ }
-    ensures { λ _. ⌜ now (head .exit) ≡ replicate n none ++ drop n (now (head .entry)) ⌝ }
+// Fills row[0..n] with x.
+pub fn fill(n: usize, x: u16, row: &mut [u16])
+    requires { ⌜ n ≤ length (now row) ⌝ }
+    ensures { λ _. ⌜ now (row .exit) ≡ replicate n x ++ drop n (now (row .entry)) ⌝ }
 {
     let mut i = 0;
     while i < n {
-        head[i] = NONE;
+        row[i] = x;
         i += 1;
     }
 }
@@ -41,7 +41,7 @@ pub fn index(n: usize, a: &[u16], b: &[u16], head: &mut [u16], next: &mut [u16])
     requires { ⌜ Indexable n (now a) (now b) (now head) (now next) ⌝ }
     ensures { λ _. ⌜ Index n (now (a .entry)) (now (b .entry)) (now (head .exit)) (now (next .exit)) ⌝ }
 {
-    empty(n, head);
+    fill(n, NONE, head);
     let mut i = 0;
     while i < a.len() {
         link(head, next, a[i], (2 * i) as u16);

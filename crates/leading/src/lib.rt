@@ -1,4 +1,5 @@
-// Whether one basin leads to another, searched for from both ends. These searches note 0 for each basin that they see, and do not count.
+// Whether one basin leads to another, searched for from both ends. These searches do not count: what they note for a basin that they see is the basin that they
+// began at, a number below UNREACHED.
 // The functions with a `requires` are for the crates above, which have checked it.
 ghost use mathlib.Core.Path.{_≡_};
 ghost use Prim.Native.Nat.{_≤_, _<_};
@@ -59,7 +60,19 @@ fn search_on(
         }
         // Which of the two goes on is free: the one with fewer basins waiting, and each by turns where these are equal.
         if tail - done + (done + updone) % 2 <= uptail - updone {
-            let end = search::scan(a, b, ways, head, next, seen, queue, done, tail, false, 0);
+            let end = search::scan(
+                a,
+                b,
+                ways,
+                head,
+                next,
+                seen,
+                queue,
+                done,
+                tail,
+                false,
+                start,
+            );
             if meet(queue, tail, end, upseen) {
                 return true;
             }
@@ -77,7 +90,7 @@ fn search_on(
                 updone,
                 uptail,
                 true,
-                0,
+                goal,
             );
             if meet(upqueue, uptail, end, seen) {
                 return true;

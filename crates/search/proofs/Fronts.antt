@@ -31,7 +31,7 @@ module _ {A : List Arc} {n start : ℕ} where
   visited-sound b c p s (again x) = s
   visited-sound {w} {count} {tail} {seen} {queue} b c p s (first e) =
       let in-seen : w < length seen = omega arith in
-      let g : Grew seen queue tail (set seen w count) (set queue tail w) (tail + 1) = visited-grew in-seen c (s .room) (first {count = count} e) in
+      let g : Grew seen queue tail (set seen w count) (set queue tail w) (tail + 1) = visited-grew in-seen c (s .room) (first e) in
       let u = unseen-set seen w count in-seen c e in
       let last = getD-set-same queue tail w 0 (omega arith) in
       record {
@@ -59,6 +59,14 @@ module _ (n : ℕ) (d : List ℕ) (long : n ≤ length d) where
 
   pub cleared : (v : ℕ) → v < n → getD (replicate n unreached ++ drop n d) v 0 ≡ unreached
   cleared v l = List·getD-append (replicate n unreached) (drop n d) 0 v (rw length-replicate l) ∙ getD-replicate n v unreached 0 l
+
+-- so a visit is the first
+module _ {n start : ℕ} (seen₀ : List ℕ) {queue filled : List ℕ} where
+  pub first-visit : start < n → n ≤ length seen₀ → filled ≡ replicate n unreached ++ drop n seen₀
+      → Visited start 0 (replicate n unreached ++ drop n seen₀) queue 0 (set filled start 0) (set queue 0 start) 1
+  first-visit b long e =
+      let z = cleared n seen₀ long start b in
+      rw e (first (omega (arith, z)))
 
 -- a fresh row is as if it were cleared
 module _ (m : ℕ) (d : List ℕ) (fresh : d ≡ replicate m unreached) where
@@ -154,7 +162,7 @@ module _ {A : List Arc} {n start : ℕ} where
   counts-begin seen₀ {queue₀} {seen} {queue} {tail} long room b v =
       record {
         origin = own start b (visited-seen (fits start refl) (omega arith) v) .1;
-        counted = λ u l x. let z = own u l x in rw (z .0, z .1) none-crossed;
+        counted = λ u l x. let z = own u l x in rw (z .1, z .0) none-crossed;
         attained = λ u l x d h. absurd (omega (arith, own u l x .1));
         queued = λ j l. omega (arith, k .queued j (omega arith) l);
         rising = λ i j a l h. omega (arith, k .queued i (omega arith) (omega arith), k .queued j (omega arith) h);
@@ -184,7 +192,7 @@ module _ {A : List Arc} {n start : ℕ} where
   module _ {seen queue seen′ queue′ : List ℕ} {at tail tail′ count : ℕ} (f : (u w : ℕ) → Next A u w → w < n) (few : count < unreached) (l : at < tail)
       (s : Searching A n start seen queue at tail) (c : Counting A n start seen queue at tail) (one-more : count ≡ getD seen (getD queue at 0) 0 + 1)
       (d : Scanned A (getD queue at 0) count seen queue tail seen′ queue′ tail′) where
-    u : ℕ
+    abbrev u : ℕ
     u = getD queue at 0
 
     fits : (w : ℕ) → Next A u w → w < length seen

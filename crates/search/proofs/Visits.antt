@@ -1,6 +1,6 @@
 -- What visits change: the counts, the queue and the room in it.
 -- Assumes nothing.
-use Prim.Native.Nat.{ℕ, suc, _≤_, _<_}
+use Prim.Native.Nat.{ℕ, suc, _+_, _≤_, _<_}
 use mathlib.Core.Path.{_≡_, refl, sym, _∙_}
 use mathlib.Core.Logic.{_⊎_, inl, inr, ⊎-elim}
 use mathlib.Core.List.{List}
@@ -93,36 +93,35 @@ pub record Counted (P : ℕ → Type 0) (count : ℕ) (seen : List ℕ) (tail : 
   pub fresh : (v : ℕ) → Seen seen′ v → Seen seen v ⊎ (P v × (getD seen′ v 0 ≡ count))
   pub queued : (k : ℕ) → tail ≤ k → k < tail′ → getD seen′ (getD queue′ k 0) 0 ≡ count
 
+-- one more basin is visited for the first time
+module _ {P : ℕ → Type 0} {count : ℕ} {seen queue seen′ queue′ : List ℕ} {tail end : ℕ} (w : ℕ) (in-seen : w < length seen′) (few : count < unreached) (p : P w) (e : Unseen seen′ w)
+    (h : Grew seen queue tail seen′ queue′ end) (k : Counted P count seen tail seen′ queue′ end) where
+  own : getD (set seen′ w count) w 0 ≡ count
+  own = getD-set-same seen′ w count 0 in-seen
+
+  -- what was seen is another basin
+  other : (v : ℕ) → Seen seen′ v → v ≡ w → ⊥
+  other v x q = let z : Unseen seen′ v = rw q e in omega (arith, x, z)
+
+  others : (v : ℕ) → Seen seen′ v → getD (set seen′ w count) v 0 ≡ getD seen′ v 0
+  others v x = getD-set-other seen′ w v count 0 (other v x)
+
+  at : (j : ℕ) → tail ≤ j → Dec (j ≡ end) → j < end + 1 → getD (set seen′ w count) (getD (set queue′ end w) j 0) 0 ≡ count
+  at j l (yes q) m = rw (q, getD-set-same queue′ end w 0 (omega (arith, h .room, unseen-set seen′ w count in-seen few e))) own
+  at j l (no q) m = let z = k .queued j l (omega arith) in rw (getD-set-other queue′ end j w 0 q) (others (getD queue′ j 0) (omega (arith, z)) ∙ z)
+
+  counted-first : Counted P count seen tail (set seen′ w count) (set queue′ end w) (end + 1)
+  counted-first =
+      record {
+        same = λ v s. others v (h .keeps v s) ∙ k .same v s;
+        fresh = λ v s. ⊎-elim (λ x. ⊎-elim (λ y. inl y) (λ y. inr (y .0, others v x ∙ y .1)) (k .fresh v x)) (λ q. inr (rw q p, rw q own)) (set-news seen′ w count v s);
+        queued = λ j l m. at j l (ℕ-discrete j end) m;
+      }
+
 pub grown-counted : {P : ℕ → Type 0} {count : ℕ} {seen queue seen′ queue′ : List ℕ} {tail tail′ : ℕ} → ((w : ℕ) → P w → w < length seen) → count < unreached → QueueRoom seen queue tail
     → Grown P count seen queue tail seen′ queue′ tail′ → Counted P count seen tail seen′ queue′ tail′
 grown-counted f c r stay = record { same = λ v s. refl; fresh = λ v s. inl s; queued = λ k l m. absurd (omega arith) }
 grown-counted f c r (more g p (again s)) = grown-counted f c r g
-grown-counted {P} {count} {seen} {tail = tail} f c r (more {w = w} {tail′ = end} {seen′ = s′} {queue′ = q′} g p (first e)) =
-    record {
-      same = λ v s. getD-set-other s′ w v count 0 (old v s) ∙ k .same v s;
-      fresh = λ v s. ⊎-elim (λ x. ⊎-elim (λ y. inl y) (λ y. inr (y .0, renoted v x ∙ y .1)) (k .fresh v x)) (λ q. inr (rw q p, rw q own)) (set-news s′ w count v s);
-      queued = λ j l m. at j l (ℕ-discrete j end) m;
-    }
-  where
-    h : Grew seen _ tail s′ q′ end
-    h = grown-grew f c r g
-
-    k : Counted P count seen tail s′ q′ end
-    k = grown-counted f c r g
-
-    in-seen : w < length s′
-    in-seen = omega (arith, f w p, h .seen-length)
-
-    own : getD (set s′ w count) w 0 ≡ count
-    own = getD-set-same s′ w count 0 in-seen
-
-    -- what was seen is another basin
-    renoted : (v : ℕ) → Seen s′ v → getD (set s′ w count) v 0 ≡ getD s′ v 0
-    renoted v x = getD-set-other s′ w v count 0 (λ q. let z : Unseen s′ v = rw q e in omega (arith, x, z))
-
-    old : (v : ℕ) → Seen seen v → v ≡ w → ⊥
-    old v s q = let z : Unseen s′ v = rw q e in omega (arith, h .keeps v s, z)
-
-    at : (j : ℕ) → tail ≤ j → Dec (j ≡ end) → j < end + 1 → getD (set s′ w count) (getD (set q′ end w) j 0) 0 ≡ count
-    at j l (yes q) m = rw (q, getD-set-same q′ end w 0 (omega (arith, h .room, unseen-set s′ w count in-seen c e))) own
-    at j l (no q) m = let z = k .queued j l (omega arith) in rw (getD-set-other q′ end j w 0 q) (renoted (getD q′ j 0) (omega (arith, z)) ∙ z)
+grown-counted f c r (more {w = w} g p (first e)) =
+    let h = grown-grew f c r g in
+    counted-first w (omega (arith, f w p, h .seen-length)) c p e h (grown-counted f c r g)

@@ -35,7 +35,7 @@ pub data Grown (P : ℕ → Type 0) (count : ℕ) (seen queue : List ℕ) (tail 
       → Visited w count seen′ queue′ tail′ seen″ queue″ tail″ → Grown P count seen queue tail seen″ queue″ tail″
 
 -- What a scan of the basin at place `at` of the queue requires.
-pub record Scannable (xs ys ws head next seen queue : List ℕ) (at tail : ℕ) : Type 0 where
+pub record Scannable (xs ys ws head next seen queue : List ℕ) (at tail count : ℕ) : Type 0 where
   pub basins : ℕ
   pub table : Table basins xs ys
   pub ways-room : length xs ≤ length ws
@@ -44,6 +44,7 @@ pub record Scannable (xs ys ws head next seen queue : List ℕ) (at tail : ℕ) 
   pub waiting : at < tail
   pub basin : getD queue at 0 < basins
   pub room : tail + unseen seen ≤ length queue
+  pub counts : count < unreached
 
 -- What it leaves: only ends of arcs from that basin were visited, each with the count, and all of them are seen.
 pub record Scanned (A : List Arc) (u count : ℕ) (seen queue : List ℕ) (tail : ℕ) (seen′ queue′ : List ℕ) (tail′ : ℕ) : Type 0 where

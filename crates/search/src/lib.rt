@@ -10,18 +10,6 @@ ghost use Rattle.search.specs.Searches.{unseen, Visited, Scannable, Scan
 use distances::UNREACHED;
 use half_edges::NONE;
 
-// Fills seen[0..n] with UNREACHED.
-fn clear(n: usize, seen: &mut [u16])
-    requires { ⌜ n ≤ length (now seen) ⌝ }
-    ensures { λ _. ⌜ now (seen .exit) ≡ replicate n unreached ++ drop n (now (seen .entry)) ⌝ }
-{
-    let mut i = 0;
-    while i < n {
-        seen[i] = UNREACHED;
-        i += 1;
-    }
-}
-
 // Whether the reach of half-edge h passes away from the basin at which h stands or, against the arrows, towards it.
 fn passes(ways: &[u8], h: u16, against: bool) -> bool
     requires { ⌜ h / 2 < length (now ways) ⌝ }
@@ -68,8 +56,10 @@ pub fn begin(n: usize, start: u16, seen: &mut [u16], queue: &mut [u16]) -> usize
     ensures { λ r. ⌜ Visited start 0 (replicate n unreached ++ drop n (now (seen .entry))) (now (queue .entry)) 0
         (now (seen .exit)) (now (queue .exit)) r ⌝ }
 {
-    clear(n, seen);
-    visit(start, 0, seen, queue, 0)
+    half_edges::fill(n, UNREACHED, seen);
+    seen[start as usize] = 0;
+    queue[0] = start;
+    1
 }
 
 // Visits, with the count, each basin to which a half-edge passes from the basin at place `at` of the queue, or passes to it from there. Returns the queue's end.
@@ -86,8 +76,7 @@ pub fn scan(
     against: bool,
     count: u16,
 ) -> usize
-    requires { ⌜ Scannable (now a) (now b) (now ways) (now head) (now next) (now seen) (now queue) at tail ⌝ }
-    requires { ⌜ count < unreached ⌝ }
+    requires { ⌜ Scannable (now a) (now b) (now ways) (now head) (now next) (now seen) (now queue) at tail count ⌝ }
     ensures { λ r. ⌜ Scanned (arcsOf (now (a .entry)) (now (b .entry)) (sided against (now (ways .entry)))) (getD (now (queue .entry)) at 0)
         count (now (seen .entry)) (now (queue .entry)) tail (now (seen .exit)) (now (queue .exit)) r ⌝ }
 {
@@ -133,7 +122,19 @@ pub fn search(
     let mut at = 0;
     while at < tail {
         let count = count_after(seen, queue, at);
-        tail = scan(a, b, ways, head, next, seen, queue, at, tail, against, count);
+        tail = scan(
+            a,
+            b,
+            ways,
+            head,
+            next,
+            seen,
+            queue,
+            at,
+            tail,
+            against,
+            count,
+        );
         at += 1;
     }
 }

@@ -1,18 +1,21 @@
--- `begin` meets its contract.
+-- `begin` meets its contract: after the notes are cleared start is not seen, and its visit is the first.
 -- Assumes nothing.
 use borrow.Author.Needs.{needs}
-use native.Mathlib.Omega.{arith}
-use Rattle.search.proofs.Counts.{unseen-le}
+use Rattle.search.proofs.Fronts.{first-visit}
 use Rattle.search.proofs.begin.Statement.{statement}
 use Rattle.search.proofs.begin.Tie as tie
 
-clear-requires : tie.Need-clear-requires
-clear-requires c κs = search needs
+fill-requires : tie.Need-fill-requires
+fill-requires c κs = search needs
 
-visit-requires : tie.Need-visit-requires
-visit-requires c κs =
-    let cleared = c .before .before .before .before .clear in
-    omega (arith, cleared .kept .1 .0, unseen-le (cleared .last .1 .0))
+mul-seen : tie.Need-mul-seen
+mul-seen c = search needs
+
+slice-write-seen : tie.Need-slice-write-seen
+slice-write-seen c = search needs
+
+slice-write-queue : tie.Need-slice-write-queue
+slice-write-queue c = search needs
 
 same-length : tie.Need-same-length
 same-length c = search needs
@@ -21,7 +24,9 @@ same-length-2 : tie.Need-same-length-2
 same-length-2 c = search needs
 
 returns : tie.Need-returns
-returns c = rw (← (c .before .before .before .before .before .before .before .before .before .clear .ensures)) (c .before .before .before .before .visit .ensures)
+returns c =
+    let s = c .before .before .before .before .before .before in
+    first-visit (s .args .seen .now) (s .pre .0) (s .pre .1 .0) (c .before .before .fill .ensures)
 
 pub begin-spec : {M : Type 1} → statement M
-begin-spec = tie.close (tie.spec clear-requires visit-requires same-length same-length-2 returns)
+begin-spec = tie.close (tie.spec fill-requires mul-seen slice-write-seen slice-write-queue same-length same-length-2 returns)

@@ -18,11 +18,11 @@ use Rattle.search.proofs.scan.Statement.{statement}
 use Rattle.search.proofs.scan.Tie as tie
 
 abbrev Inv-loop : tie.InvT-loop
-Inv-loop a b ways head next seen₀ queue₀ at tail against end₀ h₀ seen queue end h =
-    Scanning a b (sided against ways) (getD queue₀ at 0) seen₀ queue₀ tail seen queue end h
+Inv-loop a b ways head next seen₀ queue₀ at tail against count end₀ h₀ seen queue end h =
+    Scanning a b (sided against ways) (getD queue₀ at 0) count seen₀ queue₀ tail seen queue end h
 
 abbrev μ-loop : tie.MeasureT-loop
-μ-loop a b ways head next seen₀ queue₀ at tail against end₀ h₀ seen queue end h = (h + 1) % 65536
+μ-loop a b ways head next seen₀ queue₀ at tail against count end₀ h₀ seen queue end h = (h + 1) % 65536
 
 -- the function's entry
 abbrev entry : tie.At-loop Inv-loop μ-loop → tie.Start Inv-loop μ-loop
@@ -75,7 +75,7 @@ far-requires c κs = omega (arith, here (c .before .before) .below)
 visit-requires : tie.Need-visit-requires Inv-loop μ-loop
 visit-requires c κs =
     let t = c .before .before .before .before .before in
-    (rw (c .before .before .far .ensures) (leads-in t), t .before .loop .inv .grew .room)
+    (rw (c .before .before .far .ensures) (leads-in t), (entry (t .before) .pre .counts, t .before .loop .inv .grew .room))
 
 cast-h-2 : tie.Need-cast-h-2 Inv-loop μ-loop
 cast-h-2 c = omega (arith, here (c .before .before) .below)
@@ -101,7 +101,7 @@ loop-again c =
     let before = start .pre .index .nexts (t .before .loop .h) (omega (arith, here t .below)) in
     ⊎-elim
     (λ w. renamed (w .9) (w .10) (w .11)
-    (turn-through (t .before .loop .inv) (here t) before (start .pre .table .paired) (omega (arith, start .pre .ways-room, length-sided (start .args .against) (start .args .ways .now))) (sym passes ∙ w .0 .taken) (w .1 .ensures) (leads-in t) (w .4 .ensures)))
+    (turn-through (t .before .loop .inv) (here t) before (start .pre .table .paired) (omega (arith, start .pre .ways-room, length-sided (start .args .against) (start .args .ways .now))) (sym passes ∙ w .0 .taken) (w .1 .ensures) (leads-in t) (start .pre .counts) (w .4 .ensures)))
     (λ w. renamed (w .1) (w .2) (w .3) (turn-past (t .before .loop .inv) (here t) before (sym passes ∙ w .0 .left)))
     (c .before .if1 .came)
 
