@@ -3,6 +3,7 @@
 use Prim.Native.Nat.{ℕ, zero, suc, _+_, _≤_, _<_}
 use mathlib.Core.Path.{_≡_, refl, sym, ap, subst, _∙_}
 use mathlib.Core.Bool.{Bool, true, false}
+use lib.Dec.{ltb}
 use mathlib.Mathlib.Data.Bool.Basic.{bool-eq-false}
 use mathlib.Core.Logic.{_⊎_, inl, inr, ⊎-elim}
 use mathlib.Core.List.{List, _∷_, _++_, List·Memᴰ}
@@ -303,6 +304,13 @@ module _ {A : List Arc} {n start : ℕ} where
       go (yes x) (no e) = absurd (omega (arith, fewest-least (c .counted v h x)))
       go (no x) (yes e) = absurd (x (along (fewest-walk A start v e) b (s .started) .0))
       go (no x) (no e) = omega (arith, s .sound .low v h, fewest-most A start v)
+
+-- what is noted below 65,535 is what is reached
+pub noted-reached : {A : List Arc} {n start : ℕ} (seen : List ℕ) → ((u w : ℕ) → Next A u w → w < n) → start < n → n ≤ unreached → Noted A n start seen
+    → (v : ℕ) → v < n → noted seen v ≡ reached A start v
+noted-reached {A} {n} {start} seen f b few m v l =
+    ap (λ (x : ℕ). ltb x unreached) (m v l)
+    ∙ counted-exactly A (range 0 n) (λ u w e. range-has 0 n (omega arith) (omega (arith, f u w e))) start v (range-has 0 n (omega arith) (omega arith)) (omega (arith, length-range 0 n))
 
 -- ---- two searches, from both ends
 

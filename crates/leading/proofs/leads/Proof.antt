@@ -5,6 +5,7 @@ use mathlib.Core.Path.{refl}
 use lib.ListN.{replicate}
 use borrow.Author.Needs.{needs}
 use Rattle.network.specs.Networks.{maxBasins}
+use Rattle.distances.specs.Distances.{unreached}
 use Rattle.leading.proofs.leads.Statement.{statement}
 use Rattle.leading.proofs.leads.Tie as tie
 
@@ -15,7 +16,7 @@ slice-aggregate-leads-in-2 : tie.Need-slice-aggregate-leads-in-2
 slice-aggregate-leads-in-2 c = search needs
 
 leads-in-requires : tie.Need-leads-in-requires
-leads-in-requires c κs = let s = c .before .before .before .before .before .before .before .before .before .before .before in (s .pre .0, (s .pre .1 .0, (s .pre .1 .1, (refl {a = replicate {A = ℕ} maxBasins 0}, refl {a = 256}))))
+leads-in-requires c κs = let s = c .before .before .before .before .before .before .before .before .before .before .before in (s .pre .0, (s .pre .1 .0, (s .pre .1 .1, (refl {a = replicate {A = ℕ} maxBasins unreached}, refl {a = 256}))))
 
 same-length : tie.Need-same-length
 same-length c = search needs

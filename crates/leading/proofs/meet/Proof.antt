@@ -5,12 +5,12 @@ use mathlib.Core.Path.{_≡_, refl}
 use native.Mathlib.Omega.{arith}
 use borrow.Author.Count.{below-more}
 use lib.ListN.{getD}
-use Rattle.search.specs.Searches.{meeting, apart}
+use Rattle.search.specs.Searches.{Unseen, meeting, apart}
 use Rattle.leading.proofs.meet.Statement.{statement}
 use Rattle.leading.proofs.meet.Tie as tie
 
 abbrev Inv-loop : tie.InvT-loop
-Inv-loop queue from to seen k₀ k = (from ≤ k) × ((j : ℕ) → from ≤ j → j < k → getD seen (getD queue j 0) 0 ≡ 0)
+Inv-loop queue from to seen k₀ k = (from ≤ k) × ((j : ℕ) → from ≤ j → j < k → Unseen seen (getD queue j 0))
 
 abbrev μ-loop : tie.MeasureT-loop
 μ-loop queue from to seen k₀ k = to - k
@@ -26,6 +26,9 @@ shared-slice-read-if1 c = omega (arith, c .before .loop-test .taken, c .before .
 
 cast-if1 : tie.Need-cast-if1 Inv-loop μ-loop
 cast-if1 c = omega (arith, c .shared-slice-known .given (c .before .before .loop .k))
+
+mul-if1-2 : tie.Need-mul-if1-2 Inv-loop μ-loop
+mul-if1-2 c = let t = c .before in omega (arith, t .before .before .pre .1 (t .before .loop .k) (t .loop-test .taken))
 
 shared-slice-read-if1-2 : tie.Need-shared-slice-read-if1-2 Inv-loop μ-loop
 shared-slice-read-if1-2 c = let t = c .before .before in t .before .before .pre .1 (t .before .loop .k) (t .loop-test .taken)
@@ -45,7 +48,7 @@ loop-again c =
     let l = t .before in
     let s = l .before .args in (
       omega (arith, l .loop .inv .0),
-      λ j f b. below-more (λ (x : ℕ). s .from ≤ x → getD (s .seen .now) (getD (s .queue .now) x 0) 0 ≡ 0) (l .loop .k) (λ x m g. l .loop .inv .1 x g m) (λ g. c .if1 .left) j b f,
+      λ j f b. below-more (λ (x : ℕ). s .from ≤ x → Unseen (s .seen .now) (getD (s .queue .now) x 0)) (l .loop .k) (λ x m g. l .loop .inv .1 x g m) (λ g. c .if1 .left) j b f,
     )
 
 returns-2 : tie.Need-returns-2 Inv-loop μ-loop
@@ -61,6 +64,7 @@ meet-spec =
     mul-if1
     shared-slice-read-if1
     cast-if1
+    mul-if1-2
     shared-slice-read-if1-2
     returns
     add-k

@@ -6,11 +6,13 @@ use Prim.Native.Nat.{ℕ, _+_, _-_, _≤_, _<_}
 use mathlib.Core.Path.{_≡_, refl, sym, _∙_}
 use mathlib.Core.List.{List, map}
 use native.Mathlib.Omega.{arith}
-use lib.ListN.{length, getD}
+use lib.ListN.{length}
 use Rattle.network.specs.Orientations.{Arc, reached}
 use Rattle.half_edges.specs.Ends.{arcsOf, flipWay, Next}
 use Rattle.half_edges.proofs.Halves.{arc-below}
 use Rattle.half_edges.proofs.Laws.{reached-flipped}
+use Rattle.distances.specs.Distances.{unreached}
+use Rattle.search.specs.Searches.{Unseen}
 use Rattle.search.specs.Fronts.{Searching}
 use Rattle.search.proofs.Fronts.{scans, scans-grew, unmet, joins, shut}
 use Rattle.leading.proofs.search_on.Statement.{statement}
@@ -20,7 +22,7 @@ abbrev Inv-loop : tie.InvT-loop
 Inv-loop n a b ways head next start goal seen₀ queue₀ upseen₀ upqueue₀ first upfirst tail₀ uptail₀ done₀ updone₀ seen queue upseen upqueue tail uptail done updone =
     Searching (arcsOf a b ways) n start seen queue done tail × Searching (arcsOf a b (map flipWay ways)) n goal upseen upqueue updone uptail
     × (length seen ≡ length seen₀) × (length queue ≡ length queue₀) × (length upseen ≡ length upseen₀) × (length upqueue ≡ length upqueue₀)
-    × (getD seen goal 0 ≡ 0) × (getD upseen start 0 ≡ 0)
+    × Unseen seen goal × Unseen upseen start
 
 abbrev μ-loop : tie.MeasureT-loop
 μ-loop n a b ways head next start goal seen₀ queue₀ upseen₀ upqueue₀ first upfirst tail₀ uptail₀ done₀ updone₀ seen queue upseen upqueue tail uptail done updone =
@@ -49,6 +51,13 @@ along-in c u w m = arc-below (c .args .a .now) (c .args .b .now) (c .args .ways 
 
 up-in : (c : tie.Start Inv-loop μ-loop) (u w : ℕ) → Next (up c) u w → w < c .args .n
 up-in c u w m = arc-below (c .args .a .now) (c .args .b .now) (map flipWay (c .args .ways .now)) (c .args .n) u w (c .pre .table) m
+
+-- what the searches note is a number below 65,535
+start-fits : (c : tie.Start Inv-loop μ-loop) → c .args .start < unreached
+start-fits c = omega (arith, c .pre .starts, c .pre .few-basins)
+
+goal-fits : (c : tie.Start Inv-loop μ-loop) → c .args .goal < unreached
+goal-fits c = omega (arith, c .pre .goals, c .pre .few-basins)
 
 -- the four slices keep their lengths
 seen-kept : (c : tie.At-loop Inv-loop μ-loop) → length (c .loop .seen) ≡ length (entry c .args .seen .now)
@@ -114,6 +123,7 @@ scan-requires c κs =
       waiting = t .loop-test .taken;
       basin = s .basins (t .before .loop .done) (t .loop-test .taken);
       room = s .room;
+      counts = start-fits start;
     }
 
 meet-requires : tie.Need-meet-requires Inv-loop μ-loop
@@ -121,7 +131,7 @@ meet-requires c κs =
     let t = c .before .before .before .before .before .before .before .before .before .before .before in
     let start = entry (t .before) in
     let s = c .before .before .before .before .before .before .scan in
-    let d = scans (along-in start) (t .loop-test .taken) (t .before .loop .inv .0) (s .ensures) in
+    let d = scans (along-in start) (start-fits start) (t .loop-test .taken) (t .before .loop .inv .0) (s .ensures) in
     (omega (arith, d .sound .room), λ k l. omega (arith, d .sound .basins k l, t .before .loop .inv .1 .sound .long))
 
 same-length-5 : tie.Need-same-length-5 Inv-loop μ-loop
@@ -141,7 +151,7 @@ returns-2 c =
     let t = c .before .before .before .before .before .before .before .before .before .before .before .before .before in
     let start = entry (t .before) in
     let s = c .before .before .before .before .before .before .before .before .scan in
-    let d = scans (along-in start) (t .loop-test .taken) (t .before .loop .inv .0) (s .ensures) in
+    let d = scans (along-in start) (start-fits start) (t .loop-test .taken) (t .before .loop .inv .0) (s .ensures) in
     sym (joins (against start) (d .sound) (t .before .loop .inv .1 .sound) (c .before .meet .ensures) (c .if3 .taken))
 
 add-done : tie.Need-add-done Inv-loop μ-loop
@@ -159,14 +169,14 @@ loop-again c =
     let t = c .before .before .before .before .before .before .before .before .before .before .before .before .before in
     let start = entry (t .before) in
     let s = c .before .before .before .before .before .before .before .before .scan in
-    let d = scans (along-in start) (t .loop-test .taken) (t .before .loop .inv .0) (s .ensures) in (
+    let d = scans (along-in start) (start-fits start) (t .loop-test .taken) (t .before .loop .inv .0) (s .ensures) in (
       d,
       t .before .loop .inv .1,
       s .kept .1 .1 .1 .1 .1 .0 ∙ t .before .loop .inv .2,
       s .kept .1 .1 .1 .1 .1 .1 .0 ∙ t .before .loop .inv .3,
       t .before .loop .inv .4,
       t .before .loop .inv .5,
-      unmet (scans-grew (along-in start) (t .before .loop .inv .0) (s .ensures)) (c .before .meet .ensures) (c .if3 .left) (start .args .goal) (t .before .loop .inv .6) (t .before .loop .inv .1 .started),
+      unmet (scans-grew (along-in start) (start-fits start) (t .before .loop .inv .0) (s .ensures)) (c .before .meet .ensures) (c .if3 .left) (start .args .goal) (t .before .loop .inv .6) (t .before .loop .inv .1 .started),
       t .before .loop .inv .7,
     )
 
@@ -184,6 +194,7 @@ scan-requires-2 c κs =
       waiting = omega (arith, c .before .before .before .if1 .left);
       basin = s .basins (t .before .loop .updone) (omega (arith, c .before .before .before .if1 .left));
       room = s .room;
+      counts = goal-fits start;
     }
 
 meet-requires-2 : tie.Need-meet-requires-2 Inv-loop μ-loop
@@ -191,7 +202,7 @@ meet-requires-2 c κs =
     let t = c .before .before .before .before .before .before .before .before .before .before .before in
     let start = entry (t .before) in
     let s = c .before .before .before .before .before .before .scan2 in
-    let d = scans (up-in start) (omega (arith, c .before .before .before .before .before .before .before .before .before .before .if1 .left)) (t .before .loop .inv .1) (s .ensures) in
+    let d = scans (up-in start) (goal-fits start) (omega (arith, c .before .before .before .before .before .before .before .before .before .before .if1 .left)) (t .before .loop .inv .1) (s .ensures) in
     (omega (arith, d .sound .room), λ k l. omega (arith, d .sound .basins k l, t .before .loop .inv .0 .sound .long))
 
 same-length-9 : tie.Need-same-length-9 Inv-loop μ-loop
@@ -211,7 +222,7 @@ returns-3 c =
     let t = c .before .before .before .before .before .before .before .before .before .before .before .before .before in
     let start = entry (t .before) in
     let s = c .before .before .before .before .before .before .before .before .scan2 in
-    let d = scans (up-in start) (omega (arith, c .before .before .before .before .before .before .before .before .before .before .before .before .if1 .left)) (t .before .loop .inv .1) (s .ensures) in
+    let d = scans (up-in start) (goal-fits start) (omega (arith, c .before .before .before .before .before .before .before .before .before .before .before .before .if1 .left)) (t .before .loop .inv .1) (s .ensures) in
     sym (along-against start (start .args .start) (start .args .goal) ∙ joins (along-against start) (d .sound) (t .before .loop .inv .0 .sound) (c .before .meet2 .ensures) (c .if4 .taken))
 
 add-updone : tie.Need-add-updone Inv-loop μ-loop
@@ -229,7 +240,7 @@ loop-again-2 c =
     let t = c .before .before .before .before .before .before .before .before .before .before .before .before .before in
     let start = entry (t .before) in
     let s = c .before .before .before .before .before .before .before .before .scan2 in
-    let d = scans (up-in start) (omega (arith, c .before .before .before .before .before .before .before .before .before .before .before .before .if1 .left)) (t .before .loop .inv .1) (s .ensures) in (
+    let d = scans (up-in start) (goal-fits start) (omega (arith, c .before .before .before .before .before .before .before .before .before .before .before .before .if1 .left)) (t .before .loop .inv .1) (s .ensures) in (
       t .before .loop .inv .0,
       d,
       t .before .loop .inv .2,
@@ -237,7 +248,7 @@ loop-again-2 c =
       s .kept .1 .1 .1 .1 .1 .0 ∙ t .before .loop .inv .4,
       s .kept .1 .1 .1 .1 .1 .1 .0 ∙ t .before .loop .inv .5,
       t .before .loop .inv .6,
-      unmet (scans-grew (up-in start) (t .before .loop .inv .1) (s .ensures)) (c .before .meet2 .ensures) (c .if4 .left) (start .args .start) (t .before .loop .inv .7) (t .before .loop .inv .0 .started),
+      unmet (scans-grew (up-in start) (goal-fits start) (t .before .loop .inv .1) (s .ensures)) (c .before .meet2 .ensures) (c .if4 .left) (start .args .start) (t .before .loop .inv .7) (t .before .loop .inv .0 .started),
     )
 
 same-length-13 : tie.Need-same-length-13 Inv-loop μ-loop
