@@ -3,12 +3,13 @@
 use Prim.Native.Nat.{ℕ, _+_, _≤_, _<_}
 use native.Mathlib.Omega.{arith}
 use native.Mathlib.Decide.{ℕ-discrete}
-use mathlib.Core.Path.{_≡_, refl, sym, _∙_}
-use mathlib.Core.Bool.{Bool, true, false, _&&_}
-use lib.Dec.{eqb}
-use borrow.Author.Tests.{eq-eqb, ne-eqb}
+use mathlib.Core.Path.{_≡_, refl, sym, ap, _∙_}
+use mathlib.Core.Bool.{Bool, true, false, not, _&&_}
+use lib.Dec.{ltb}
+use borrow.Author.Tests.{lt-ltb, le-ltb}
 use mathlib.Mathlib.Data.Bool.Basic.{and-elim-left, and-elim-right}
 use Rattle.network.specs.Networks.{Network, isWet}
+use Rattle.distances.specs.Distances.{unreached}
 use Rattle.basins.specs.Wet.{Lowest}
 
 -- a basin that is wet or not, by what was said of it
@@ -18,14 +19,14 @@ any-yes e y = rw (sym e ∙ y)
 pub any-no : {r w : Bool} → r ≡ w → r ≡ false → w && true ≡ false
 any-no e n = rw (sym e ∙ n)
 
--- its byte is another than 0, or it is 0
-pub left-seen : (w : Bool) (y : ℕ) → (y ≡ 0 → ⊥) → false ≡ w && eqb y 0
-left-seen true y n = sym (ne-eqb y 0 n)
-left-seen false y n = refl
+-- it is noted as reached, or it is not
+pub left-seen : (w : Bool) (y : ℕ) → y < unreached → false ≡ w && not (ltb y unreached)
+left-seen true y l = sym (ap not (lt-ltb y unreached l))
+left-seen false y l = refl
 
-pub left-unseen : {r : Bool} (w : Bool) (y : ℕ) → r ≡ w → y ≡ 0 → r ≡ w && eqb y 0
-left-unseen true y e z = e ∙ sym (eq-eqb y 0 z)
-left-unseen false y e z = e
+pub left-unseen : {r : Bool} (w : Bool) (y : ℕ) → r ≡ w → unreached ≤ y → r ≡ w && not (ltb y unreached)
+left-unseen true y e l = e ∙ sym (ap not (le-ltb y unreached l))
+left-unseen false y e l = e
 
 -- no wet basin below v passes the test
 abbrev pub NoneBelow : Network → (ℕ → Bool) → ℕ → Type 0

@@ -3,11 +3,11 @@
 -- Assumes nothing.
 use Prim.Native.Nat.{ℕ, _≤_, _<_}
 use mathlib.Core.Path.{_≡_}
-use mathlib.Core.Bool.{Bool, true, false, not, cond, _&&_}
+use mathlib.Core.Bool.{Bool, true, false, not, cond, _&&_, Bool·beq}
 use mathlib.Core.List.{List}
-use lib.ListN.{length, getD, set}
-use lib.Dec.{eqb}
+use lib.ListN.{length, getD}
 use Rattle.network.specs.Networks.{Network, isWet, lowestBasin}
+use Rattle.distances.specs.Distances.{unreached, noted}
 use Rattle.half_edges.specs.Chains.{Table, Index}
 
 -- A table of n basins with a kind for each reach, and the index of its half-edges.
@@ -18,12 +18,12 @@ pub record Tabled (n : ℕ) (ks xs ys head next : List ℕ) : Type 0 where
 
 -- ---- the lowest
 
--- Tests of a basin: any passes; it passes if its byte is 0.
+-- Tests of a basin: any passes; it passes if it is not noted as reached.
 abbrev pub anyBasin : ℕ → Bool
 anyBasin v = true
 
-abbrev pub byteIs0 : List ℕ → ℕ → Bool
-byteIs0 seen v = eqb (getD seen v 0) 0
+abbrev pub isUnnoted : List ℕ → ℕ → Bool
+isUnnoted seen v = not (noted seen v)
 
 -- r is the lowest wet basin that passes the test, or the basin count if none does.
 pub record Lowest (N : Network) (test : ℕ → Bool) (r : ℕ) : Type 0 where
@@ -33,19 +33,19 @@ pub record Lowest (N : Network) (test : ℕ → Bool) (r : ℕ) : Type 0 where
 
 -- ---- the other side
 
--- Of a basin's byte y: 2 if the basin is wet and y is not x, and otherwise y.
-abbrev pub otherByte : ℕ → Bool → ℕ → ℕ
-otherByte x wet y = cond (wet && not (eqb y x)) 2 y
+-- Basin v is wet, and noted otherwise than x says.
+abbrev pub isOther : Network → Bool → List ℕ → ℕ → Bool
+isOther N x seen v = isWet N v && not (Bool·beq (noted seen v) x)
 
--- The bytes with basin v's so changed.
-abbrev pub notedAt : Network → ℕ → ℕ → List ℕ → List ℕ
-notedAt N x v seen = cond (isWet N v && not (eqb (getD seen v 0) x)) (set seen v 2) seen
+-- What a basin gets that is on the side, and one that is not.
+abbrev pub sideNote : Bool → ℕ
+sideNote side = cond side 0 unreached
 
--- The wet basins that have another byte than x get the byte 2; every other basin's byte is kept. What stands past the basins is free.
-pub record OthersNoted (N : Network) (x : ℕ) (seen seen′ : List ℕ) : Type 0 where
-  pub bytes : (v : ℕ) → v < N .basins → getD seen′ v 0 ≡ otherByte x (isWet N v) (getD seen v 0)
+-- The wet basins that were noted otherwise than x says are noted as reached, and no other. What stands past the basins is free.
+pub record OthersNoted (N : Network) (x : Bool) (seen seen′ : List ℕ) : Type 0 where
+  pub notes : (v : ℕ) → v < N .basins → getD seen′ v 0 ≡ sideNote (isOther N x seen v)
 
--- What is marked of a lone reach is its side "without basin 0", which item 3 has "read as without the lowest wet basin". The bytes tell the sides apart: each wet
--- basin with another byte than the lowest wet basin gets the byte 2.
+-- What is marked of a lone reach is its side "without basin 0", which item 3 has "read as without the lowest wet basin". What a search has noted tells the sides
+-- apart: the wet basins that it noted otherwise than the lowest wet basin are then noted as reached, and no other.
 abbrev pub FarSideNoted : Network → List ℕ → List ℕ → Type 0
-FarSideNoted N seen seen′ = OthersNoted N (getD seen (lowestBasin N) 0) seen seen′
+FarSideNoted N seen seen′ = OthersNoted N (noted seen (lowestBasin N)) seen seen′

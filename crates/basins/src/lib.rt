@@ -1,18 +1,18 @@
 // Which basins are wet, by the indexed half-edges: the lowest, the lowest that a search has not seen, and the side of a lone reach that is marked.
 // The functions with a `requires` are for the crates above, which have checked it.
 ghost use mathlib.Core.Path.{_≡_};
-ghost use mathlib.Core.Bool.{not, _&&_, Bool·beq};
+ghost use mathlib.Core.Bool.{_&&_};
 ghost use Prim.Native.Nat.{_≤_, _<_};
 ghost use lib.ListN.{length, set};
 ghost use Rattle.network.specs.Networks.{isWet};
 ghost use Rattle.tables.specs.Rows.{netOf};
 ghost use Rattle.distances.specs.Distances.{noted};
-ghost use Rattle.basins.specs.Wet.{Tabled, anyBasin, isUnnoted, Lowest, sideNote, OthersNoted, FarSideNoted};
+ghost use Rattle.basins.specs.Wet.{Tabled, anyBasin, isUnnoted, Lowest, isOther, sideNote, OthersNoted, FarSideNoted};
 use distances::UNREACHED;
 use half_edges::NONE;
 
 // Whether basin v is wet: whether a reach in service has a half-edge there. Only the contract names the basin count and the ends.
-fn is_wet(
+pub fn is_wet(
     n: usize,
     kinds: &[u8],
     a: &[u16],
@@ -122,7 +122,7 @@ fn note_at(
     requires { ⌜ n ≤ length (now seen) ⌝ }
     requires { ⌜ v < n ⌝ }
     ensures { λ _. ⌜ now (seen .exit) ≡ set (now (seen .entry)) v
-        (sideNote (isWet (netOf n (now (kinds .entry)) (now (a .entry)) (now (b .entry))) v && not (Bool·beq (noted (now (seen .entry)) v) x))) ⌝ }
+        (sideNote (isOther (netOf n (now (kinds .entry)) (now (a .entry)) (now (b .entry))) x (now (seen .entry)) v)) ⌝ }
 {
     if is_noted(seen, v) == x {
         seen[v] = UNREACHED;

@@ -8,6 +8,9 @@ use Rattle.basins.proofs.Lows.{left-seen, left-unseen}
 use Rattle.basins.proofs.is_left.Statement.{statement}
 use Rattle.basins.proofs.is_left.Tie as tie
 
+mul-if1 : tie.Need-mul-if1
+mul-if1 c = omega arith
+
 shared-slice-read-if1 : tie.Need-shared-slice-read-if1
 shared-slice-read-if1 c = omega arith
 
@@ -25,4 +28,4 @@ returns-2 c =
     left-unseen (isWet (netOf (s .n) (s .kinds .now) (s .a .now) (s .b .now)) (s .v)) (getD (s .seen .now) (s .v) 0) (c .is-wet .ensures) (omega (arith, c .before .if1 .left))
 
 pub is-left-spec : {M : Type 1} → statement M
-is-left-spec = tie.close (tie.spec shared-slice-read-if1 returns is-wet-requires returns-2)
+is-left-spec = tie.close (tie.spec mul-if1 shared-slice-read-if1 returns is-wet-requires returns-2)

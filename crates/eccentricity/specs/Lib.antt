@@ -1,0 +1,2 @@
+-- What the contracts of the longest counts say.
+pub mod Rows
