@@ -11,7 +11,7 @@ use Rattle.network.specs.Networks.{Network, Accepted}
 use Rattle.network.specs.Tables.{tableOf}
 use Rattle.network.specs.Orientations.{Arc, reached}
 use Rattle.network.specs.Bridges.{isBridge}
-use Rattle.network.specs.Marks.{bit}
+use Rattle.distances.specs.Distances.{noted}
 use mathlib.Mathlib.Data.Bool.Basic.{bool-eq-false}
 use Rattle.lists.proofs.Bools.{decide, clash}
 use Rattle.network.proofs.Bridges.{bridge-gated}
@@ -24,10 +24,6 @@ use Rattle.orienting.specs.Tries.{leftOut, ledRound}
 use Rattle.orienting.proofs.Rows.{row-arcs, row-below, row-led, row-led-turned, row-gated}
 use Rattle.deciding.specs.Gates.{OrientedGate, no-gate, drawn, turned, neither, Settled, as-it-was, as-drawn, as-turned}
 use Rattle.completing.specs.Greedy.{Greedy, all-oriented, bridge-at, Completed}
-
-bit-small : (b : Bool) → bit b ≤ 1
-bit-small true = omega arith
-bit-small false = omega arith
 
 module _ (n : ℕ) (ks xs ys : List ℕ) (ea : length xs ≡ length ks) (eb : length ys ≡ length ks) where
   abbrev N : Network
@@ -65,9 +61,8 @@ module _ (n : ℕ) (ks xs ys : List ℕ) (ea : length xs ≡ length ks) (eb : le
         let ba = row-led n ks xs ys ea eb ws i l ∙ p in
         let ab = row-led-turned n ks xs ys ea eb ws i l ∙ p′ in
         bridge-at below (is-bridge N ok fs ws i below (w .begun) g ba ab) (w .clear)
-        (bridge-cut N ok fs ws i below (w .begun) g ba ab seen
-        (λ v k. f v k ∙ sym (ap bit (ap₂ (λ (A : List Arc) (u : ℕ). reached A u v) (row-arcs n ks xs ys ea eb (set ws i 3)) (row-a ks xs ys ea eb i l)))))
-        (λ v k. subst⁻¹ (λ (x : ℕ). x ≤ 1) (f v k) (bit-small (reached (leftOut xs ys ws i) (getD xs i 0) v)))
+        (bridge-cut N ok fs ws i below (w .begun) g ba ab (noted seen)
+        (λ v k. f v k ∙ sym (ap₂ (λ (A : List Arc) (u : ℕ). reached A u v) (row-arcs n ks xs ys ea eb (set ws i 3)) (row-a ks xs ys ea eb i l))))
 
   -- a reach that is no gate is no bridge
   pub plain-clear : (i : ℕ) → i < length ks → isTried ks i ≡ false → isBridge N i ≡ false

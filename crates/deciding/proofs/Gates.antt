@@ -9,9 +9,8 @@ use lib.Seq.{set-set}
 use Rattle.network.specs.Tables.{stateOf}
 use Rattle.network.specs.Settings.{isGated}
 use Rattle.network.specs.Orientations.{reached}
-use Rattle.network.specs.Marks.{bit}
+use Rattle.distances.specs.Distances.{noted}
 use Rattle.half_edges.specs.Ends.{arcsOf}
-use Rattle.search.specs.Searches.{Noted}
 use Rattle.orienting.specs.Tries.{Tried}
 use Rattle.orienting.proofs.Readies.{tried-same, tried-rest, tried-led, tried-lost}
 use Rattle.deciding.specs.Gates.{OrientedGate, drawn, turned, neither, Settled, as-drawn, as-turned}
@@ -36,8 +35,8 @@ module _ (ks : List ℕ) {xs ys : List ℕ} (ws : List ℕ) (i : ℕ) (g : isGat
 
   -- neither did, and a whole search without the reach notes what its end A leads to
   pub gate-neither : {n : ℕ} {ws₂ ws′ seen : List ℕ} {r₂ : Bool} → r₁ ≡ false → Tried xs ys ws₁ i 1 ws₂ r₂ → r₂ ≡ false
-      → Noted (arcsOf xs ys (set ws₂ i 3)) n (getD xs i 0) seen → OrientedGate n ks xs ys ws i ws′ seen false
+      → ((v : ℕ) → v < n → noted seen v ≡ reached (arcsOf xs ys (set ws₂ i 3)) (getD xs i 0) v) → OrientedGate n ks xs ys ws i ws′ seen false
   gate-neither {n} {seen = seen} y u z s =
       let d = tried-lost xs ys ws i (tried-same xs ys ws₁ ws i (tried-rest xs ys ws i t y) u) z in
       neither g ((tried-lost xs ys ws i t y) .0) (d .0) refl
-      (subst (λ (l : List ℕ). (v : ℕ) → v < n → getD seen v 0 ≡ bit (reached (arcsOf xs ys l) (getD xs i 0) v)) (ap (λ (v : List ℕ). set v i 3) (d .1) ∙ set-set ws i 2 3) s)
+      (subst (λ (l : List ℕ). (v : ℕ) → v < n → noted seen v ≡ reached (arcsOf xs ys l) (getD xs i 0) v) (ap (λ (v : List ℕ). set v i 3) (d .1) ∙ set-set ws i 2 3) s)

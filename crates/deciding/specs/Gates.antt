@@ -8,10 +8,10 @@ use lib.ListN.{getD, set}
 use Rattle.network.specs.Tables.{stateOf}
 use Rattle.network.specs.Settings.{isGated}
 use Rattle.network.specs.Orientations.{reached}
-use Rattle.network.specs.Marks.{bit}
+use Rattle.distances.specs.Distances.{noted}
 use Rattle.orienting.specs.Tries.{leftOut, ledRound}
 
--- Reach i, if it is a gate, as drawn if that loses nothing, else turned if that does not. Otherwise seen holds what its end A leads to without it.
+-- Reach i, if it is a gate, as drawn if that loses nothing, else turned if that does not. Otherwise what its end A leads to without it is noted as reached.
 pub data OrientedGate (n : ℕ) (ks xs ys ws : List ℕ) (i : ℕ) : List ℕ → List ℕ → Bool → Type 0 where
   no-gate : {ws′ seen : List ℕ} {r : Bool} → isGated (stateOf (getD ks i 0)) ≡ false → ws′ ≡ ws → r ≡ true → OrientedGate n ks xs ys ws i ws′ seen r
   drawn : {ws′ seen : List ℕ} {r : Bool} → isGated (stateOf (getD ks i 0)) ≡ true → ledRound (leftOut xs ys ws i) xs ys i 0 ≡ true → ws′ ≡ set ws i 0 → r ≡ true
@@ -20,7 +20,7 @@ pub data OrientedGate (n : ℕ) (ks xs ys ws : List ℕ) (i : ℕ) : List ℕ �
       → ledRound (leftOut xs ys ws i) xs ys i 1 ≡ true → ws′ ≡ set ws i 1 → r ≡ true → OrientedGate n ks xs ys ws i ws′ seen r
   neither : {ws′ seen : List ℕ} {r : Bool} → isGated (stateOf (getD ks i 0)) ≡ true → ledRound (leftOut xs ys ws i) xs ys i 0 ≡ false
       → ledRound (leftOut xs ys ws i) xs ys i 1 ≡ false → r ≡ false
-      → ((v : ℕ) → v < n → getD seen v 0 ≡ bit (reached (leftOut xs ys ws i) (getD xs i 0) v)) → OrientedGate n ks xs ys ws i ws′ seen r
+      → ((v : ℕ) → v < n → noted seen v ≡ reached (leftOut xs ys ws i) (getD xs i 0) v) → OrientedGate n ks xs ys ws i ws′ seen r
 
 -- Reach i, if it is a gate, as drawn if that loses nothing, else turned.
 pub data Settled (ks xs ys ws : List ℕ) (i : ℕ) : List ℕ → Type 0 where

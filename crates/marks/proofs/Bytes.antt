@@ -7,28 +7,27 @@ use native.Mathlib.Omega.{arith}
 use mathlib.Core.Path.{_≡_}
 use mathlib.Core.Bool.{Bool, false}
 use mathlib.Core.List.{List, map}
-use lib.ListN.{getD}
-use lib.Dec.{eqb}
 use lib.Pow.{pow-mono}
 use mathlib.Mathlib.Data.Bool.Basic.{bool-eq-false}
 use Rattle.lists.specs.Lists.{range, elem}
 use Rattle.network.specs.Marks.{bit, digits}
 use Rattle.lists.proofs.Searches.{keep-in, elem-in, elem-keep}
 use Rattle.lists.proofs.Ranges.{range-has, range-in}
+use Rattle.distances.specs.Distances.{noted}
 use Rattle.marks.specs.Sets.{markedSet}
 use Rattle.network.proofs.Marks.{bit-lt}
 
 -- ---- one basin
 
-module _ (n : ℕ) (seen : List ℕ) (x b : ℕ) where
-  -- a basin below n is marked where its byte is x
-  pub marked-below : b < n → elem b (markedSet n seen x) ≡ eqb (getD seen b 0) x
-  marked-below h = elem-keep (λ k. eqb (getD seen k 0) x) (range-has 0 n zero-le (omega arith))
+module _ (n : ℕ) (seen : List ℕ) (b : ℕ) where
+  -- a basin below n is marked where it is noted as reached
+  pub marked-below : b < n → elem b (markedSet n seen) ≡ noted seen b
+  marked-below h = elem-keep (noted seen) (range-has 0 n zero-le (omega arith))
 
   -- no basin from n on is marked
-  pub marked-past : n ≤ b → elem b (markedSet n seen x) ≡ false
-  marked-past h = bool-eq-false {b = elem b (markedSet n seen x)}
-      (λ e. let r = range-in 0 n (keep-in (λ k. eqb (getD seen k 0) x) (range 0 n) (elem-in b (markedSet n seen x) e) .0) in omega arith)
+  pub marked-past : n ≤ b → elem b (markedSet n seen) ≡ false
+  marked-past h = bool-eq-false {b = elem b (markedSet n seen)}
+      (λ e. let r = range-in 0 n (keep-in (noted seen) (range 0 n) (elem-in b (markedSet n seen) e) .0) in omega arith)
 
 -- ---- eight basins
 

@@ -2,10 +2,9 @@
 -- Assumes nothing.
 use Prim.Native.Nat.{ℕ}
 use mathlib.Core.List.{List}
-use lib.ListN.{getD}
-use lib.Dec.{eqb}
 use Rattle.lists.specs.Lists.{range, keep}
+use Rattle.distances.specs.Distances.{noted}
 
--- The basins below n whose byte in `seen` is x.
-abbrev pub markedSet : ℕ → List ℕ → ℕ → List ℕ
-markedSet n seen x = keep (λ b. eqb (getD seen b 0) x) (range 0 n)
+-- The basins below n that are noted as reached.
+abbrev pub markedSet : ℕ → List ℕ → List ℕ
+markedSet n seen = keep (noted seen) (range 0 n)

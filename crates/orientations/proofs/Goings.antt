@@ -4,13 +4,11 @@ use Prim.Native.Nat.{ℕ, suc, _≤_, _<_}
 use native.Mathlib.Omega.{arith}
 use native.Mathlib.Decide.{ℕ-discrete, decLt}
 use mathlib.Core.Path.{_≡_, sym, ap, subst, subst⁻¹, _∙_}
-use mathlib.Core.Bool.{true, false, not}
+use mathlib.Core.Bool.{Bool, true, false, not}
 use mathlib.Core.Logic.{_⊎_, inl, inr, ⊎-elim}
 use mathlib.Core.List.{List, []}
 use lib.ListN.{length, getD, set, length-set}
 use lib.Seq.{getD-set-same, getD-set-other, set-getD}
-use lib.Dec.{eqb}
-use Rattle.network.proofs.Marks.{bit-is}
 use mathlib.Mathlib.Data.Bool.Basic.{bool-eq-false}
 use Rattle.lists.specs.Lists.{keep}
 use Rattle.network.specs.declared.Reach.{Reach}
@@ -19,7 +17,6 @@ use Rattle.network.specs.Settings.{isGated}
 use Rattle.network.specs.Orientations.{way, arcs, reached}
 use Rattle.network.specs.Plans.{stronglyConnected}
 use Rattle.network.specs.Bridges.{noReach, reachAt, crossesAlone, isBridge}
-use Rattle.network.specs.Marks.{bit}
 use Rattle.lists.proofs.Bools.{decide, clash}
 use Rattle.lists.proofs.Searches.{keep-same}
 use Rattle.network.proofs.Ways.{plain-small, gated-in-service, shut-plain, shut-way, ShutOut}
@@ -133,11 +130,10 @@ module _ (N : Network) (ok : Accepted N) (fs ws : List ℕ) (i : ℕ) (below : i
           (stuck-other N ok ws i below (b .full) serves (shaped-out (N .reaches) ws (b .shaped)) all-small either ba ab)
           (alone-rest N (reached (arcs (N .reaches) (set ws i 3)) ((reachAt N i) .b)) i (stuck-alone N ok ws i below (b .full) serves (shaped-out (N .reaches) ws (b .shaped)) all-small either ba ab))
 
-      pub bridge-cut : (seen : List ℕ) → ((v : ℕ) → v < N .basins → getD seen v 0 ≡ bit (reached (arcs (N .reaches) (set ws i 3)) ((reachAt N i) .a) v)) → crossesAlone N (keep (λ v. eqb (getD seen v 0) 1) (basinsOf N)) i ≡ true
-      bridge-cut seen noted =
+      pub bridge-cut : (side : ℕ → Bool) → ((v : ℕ) → v < N .basins → side v ≡ reached (arcs (N .reaches) (set ws i 3)) ((reachAt N i) .a) v) → crossesAlone N (keep side (basinsOf N)) i ≡ true
+      bridge-cut side told =
           subst⁻¹ (λ (S : List ℕ). crossesAlone N S i ≡ true)
-          (keep-same (λ v. eqb (getD seen v 0) 1) (reached (arcs (N .reaches) (set ws i 3)) ((reachAt N i) .a)) (basinsOf N)
-          (λ v m. ap (λ (x : ℕ). eqb x 1) (noted v (basin-below N v m)) ∙ bit-is _))
+          (keep-same side (reached (arcs (N .reaches) (set ws i 3)) ((reachAt N i) .a)) (basinsOf N) (λ v m. told v (basin-below N v m)))
           ((cut-of N ok i below (reached (arcs (N .reaches) (set ws i 3)) ((reachAt N i) .a)) alone-on) .alone)
 
       pub is-bridge : isBridge N i ≡ true

@@ -1,34 +1,44 @@
 -- What follows from a table that is ready, and what single searches over it show.
 -- Assumes nothing.
-use Prim.Native.Nat.{ℕ, zero, suc, _<_}
+use Prim.Native.Nat.{ℕ, zero, suc, _≤_, _<_}
 use native.Mathlib.Omega.{arith}
 use mathlib.Core.Path.{_≡_, refl, sym, ap, subst, _∙_}
 use mathlib.Core.Bool.{Bool, true, false, cond, not, true≢false}
 use mathlib.Core.List.{List, List·Memᴰ}
 use lib.ListN.{length, getD, set}
 use lib.Seq.{set-set}
-use lib.Dec.{eqb}
 use borrow.Author.Tests.{not-false, not-true}
 use mathlib.Mathlib.Data.Bool.Basic.{bool-eq-false}
-use Rattle.network.specs.Networks.{Network, basinsOf}
+use Rattle.network.specs.Networks.{Network, maxBasins, basinsOf}
 use Rattle.network.specs.Tables.{stateOf}
 use Rattle.network.specs.Settings.{isGated}
 use Rattle.network.specs.Orientations.{Arc, reached}
 use Rattle.network.specs.Plans.{reachesAll}
-use Rattle.network.specs.Marks.{bit}
 use Rattle.lists.proofs.Bools.{clash}
 use Rattle.lists.proofs.Searches.{every-at, every-make}
 use Rattle.network.proofs.Networks.{basin-in, basin-below, basin-wet}
 use Rattle.network.proofs.Walks.{walk-trans, walk-reached, reached-walk}
+use Rattle.distances.specs.Distances.{unreached, noted}
 use Rattle.half_edges.specs.Ends.{arcsOf}
+use Rattle.half_edges.proofs.Halves.{arc-below}
 use Rattle.search.specs.Searches.{Searchable, Noted}
-use Rattle.basins.specs.Wet.{Tabled, anyBasin, byteIs0, Lowest}
+use Rattle.search.proofs.Fronts.{noted-reached}
+use Rattle.basins.specs.Wet.{Tabled, anyBasin, isUnnoted, Lowest}
 use Rattle.orienting.specs.Ready.{Ready, FirstUnreached, ShutInBasin}
 use Rattle.orienting.specs.Tries.{leftOut, ledRound, Tried, oriented, undecided}
 
+-- so few basins that none has a count of 65,535
+few-counts : {n : ℕ} → n ≤ maxBasins → n < unreached
+few-counts l = omega arith
+
 pub searchable : {n : ℕ} {xs ys ws head next seen queue : List ℕ} (start : ℕ) → Ready n xs ys ws head next seen queue → start < n → Searchable n xs ys ws head next start seen queue
 searchable start r l =
-    record { table = r .table; ways-room = omega (arith, r .ways-full); index = r .index; starts = l; seen-room = r .seen-room; queue-room = r .queue-room }
+    record { table = r .table; ways-room = omega (arith, r .ways-full); index = r .index; few-basins = few-counts (r .few-basins); starts = l; seen-room = r .seen-room; queue-room = r .queue-room }
+
+-- what a search over it notes below 65,535, whatever the ways, is what is reached
+pub ready-noted : {n start : ℕ} {xs ys ws₀ head next seen queue : List ℕ} (ws seen′ : List ℕ) → Ready n xs ys ws₀ head next seen queue → start < n
+    → Noted (arcsOf xs ys ws) n start seen′ → (v : ℕ) → v < n → noted seen′ v ≡ reached (arcsOf xs ys ws) start v
+ready-noted {n} {xs = xs} {ys} ws seen′ r l m = noted-reached seen′ (λ u w e. arc-below xs ys ws n u w (r .table) e) l (omega (arith, few-counts (r .few-basins))) m
 
 -- it is one whose wet basins can be told
 pub tabled : {n : ℕ} {ks xs ys ws head next seen queue : List ℕ} → Ready n xs ys ws head next seen queue → length ks ≡ length xs → Tabled n ks xs ys head next
@@ -84,22 +94,18 @@ kind-gate k e = rw e
 
 -- ---- what a search has left of the wet basins
 
-bit-unseen : (b : Bool) → eqb (bit b) 0 ≡ not b
-bit-unseen true = refl
-bit-unseen false = refl
-
 module _ (N : Network) (A : List Arc) where
-  -- the lowest wet basin with a 0 of what a search notes is the lowest not reached
-  pub unreached-first : {start r : ℕ} (seen : List ℕ) → Noted A (N .basins) start seen → Lowest N (byteIs0 seen) r → FirstUnreached N A start r
-  unreached-first {start} {r} seen noted f =
+  -- the lowest wet basin that a search has not noted as reached is the lowest not reached
+  pub unreached-first : {start r : ℕ} (seen : List ℕ) → ((v : ℕ) → v < N .basins → noted seen v ≡ reached A start v) → Lowest N (isUnnoted seen) r → FirstUnreached N A start r
+  unreached-first {start} {r} seen told f =
       record {
         bound = f .bound;
         lower = λ v m l. not-false _ (sym (test v (basin-below N v m)) ∙ f .lower v l (basin-wet N v m));
         at = λ l. let k = f .at l in (basin-in N r l (k .0), not-true _ (sym (test r l) ∙ k .1));
       }
     where
-      test : (v : ℕ) → v < N .basins → byteIs0 seen v ≡ not (reached A start v)
-      test v l = ap (λ (x : ℕ). eqb x 0) (noted v l) ∙ bit-unseen (reached A start v)
+      test : (v : ℕ) → v < N .basins → isUnnoted seen v ≡ not (reached A start v)
+      test v l = ap not (told v l)
 
   -- ---- the lowest wet basin that does not reach all
 

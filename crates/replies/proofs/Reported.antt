@@ -29,10 +29,10 @@ marks-written S {marks} e f = record { bytes = e; count = f ∙ ap (λ (v : List
 
 -- what was found, by cases
 module _ {n : ℕ} {ks ws seen plan marks : List ℕ} {f : Found} where
-  pub reported-shut : {marks′ : List ℕ} {c : ℕ} → f ≡ Closed → MarksWritten (markedSet n seen 1) marks marks′ c → Reported n ks ws seen f plan marks plan marks′ (record { verdict = ShutIn (record { reach = 0; count = c }) })
+  pub reported-shut : {marks′ : List ℕ} {c : ℕ} → f ≡ Closed → MarksWritten (markedSet n seen) marks marks′ c → Reported n ks ws seen f plan marks plan marks′ (record { verdict = ShutIn (record { reach = 0; count = c }) })
   reported-shut {marks′} {c} e m = subst⁻¹ (λ (g : Found). Reported n ks ws seen g plan marks plan marks′ (record { verdict = ShutIn (record { reach = 0; count = c }) })) e (wrote-shut m)
 
-  pub reported-lone : {marks′ : List ℕ} {r c i d : ℕ} → f ≡ Bridge r → MarksWritten (markedSet n seen 2) marks marks′ c → i ≡ r → d ≡ c
+  pub reported-lone : {marks′ : List ℕ} {r c i d : ℕ} → f ≡ Bridge r → MarksWritten (markedSet n seen) marks marks′ c → i ≡ r → d ≡ c
       → Reported n ks ws seen f plan marks plan marks′ (record { verdict = Lone (record { reach = i; count = d }) })
   reported-lone {marks′} {r} {c} {i = i} {d = d} e m p q =
       subst⁻¹ (λ (j : ℕ). Reported n ks ws seen f plan marks plan marks′ (record { verdict = Lone (record { reach = j; count = d }) })) p

@@ -36,8 +36,8 @@ pub record Reportable (n : ℕ) (ks ws seen plan marks : List ℕ) (f : Found) :
 
 -- What it leaves: the marks of the basins noted, or the plan.
 pub data Reported (n : ℕ) (ks ws seen : List ℕ) : Found → List ℕ → List ℕ → List ℕ → List ℕ → Reply → Type 0 where
-  wrote-shut : {plan marks marks′ : List ℕ} {c : ℕ} → MarksWritten (markedSet n seen 1) marks marks′ c
+  wrote-shut : {plan marks marks′ : List ℕ} {c : ℕ} → MarksWritten (markedSet n seen) marks marks′ c
       → Reported n ks ws seen Closed plan marks plan marks′ (record { verdict = ShutIn (record { reach = 0; count = c }) })
-  wrote-lone : {r : ℕ} {plan marks marks′ : List ℕ} {c : ℕ} → MarksWritten (markedSet n seen 2) marks marks′ c
+  wrote-lone : {r : ℕ} {plan marks marks′ : List ℕ} {c : ℕ} → MarksWritten (markedSet n seen) marks marks′ c
       → Reported n ks ws seen (Bridge r) plan marks plan marks′ (record { verdict = Lone (record { reach = r; count = c }) })
   wrote-plan : {plan marks plan′ : List ℕ} → plan′ ≡ bytesRow ks ws ++ drop (gatesIn ks) plan → Reported n ks ws seen Oriented plan marks plan′ marks (record { verdict = Plan })

@@ -4,11 +4,11 @@ use Prim.Native.Nat.{ℕ, zero, suc, _≤_, _<_}
 use native.Mathlib.Omega.{arith}
 use native.Mathlib.Decide.{decLt}
 use mathlib.Core.Path.{_≡_, refl, sym, ap, subst, _∙_}
-use mathlib.Core.Bool.{Bool, true, false, not, cond, _&&_}
+use mathlib.Core.Bool.{Bool, true, false, not, _&&_, Bool·beq}
 use mathlib.Core.Option.{Option, none, some, Option·getD}
 use mathlib.Core.List.{List, [], List·Memᴰ}
-use lib.ListN.{length, getD}
-use lib.Dec.{eqb}
+use lib.ListN.{length}
+use lib.Dec.{eqb, ltb}
 use borrow.Author.Tests.{eq-eqb, ne-eqb}
 use mathlib.Mathlib.Data.Bool.Basic.{and-intro, bool-eq-false}
 use Rattle.lists.specs.Lists.{range, find, keep, elem}
@@ -16,20 +16,21 @@ use Rattle.network.specs.Networks.{Network, isWet, basinsOf, lowestBasin, Accep
 use Rattle.network.specs.Orientations.{Arc, ways, arcs, arcsUnder, reached, unoriented}
 use Rattle.network.specs.Plans.{reachesAll, stronglyConnected, stronglyConnectedUnder, isPlan, passable}
 use Rattle.network.specs.Bridges.{reachAt, crossesAlone, isBridge, lowestBridge}
-use Rattle.network.specs.Marks.{bit, marksOf}
+use Rattle.network.specs.Marks.{marksOf}
 use Rattle.network.specs.Settings.{gateCount}
 use Rattle.network.specs.Replies.{shutInBasin, shutInSide, bridgeSide, answer, firstAnswer}
-use Rattle.lists.proofs.Bools.{clash, same-test}
+use Rattle.lists.proofs.Bools.{clash, same-test, beq-make}
 use Rattle.lists.proofs.Searches.{every-at, every-make, find-is, find-lowest, keep-in, keep-same, elem-in, elem-keep}
 use Rattle.lists.proofs.Ranges.{range-in}
-use Rattle.network.proofs.Marks.{marks-same, bit-is}
+use Rattle.network.proofs.Marks.{marks-same}
 use Rattle.network.proofs.Walks.{reached-walk}
 use Rattle.network.proofs.Ways.{gated-in-service, shut-out}
 use Rattle.network.proofs.Networks.{basin-in, basin-below, basin-wet, basins-kept, basins-found, end-a-in, lowest-in, walk-in-basins}
 use Rattle.network.proofs.Bridges.{Alone, LoneSide, alone-facts, alone-rest, alone-same, side-basins, cut-unique, bridge-below, bridge-gated, bridge-blocks, bridge-side}
 use Rattle.tables.proofs.Laws.{ways-unoriented}
 use Rattle.marks.specs.Sets.{markedSet}
-use Rattle.basins.specs.Wet.{otherByte, FarSideNoted}
+use Rattle.distances.specs.Distances.{unreached, noted}
+use Rattle.basins.specs.Wet.{sideNote, FarSideNoted}
 use Rattle.orienting.specs.Ready.{ShutInBasin}
 use Rattle.completing.specs.Greedy.{Greedy, all-oriented, bridge-at}
 use Rattle.orientations.proofs.Least.{least-first}
@@ -77,9 +78,9 @@ module _ (N : Network) where
   opened-is : arcsUnder N (unoriented N) ≡ opened
   opened-is = ap (arcs (N .reaches)) (ways-unoriented (N .reaches) (gateCount N))
 
-  pub closed-first : Accepted N → (r : ℕ) (ws seen : List ℕ) → ShutInBasin N opened r → r < N .basins → ((v : ℕ) → v < N .basins → getD seen v 0 ≡ bit (reached opened r v)) → FirstFound N ws seen Closed
+  pub closed-first : Accepted N → (r : ℕ) (ws seen : List ℕ) → ShutInBasin N opened r → r < N .basins → ((v : ℕ) → v < N .basins → noted seen v ≡ reached opened r v) → FirstFound N ws seen Closed
   unfolding shutInSide shutInBasin
-  closed-first ok r ws seen w l noted = found-closed (passable-open N ∙ strong-basin N opened r w ∙ ne-eqb r (N .basins) (omega arith)) (ap marksOf (sym side))
+  closed-first ok r ws seen w l told = found-closed (passable-open N ∙ strong-basin N opened r w ∙ ne-eqb r (N .basins) (omega arith)) (ap marksOf (sym side))
     where
       test : List Arc → ℕ → Bool
       test A u = not (reachesAll (basinsOf N) A u)
@@ -95,15 +96,13 @@ module _ (N : Network) where
       wet : (b : ℕ) → reached opened r b ≡ true → isWet N b ≡ true
       wet b e = basin-wet N b (walk-in-basins N ok (ways (N .reaches) []) (shut-out (N .reaches) []) (reached-walk opened r b e) (w .at l .0))
 
-      side : shutInSide N ≡ markedSet (N .basins) seen 1
+      side : shutInSide N ≡ markedSet (N .basins) seen
       side =
           ap (λ (o : Option ℕ). keep (reached (arcsUnder N (unoriented N)) (Option·getD o 0)) (basinsOf N)) at
           ∙ ap (λ (A : List Arc). keep (reached A r) (basinsOf N)) opened-is
           ∙ basins-kept N (reached opened r)
-          ∙ keep-same (λ b. isWet N b && reached opened r b) (λ b. eqb (getD seen b 0) 1) (range 0 (N .basins))
-          (λ b m.
-          and-second (isWet N b) (reached opened r b) (wet b)
-          ∙ sym (ap (λ (x : ℕ). eqb x 1) (noted b (omega (arith, (range-in 0 (N .basins) m) .1))) ∙ bit-is (reached opened r b)))
+          ∙ keep-same (λ b. isWet N b && reached opened r b) (noted seen) (range 0 (N .basins))
+          (λ b m. and-second (isWet N b) (reached opened r b) (wet b) ∙ sym (told b (omega (arith, (range-in 0 (N .basins) m) .1))))
 
   -- ---- a bridge
 
@@ -125,55 +124,47 @@ module _ (N : Network) where
             (λ y. let k = keep-in P (basinsOf N) (elem-in b (keep P (basinsOf N)) y) in sym (alike b (k .0)) ∙ k .1)
             (λ y. let m = side-basins (basinsOf N) (bridgeSide N r) (side .cut .side) b (elem-in b (bridgeSide N r) y) in elem-keep P m ∙ alike b m ∙ y)
 
-    -- bytes 0 and 1: the one or the other
-    eqb-other : (x : ℕ) → x ≤ 1 → not (eqb x 0) ≡ eqb x 1
-    eqb-other zero l = refl
-    eqb-other (suc zero) l = refl
-    eqb-other (suc (suc x)) l = absurd (omega arith)
+    -- noted otherwise than x says: the one or the other
+    differs-true : (y : Bool) → not (Bool·beq y true) ≡ not y
+    differs-true true = refl
+    differs-true false = refl
 
-    -- a byte is noted exactly if it was another
-    noted-byte : (x : ℕ) (wet : Bool) (y : ℕ) → y ≤ 1 → eqb (otherByte x wet y) 2 ≡ wet && not (eqb y x)
-    noted-byte x wet y l = go (wet && not (eqb y x))
-      where
-        go : (c : Bool) → eqb (cond c 2 y) 2 ≡ c
-        go true = refl
-        go false = ne-eqb y 2 (omega arith)
+    differs-false : (y : Bool) → not (Bool·beq y false) ≡ y
+    differs-false true = refl
+    differs-false false = refl
 
-    module _ (r : ℕ) (seen : List ℕ) (below : r < length (N .reaches)) (small : (v : ℕ) → v < N .basins → getD seen v 0 ≤ 1) where
-      other-alone : (x : ℕ) → x ≤ 1 → Alone N (λ b. eqb (getD seen b 0) 1) r → Alone N (λ b. not (eqb (getD seen b 0) x)) r
-      other-alone zero l f = alone-same N ok (λ b. eqb (getD seen b 0) 1) (λ b. not (eqb (getD seen b 0) 0)) r below (λ b m. eqb-other (getD seen b 0) (small b (basin-below N b m))) f
-      other-alone (suc zero) l f = alone-rest N (λ b. eqb (getD seen b 0) 1) r f
-      other-alone (suc (suc x)) l f = absurd (omega arith)
+    -- what is on the side is noted as reached
+    side-told : (side : Bool) → ltb (sideNote side) unreached ≡ side
+    side-told true = refl
+    side-told false = refl
 
-      bridge-noted : passable N ≡ true → {seen′ : List ℕ} → isBridge N r ≡ true → crossesAlone N (keep (λ b. eqb (getD seen b 0) 1) (basinsOf N)) r ≡ true → FarSideNoted N seen seen′ → SideNoted N seen′ (Bridge r)
-      bridge-noted pass {seen′} e cross noted = ap marksOf (sym side) ∙ bridge-marks pass r e P (other-alone x (small low (basin-below N low low-in)) alone) out
+    module _ (r : ℕ) (seen : List ℕ) (below : r < length (N .reaches)) where
+      other-alone : (x : Bool) → Alone N (noted seen) r → Alone N (λ b. not (Bool·beq (noted seen b) x)) r
+      other-alone true f = alone-same N ok (λ b. not (noted seen b)) (λ b. not (Bool·beq (noted seen b) true)) r below (λ b m. differs-true (noted seen b)) (alone-rest N (noted seen) r f)
+      other-alone false f = alone-same N ok (noted seen) (λ b. not (Bool·beq (noted seen b) false)) r below (λ b m. differs-false (noted seen b)) f
+
+      bridge-noted : passable N ≡ true → {seen′ : List ℕ} → isBridge N r ≡ true → crossesAlone N (keep (noted seen) (basinsOf N)) r ≡ true → FarSideNoted N seen seen′ → SideNoted N seen′ (Bridge r)
+      bridge-noted pass {seen′} e cross far = ap marksOf (sym side) ∙ bridge-marks pass r e P (other-alone x alone) out
         where
-          -- the lowest wet basin: the bridge has wet ends
-          low : ℕ
-          low = lowestBasin N
-
-          low-in : List·Memᴰ low (basinsOf N)
-          low-in = lowest-in N (end-a-in N ok r below (gated-in-service ((reachAt N r) .state) (bridge-gated N r e)))
-
-          x : ℕ
-          x = getD seen low 0
+          x : Bool
+          x = noted seen (lowestBasin N)
 
           P : ℕ → Bool
-          P b = not (eqb (getD seen b 0) x)
+          P b = not (Bool·beq (noted seen b) x)
 
-          alone : Alone N (λ b. eqb (getD seen b 0) 1) r
+          alone : Alone N (noted seen) r
           alone =
-              alone-same N ok (λ b. elem b (keep (λ b. eqb (getD seen b 0) 1) (basinsOf N))) (λ b. eqb (getD seen b 0) 1) r below (λ b m. sym (elem-keep (λ b. eqb (getD seen b 0) 1) m))
-              (alone-facts N (keep (λ b. eqb (getD seen b 0) 1) (basinsOf N)) r below cross)
+              alone-same N ok (λ b. elem b (keep (noted seen) (basinsOf N))) (noted seen) r below (λ b m. sym (elem-keep (noted seen) m))
+              (alone-facts N (keep (noted seen) (basinsOf N)) r below cross)
 
-          out : P low ≡ false
-          out = ap not (eq-eqb x x refl)
+          out : P (lowestBasin N) ≡ false
+          out = ap not (beq-make x x refl)
 
-          side : keep P (basinsOf N) ≡ markedSet (N .basins) seen′ 2
+          side : keep P (basinsOf N) ≡ markedSet (N .basins) seen′
           side =
               basins-kept N P
-              ∙ keep-same (λ b. isWet N b && P b) (λ b. eqb (getD seen′ b 0) 2) (range 0 (N .basins))
-              (λ b m. sym (ap (λ (y : ℕ). eqb y 2) (noted .bytes b (omega (arith, (range-in 0 (N .basins) m) .1))) ∙ noted-byte x (isWet N b) (getD seen b 0) (small b (omega (arith, (range-in 0 (N .basins) m) .1)))))
+              ∙ keep-same (λ b. isWet N b && P b) (noted seen′) (range 0 (N .basins))
+              (λ b m. sym (ap (λ (y : ℕ). ltb y unreached) (far .notes b (omega (arith, (range-in 0 (N .basins) m) .1))) ∙ side-told (isWet N b && P b)))
 
     -- ---- the three ends of the search
 
@@ -189,12 +180,12 @@ module _ (N : Network) where
     passed-basin r w n = passable-open N ∙ strong-basin N opened r w ∙ eq-eqb r (N .basins) (omega (arith, w .bound))
 
     pub bridge-first : {ws₁ ws seen seen′ : List ℕ} {r : ℕ} → passable N ≡ true → r < length (N .reaches) → Greedy N (ways (N .reaches) []) 0 ws₁ seen r → FarSideNoted N seen seen′ → FirstFound N ws seen′ (Bridge r)
-    bridge-first pass l (all-oriented e m) noted = absurd (omega arith)
-    bridge-first {seen} {r} pass l (bridge-at k e clear cross small) noted = found-bridge pass (lowest-at r e k clear) k (bridge-noted r seen k small pass e cross noted)
+    bridge-first pass l (all-oriented e m) far = absurd (omega arith)
+    bridge-first {seen} {r} pass l (bridge-at k e clear cross) far = found-bridge pass (lowest-at r e k clear) k (bridge-noted r seen k pass e cross far)
 
     pub plan-first : {ws seen : List ℕ} {r : ℕ} → passable N ≡ true → (r < length (N .reaches) → ⊥) → Greedy N (ways (N .reaches) []) 0 ws seen r → FirstFound N ws seen Oriented
     plan-first pass n (all-oriented e m) = found-plan pass (no-bridge _ (m .is-plan)) m
-    plan-first pass n (bridge-at k e clear cross small) = absurd (n k)
+    plan-first pass n (bridge-at k e clear cross) = absurd (n k)
 
   -- ---- and the reply that they make
 

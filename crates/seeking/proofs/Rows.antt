@@ -6,12 +6,12 @@ use mathlib.Core.Path.{_≡_, sym, ap, subst, subst⁻¹, _∙_}
 use mathlib.Core.List.{List, []}
 use lib.ListN.{length}
 use Rattle.network.specs.Networks.{Network}
-use Rattle.network.specs.Orientations.{Arc, ways, arcs}
+use Rattle.network.specs.Orientations.{Arc, ways, arcs, reached}
 use Rattle.half_edges.specs.Ends.{arcsOf}
 use Rattle.tables.specs.Rows.{netOf}
 use Rattle.orientations.specs.Partials.{Begun}
 use Rattle.orientations.proofs.Parts.{open-none}
-use Rattle.search.specs.Searches.{Noted}
+use Rattle.distances.specs.Distances.{noted}
 use Rattle.basins.specs.Wet.{FarSideNoted}
 use Rattle.orienting.specs.Ready.{ShutInBasin}
 use Rattle.orienting.proofs.Rows.{row-arcs}
@@ -38,8 +38,8 @@ module _ (n : ℕ) (ks xs ys : List ℕ) where
     pub row-passable : {u : ℕ} → ShutInBasin N (arcsOf xs ys ws) u → (u < n → ⊥) → Passable n ks xs ys ws
     row-passable {u} w not-below = record { level = o .level; unoriented = o .unoriented; passable-net = passed-basin N (o .level .accepted) u (basin-net w) not-below }
 
-    pub row-closed : {u : ℕ} {seen : List ℕ} (ws′ : List ℕ) → ShutInBasin N (arcsOf xs ys ws) u → u < n → Noted (arcsOf xs ys ws) n u seen → FirstFound N ws′ seen Closed
-    row-closed {u} {seen} ws′ w l m = closed-first N (o .level .accepted) u ws′ seen (basin-net w) l (subst (λ (A : List Arc). Noted A n u seen) open-arcs m)
+    pub row-closed : {u : ℕ} {seen : List ℕ} (ws′ : List ℕ) → ShutInBasin N (arcsOf xs ys ws) u → u < n → ((v : ℕ) → v < n → noted seen v ≡ reached (arcsOf xs ys ws) u v) → FirstFound N ws′ seen Closed
+    row-closed {u} {seen} ws′ w l m = closed-first N (o .level .accepted) u ws′ seen (basin-net w) l (subst (λ (A : List Arc). (v : ℕ) → v < n → noted seen v ≡ reached A u v) open-arcs m)
 
   module _ {ws : List ℕ} (p : Passable n ks xs ys ws) where
     opened : ws ≡ ways (N .reaches) []

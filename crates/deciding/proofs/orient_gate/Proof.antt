@@ -5,7 +5,7 @@ use mathlib.Core.Path.{refl, _∙_}
 use lib.ListN.{length-set}
 use borrow.Author.Needs.{needs}
 use Rattle.deciding.specs.Gates.{no-gate}
-use Rattle.orienting.proofs.Readies.{searchable, ready-ways, ready-notes, kind-gate}
+use Rattle.orienting.proofs.Readies.{searchable, ready-ways, ready-notes, ready-noted, kind-gate}
 use Rattle.network.proofs.Networks.{not-gated}
 use Rattle.deciding.proofs.Gates.{gate-drawn, gate-turned, gate-neither}
 use Rattle.deciding.proofs.orient_gate.Statement.{statement}
@@ -86,7 +86,7 @@ returns-4 : tie.Need-returns-4
 returns-4 c =
     let s = c .before .before .before .before .before .before .before .before .before .before .before .before .before .before .before .before .before .before .before .before .before .before .before .before .before .before .before .before .before .before .before .before .before .before .before .before .before .before .before .before .before in
     gate-neither (s .args .kinds .now) (s .args .ways .now) (s .args .i) (kind-gate _ ((c .before .before .before .before .before .before .before .before .before .before .before .before .before .before .before .before .before .before .before .before .before .before .before .before .before .before .before .before .before .before .before) .if1 .left)) ((c .before .before .before .before .before .before .before .before .before .before .before .before .before .before .before .before .before .before .before .before .before .before .before .before .before .before .before) .try-way .ensures) ((c .before .before .before .before .before .before .before .before .before .before .before .before .before .before .before .before .before .before .before .before) .if2 .left) ((c .before .before .before .before .before .before .before .before .before .before .before .before .before .before .before .before) .try-way2 .ensures) ((c .before .before .before .before .before .before .before .before .before) .if3 .left)
-    ((c .before .before .before .before) .search .ensures)
+    (ready-noted _ ((c .before .before .before .before) .search .last .1 .1 .1 .1 .1 .1 .1 .1 .0) (s .pre .ready) (s .pre .ready .table .ends-a (s .args .i) (s .pre .below)) ((c .before .before .before .before) .search .ensures))
 
 pub orient-gate-spec : {M : Type 1} → statement M
 orient-gate-spec =

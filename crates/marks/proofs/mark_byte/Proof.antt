@@ -14,10 +14,10 @@ use Rattle.marks.proofs.mark_byte.Statement.{statement}
 use Rattle.marks.proofs.mark_byte.Tie as tie
 
 abbrev Inv-loop : tie.InvT-loop
-Inv-loop n seen x k byte₀ j₀ byte j = (j ≤ 8) × (byte ≡ digits (map (λ b. elem b (markedSet n seen x)) (range (8 * k + 8 - j) j)))
+Inv-loop n seen k byte₀ j₀ byte j = (j ≤ 8) × (byte ≡ digits (map (λ b. elem b (markedSet n seen)) (range (8 * k + 8 - j) j)))
 
 abbrev μ-loop : tie.MeasureT-loop
-μ-loop n seen x k byte₀ j₀ byte j = 8 - j
+μ-loop n seen k byte₀ j₀ byte j = 8 - j
 
 -- the function's entry
 abbrev entry : tie.At-loop Inv-loop μ-loop → tie.Start Inv-loop μ-loop
@@ -25,7 +25,7 @@ entry c = c .before .before
 
 -- whether a basin is marked
 abbrev is : tie.At-loop Inv-loop μ-loop → ℕ → Bool
-is c b = elem b (markedSet (entry c .args .n) (entry c .args .seen .now) (entry c .args .x))
+is c b = elem b (markedSet (entry c .args .n) (entry c .args .seen .now))
 
 -- in a turn, the byte has room for one more bit
 room : (c : tie.In-loop Inv-loop μ-loop) → c .before .loop .byte < 128

@@ -13,11 +13,11 @@ use Rattle.marks.proofs.put_marks.Statement.{statement}
 use Rattle.marks.proofs.put_marks.Tie as tie
 
 abbrev Inv-loop : tie.InvT-loop
-Inv-loop n seen x marks₀ k₀ marks k =
-    (k ≤ markBytes) × (marks ≡ map (markByte (markedSet n seen x)) (range 0 k) ++ drop k marks₀) × (length marks ≡ length marks₀)
+Inv-loop n seen marks₀ k₀ marks k =
+    (k ≤ markBytes) × (marks ≡ map (markByte (markedSet n seen)) (range 0 k) ++ drop k marks₀) × (length marks ≡ length marks₀)
 
 abbrev μ-loop : tie.MeasureT-loop
-μ-loop n seen x marks₀ k₀ marks k = markBytes - k
+μ-loop n seen marks₀ k₀ marks k = markBytes - k
 
 loop-holds : tie.Need-loop-holds Inv-loop μ-loop
 loop-holds c = (omega arith, refl, refl)
@@ -38,7 +38,7 @@ loop-again : tie.Need-loop-again Inv-loop μ-loop
 loop-again c =
     let t = c .before in
     let a = t .before .before .before .before .args in
-    let f : ℕ → ℕ = markByte (markedSet (a .n) (a .seen .now) (a .x)) in
+    let f : ℕ → ℕ = markByte (markedSet (a .n) (a .seen .now)) in
     let k : ℕ = t .before .loop .k in (
       omega arith,
       rw (t .before .loop .inv .1, c .mark-byte .ensures) (put-more f k (a .marks .now) (omega arith)),

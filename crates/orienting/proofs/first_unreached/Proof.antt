@@ -3,7 +3,7 @@
 use native.Mathlib.Omega.{arith}
 use Rattle.half_edges.specs.Ends.{arcsOf, sided}
 use Rattle.tables.specs.Rows.{netOf}
-use Rattle.orienting.proofs.Readies.{searchable, tabled, unreached-first}
+use Rattle.orienting.proofs.Readies.{searchable, tabled, ready-noted, unreached-first}
 use Rattle.orienting.proofs.first_unreached.Statement.{statement}
 use Rattle.orienting.proofs.first_unreached.Tie as tie
 
@@ -23,8 +23,11 @@ same-length-2 c = c .before .before .before .before .before .before .search .kep
 
 returns : tie.Need-returns
 returns c =
-    let s = c .before .before .before .before .before .before .before .before .before .before .before .before .before .before .before .before .before .args in
-    unreached-first (netOf (s .n) (s .kinds .now) (s .a .now) (s .b .now)) (arcsOf (s .a .now) (s .b .now) (sided (s .against) (s .ways .now))) (c .before .before .before .before .before .before .search .last .1 .1 .1 .1 .1 .1 .1 .1 .0) (c .before .before .before .before .before .before .search .ensures) (c .lowest-unseen .ensures)
+    let start = c .before .before .before .before .before .before .before .before .before .before .before .before .before .before .before .before .before in
+    let s = start .args in
+    let row = c .before .before .before .before .before .before .search .last .1 .1 .1 .1 .1 .1 .1 .1 .0 in
+    unreached-first (netOf (s .n) (s .kinds .now) (s .a .now) (s .b .now)) (arcsOf (s .a .now) (s .b .now) (sided (s .against) (s .ways .now))) row
+    (ready-noted (sided (s .against) (s .ways .now)) row (start .pre .0) (start .pre .1 .1) (c .before .before .before .before .before .before .search .ensures)) (c .lowest-unseen .ensures)
 
 pub first-unreached-spec : {M : Type 1} → statement M
 first-unreached-spec = tie.close (tie.spec search-requires lowest-unseen-requires same-length same-length-2 returns)

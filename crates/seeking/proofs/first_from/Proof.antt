@@ -1,8 +1,9 @@
 -- `seeking::first_from` meets its contract: a closed set where some wet basin does not reach all, else as the gates can be oriented.
 -- Assumes nothing.
+use Prim.Native.Nat.{_<_}
 use mathlib.Core.Path.{refl, sym, _∙_}
 use native.Mathlib.Omega.{arith}
-use Rattle.orienting.proofs.Readies.{searchable, ready-notes}
+use Rattle.orienting.proofs.Readies.{searchable, ready-notes, ready-noted}
 use Rattle.seeking.proofs.Rows.{row-passable, row-closed}
 use Rattle.seeking.proofs.first_from.Statement.{statement}
 use Rattle.seeking.proofs.first_from.Tie as tie
@@ -30,7 +31,9 @@ same-length-3 c = c .before .before .before .before .search .kept .1 .1 .1 .1 .1
 returns : tie.Need-returns
 returns c =
     let s = c .before .before .before .before .before .before .before .before .before .before .before .before .before .before .before .before .before .before .before .before .before .before .before .before .before in
-    row-closed (s .args .n) (s .args .kinds .now) (s .args .a .now) (s .args .b .now) (s .pre .1) _ (c .before .before .before .before .before .before .before .before .before .before .before .before .before .shut-in-basin .ensures) (omega (arith, c .before .before .before .before .before .before .before .before .if1 .taken)) (c .before .before .before .before .search .ensures)
+    let low : c .before .before .before .before .before .before .before .before .before .before .before .before .before .shut-in-basin .result < s .args .n = omega (arith, c .before .before .before .before .before .before .before .before .if1 .taken) in
+    row-closed (s .args .n) (s .args .kinds .now) (s .args .a .now) (s .args .b .now) (s .pre .1) _ (c .before .before .before .before .before .before .before .before .before .before .before .before .before .shut-in-basin .ensures) low
+    (ready-noted (s .args .ways .now) (c .before .before .before .before .search .last .1 .1 .1 .1 .1 .1 .1 .1 .0) (s .pre .0) low (c .before .before .before .before .search .ensures))
 
 orient-all-requires : tie.Need-orient-all-requires
 orient-all-requires c κs =
