@@ -47,6 +47,10 @@ pub greatest-same : (f g : ℕ → ℕ) (l : List ℕ) → ((x : ℕ) → List·
 greatest-same f g [] h = refl
 greatest-same f g (x ∷ l) h = omega (arith, h x (List·Memᴰ·head refl), greatest-same f g l (λ y m. h y (List·Memᴰ·tail m)))
 
+-- from a basin it is never more than 65,535
+pub farthest-most : (bs : List ℕ) (A : List Arc) (u : ℕ) → farthest bs A u ≤ unreached
+farthest-most bs A u = greatest-le (fewest A u) bs unreached (λ v m. fewest-most A u v)
+
 -- ---- the longest
 
 module _ (N : Network) (s : List ℕ) where
@@ -72,7 +76,7 @@ module _ (N : Network) (s : List ℕ) where
   -- never more than 65,535
   pub diameter-most : diameter N s ≤ unreached
   unfolding diameter
-  diameter-most = greatest-le (farthest wet A) wet unreached (λ u m. greatest-le (fewest A u) wet unreached (λ v k. fewest-most A u v))
+  diameter-most = greatest-le (farthest wet A) wet unreached (λ u m. farthest-most wet A u)
 
   -- no wet basin: 0
   diameter-none : length wet ≡ 0 → diameter N s ≡ 0

@@ -13,9 +13,9 @@ use Rattle.network.specs.Settings.{isSetting}
 use Rattle.network.specs.Plans.{stronglyConnectedUnder}
 use Rattle.network.specs.Replies.{Outcome, firstOf, checkFault, firstAnswer, nextAnswer, roomFault, firstReply, nextReply}
 use Rattle.tables.specs.Rows.{netOf}
-use Rattle.tables.proofs.Cuts.{cut-ends-a, cut-ends-b, cut-net, cut-gates}
+use Rattle.tables.proofs.Cuts.{cut-net, cut-gates}
 use Rattle.refusals.proofs.Dues.{room-left, fitting}
-use Rattle.seeking.specs.Levels.{Level}
+use Rattle.seeking.proofs.Levels.{cut-level}
 use Rattle.replies.specs.declared.Answer.{Answer}
 use Rattle.replies.specs.declared.CheckAnswer.{CheckAnswer}
 use Rattle.replies.specs.Answers.{Replied, yesOr, CheckCall}
@@ -25,13 +25,10 @@ use Rattle.replies.specs.Reports.{Lent}
 -- ---- rows cut to the length of the table
 
 module _ (n : ℕ) (ks xs ys : List ℕ) (m : ℕ) (e : m ≡ length (tableOf ks xs ys)) where
-  pub cut-level : Accepted (netOf n ks xs ys) → Level n (take m ks) (take m xs) (take m ys)
-  cut-level ok = record { accepted = subst⁻¹ (λ (N : Network). Accepted N) (cut-net ks xs ys m e n) ok; ends-a = cut-ends-a ks xs ys m e; ends-b = cut-ends-b ks xs ys m e }
-
   pub cut-lent : (plan marks : List ℕ) → Accepted (netOf n ks xs ys) → roomFault (netOf n ks xs ys) (length plan) (length marks) ≡ none → Lent n (take m ks) (take m xs) (take m ys) plan marks
   cut-lent plan marks ok room =
       let left = room-left (netOf n ks xs ys) (length plan) (length marks) room in
-      record { level = cut-level ok; plan-room = omega (arith, left .0, cut-gates ks xs ys m e n); marks-room = left .1 }
+      record { level = cut-level n ks xs ys m e ok; plan-room = omega (arith, left .0, cut-gates ks xs ys m e n); marks-room = left .1 }
 
   pub cut-is-setting : (s : List ℕ) → isSetting (netOf n ks xs ys) s ≡ true → isSetting (netOf n (take m ks) (take m xs) (take m ys)) s ≡ true
   cut-is-setting s fit = ap (λ (N : Network). isSetting N s) (cut-net ks xs ys m e n) ∙ fit

@@ -1,0 +1,49 @@
+-- What the call answers: a refusal of the table or of the setting, or by the diameter; and what an answer shows.
+-- Assumes nothing.
+use Prim.Native.Nat.{ℕ}
+use mathlib.Core.Path.{_≡_, refl, sym, ap, subst, _∙_}
+use mathlib.Core.Bool.{Bool, true, false, cond, _&&_}
+use mathlib.Core.Option.{Option, none, some, Option·some-injective, Option·none-ne-some}
+use mathlib.Core.List.{List}
+use lib.Dec.{ltb}
+use Rattle.network.specs.declared.Refusal.{Refusal}
+use Rattle.network.specs.declared.Refusal.the-variants.{BadSetting}
+use Rattle.network.specs.Networks.{Network, tableFault, Accepted}
+use Rattle.network.specs.Settings.{isSetting, settingFault}
+use Rattle.network.specs.Plans.{stronglyConnectedUnder, isPlan}
+use Rattle.network.specs.Replies.{firstOf, checkFault, planFault, refusalNumber, faultNumber}
+use Rattle.distances.specs.declared.DiameterAnswer.{DiameterAnswer}
+use Rattle.distances.specs.declared.DiameterAnswer.the-variants.{Refused, Longest}
+use Rattle.distances.specs.Distances.{unreached}
+use Rattle.distances.specs.Diameters.{diameter, DiameterShown}
+use Rattle.distances.specs.Answers.{diameterFault, longestUnless, longestOr8, diameterOf, diameterNumber, DiameterCall}
+use Rattle.distances.proofs.Diameters.{diameter-exactly, diameter-shown}
+
+-- the answer has its number
+told-number : (o : Option Refusal) (d : ℕ) → diameterNumber (longestUnless o d) ≡ faultNumber o
+told-number (some r) d = refl
+told-number none d = refl
+
+pub told : (N : Network) (s : List ℕ) {r : DiameterAnswer} → r ≡ diameterOf N s → DiameterCall N s r
+unfolding diameterOf
+told N s e = record { answer = e; number = ap diameterNumber e ∙ told-number (diameterFault N s) (diameter N s) }
+
+-- a table that is refused, or a setting
+pub told-refused : (N : Network) (s : List ℕ) {r : Refusal} → checkFault N s ≡ some r → DiameterCall N s (Refused r)
+unfolding checkFault settingFault isPlan diameterOf
+told-refused N s {r} e = told N s (go (tableFault N) (isSetting N s) e)
+  where
+    go : (o : Option Refusal) (fits : Bool) → firstOf o (cond fits none (some BadSetting)) ≡ some r
+        → Refused r ≡ longestUnless (firstOf o (cond (fits && stronglyConnectedUnder N s) none (some BadSetting))) (diameter N s)
+    go (some q) fits e = ap Refused (sym (Option·some-injective q r e))
+    go none true e = absurd (Option·none-ne-some r e)
+    go none false e = ap Refused (sym (Option·some-injective BadSetting r e))
+
+-- neither: a number, or 8 if the setting is no plan
+pub told-longest : (N : Network) (s : List ℕ) {d : ℕ} {r : DiameterAnswer} → Accepted N → isSetting N s ≡ true → d ≡ diameter N s → r ≡ longestOr8 d → DiameterCall N s r
+unfolding isPlan diameterOf
+told-longest N s ok fits e is = told N s (is ∙ ap longestOr8 e ∙ ap (λ (b : Bool). cond b (Longest (diameter N s)) (Refused BadSetting)) (diameter-exactly N s ok) ∙ rw (ok, fits) (go (stronglyConnectedUnder N s)))
+  where
+    go : (b : Bool) → cond b (Longest (diameter N s)) (Refused BadSetting) ≡ longestUnless (cond b none (some BadSetting)) (diameter N s)
+    go true = refl
+    go false = refl
