@@ -28,7 +28,12 @@ pub told : (N : Network) (s : List ℕ) {r : DiameterAnswer} → r ≡ diameterO
 unfolding diameterOf
 told N s e = record { answer = e; number = ap diameterNumber e ∙ told-number (diameterFault N s) (diameter N s) }
 
--- a table that is refused, or a setting
+-- a table that is refused, whatever the setting
+pub told-faulty : (N : Network) (s : List ℕ) (r : Refusal) → tableFault N ≡ some r → DiameterCall N s (Refused r)
+unfolding diameterOf
+told-faulty N s r e = told N s (rw e)
+
+-- so is a table that is refused, or a setting by its length or bytes
 pub told-refused : (N : Network) (s : List ℕ) {r : Refusal} → checkFault N s ≡ some r → DiameterCall N s (Refused r)
 unfolding checkFault settingFault isPlan diameterOf
 told-refused N s {r} e = told N s (go (tableFault N) (isSetting N s) e)

@@ -1,33 +1,40 @@
-use borrow.Author.Needs.{needs}
+-- `diameter_packed` meets its contract: what is promised of the rows, cut to the reaches that they hold, is promised of the table.
+-- Assumes nothing.
+use Rattle.packing.proofs.Packings.{Cut, cut, of-rows}
+use Rattle.diameter.proofs.Rows.{diameter-alike}
 use Rattle.diameter.proofs.diameter_packed.Statement.{statement}
 use Rattle.diameter.proofs.diameter_packed.Tie as tie
 
+-- the rows are long enough
+long : (c : tie.After-held) → Cut (c .before .before .args .p) (c .held .result)
+long c = cut _ _ (c .before .before .good .1 .0) (c .held .ensures)
+
 held-requires : tie.Need-held-requires
-held-requires c κs = search needs
+held-requires c κs = tt
 
 array-share-prefix-kinds : tie.Need-array-share-prefix-kinds
-array-share-prefix-kinds c = ?
+array-share-prefix-kinds c = long (c .before .before .before) .kinds .within
 
 slice-aggregate-diameter-rows : tie.Need-slice-aggregate-diameter-rows
-slice-aggregate-diameter-rows c = ?
+slice-aggregate-diameter-rows c = long (c .before .before .before .before) .kinds .counted
 
 array-share-prefix-a : tie.Need-array-share-prefix-a
-array-share-prefix-a c = ?
+array-share-prefix-a c = long (c .before .before .before .before) .a .within
 
 slice-aggregate-diameter-rows-2 : tie.Need-slice-aggregate-diameter-rows-2
-slice-aggregate-diameter-rows-2 c = ?
+slice-aggregate-diameter-rows-2 c = long (c .before .before .before .before .before) .a .counted
 
 array-share-prefix-b : tie.Need-array-share-prefix-b
-array-share-prefix-b c = ?
+array-share-prefix-b c = long (c .before .before .before .before .before) .b .within
 
 slice-aggregate-diameter-rows-3 : tie.Need-slice-aggregate-diameter-rows-3
-slice-aggregate-diameter-rows-3 c = ?
+slice-aggregate-diameter-rows-3 c = long (c .before .before .before .before .before .before) .b .counted
 
 diameter-rows-requires : tie.Need-diameter-rows-requires
-diameter-rows-requires c κs = search needs
+diameter-rows-requires c κs = tt
 
 returns : tie.Need-returns
-returns c = ?
+returns c = of-rows (long (c .before .before .before .before .before .before .before)) (c .diameter-rows .ensures) (diameter-alike _)
 
 pub diameter-packed-spec : {M : Type 1} → statement M
 diameter-packed-spec =
