@@ -3,7 +3,7 @@
 use Prim.Native.Nat.{ℕ, zero, suc, max, _≤_, _<_}
 use native.Mathlib.Omega.{arith}
 use native.Mathlib.Decide.{decLt}
-use mathlib.Core.Path.{_≡_, refl, sym, ap, subst, _∙_}
+use mathlib.Core.Path.{_≡_, refl, sym, ap, ap₂, _∙_}
 use mathlib.Core.Bool.{Bool, true, false, _&&_}
 use mathlib.Core.Logic.{⊎-elim}
 use mathlib.Core.List.{List, [], _∷_, List·Memᴰ, List·Memᴰ·head, List·Memᴰ·tail, List·Memᴰ·not-nil}
@@ -17,6 +17,10 @@ use Rattle.network.specs.Networks.{Network, basinsOf, maxBasins, Accepted}
 use Rattle.network.specs.Settings.{isSetting}
 use Rattle.network.specs.Orientations.{Arc, arc, ways, arcsUnder, reached}
 use Rattle.network.specs.Plans.{reachesAll, stronglyConnected, stronglyConnectedUnder, isPlan}
+use Rattle.network.specs.Services.{serviceNet}
+use Rattle.network.specs.Enlarged.{enlarged}
+use Rattle.network.proofs.Services.{service-basins, service-arcs}
+use Rattle.network.proofs.Enlarged.{enlarged-basins}
 use Rattle.network.proofs.Ways.{shut-out}
 use Rattle.network.proofs.Networks.{accepted, arcs-in-basins, basins-few, two-basins}
 use Rattle.distances.specs.Distances.{unreached, WalkOf, none-crossed, crossing, fewest}
@@ -146,3 +150,15 @@ module _ (N : Network) (s : List ℕ) where
             let t = two-basins N (omega arith) in
             let m = pair-most (t .first) (t .second) (t .first-in) (t .second-in) in
             absurd (t .differ (alike (fewest-walk A (t .first) (t .second) (omega (arith, m))) (omega (arith, m))))
+
+-- ---- of the reaches in service, and of the wet basins
+
+-- the counts are those of the reaches in service (item 1 of document 02)
+pub service-diameter : (N : Network) (s : List ℕ) → diameter (serviceNet N) s ≡ diameter N s
+unfolding diameter
+service-diameter N s = ap₂ (λ (bs : List ℕ) (B : List Arc). greatest (farthest bs B) bs) (service-basins N) (service-arcs N s)
+
+-- more basins at the end, which no reach has an end at, change none (item 3)
+pub enlarged-diameter : (N : Network) → Accepted N → (m : ℕ) → N .basins ≤ m → (s : List ℕ) → diameter (enlarged N m) s ≡ diameter N s
+unfolding diameter
+enlarged-diameter N ok m l s = ap (λ (bs : List ℕ). greatest (farthest bs (arcsUnder N s)) bs) (enlarged-basins N ok m l)

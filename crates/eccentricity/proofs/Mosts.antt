@@ -3,7 +3,7 @@
 use Prim.Native.Nat.{ℕ, _+_, max, _≤_, _<_}
 use native.Mathlib.Omega.{arith}
 use native.Mathlib.Decide.{ℕ-discrete, decLt}
-use mathlib.Core.Path.{_≡_, refl, sym, ap, _∙_}
+use mathlib.Core.Path.{_≡_, refl, sym, ap₂, _∙_}
 use mathlib.Core.Bool.{Bool, true, false, cond}
 use mathlib.Core.Logic.{_⊎_, inl, inr, ⊎-elim}
 use mathlib.Core.List.{List}
@@ -23,10 +23,8 @@ pub most-kept : {r : ℕ} (wet : Bool) (most x : ℕ) → r ≡ most → x ≤ m
 most-kept true most x e l = omega arith
 most-kept false most x e l = e
 
-pub most-taken : {r wet : Bool} {z : ℕ} (most x : ℕ) → r ≡ wet → r ≡ true → most ≤ x → z ≡ x → z ≡ cond wet (max most x) most
-most-taken most x e y l q =
-    let larger : max most x ≡ x = omega arith in
-    rw (sym e ∙ y) (q ∙ sym larger)
+pub most-picked : {r z : ℕ} {is wet : Bool} (most x : ℕ) → r ≡ cond is z most → is ≡ wet → z ≡ x → most ≤ x → r ≡ cond wet (max most x) most
+most-picked {wet = wet} most x q e f l = q ∙ ap₂ (λ (b : Bool) (y : ℕ). cond b y most) e (omega arith)
 
 pub most-larger : {r wet : Bool} {z : ℕ} (most x : ℕ) → r ≡ wet → r ≡ true → z ≡ max most x → z ≡ cond wet (max most x) most
 most-larger most x e y q = rw (sym e ∙ y) q

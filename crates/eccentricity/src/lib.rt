@@ -13,6 +13,13 @@ ghost use Rattle.orienting.specs.Ready.{Ready};
 ghost use Rattle.eccentricity.specs.Rows.{countAt};
 use distances::UNREACHED;
 
+// The first number if so asked, else the second.
+fn pick(first: bool, x: u16, y: u16) -> u16
+    ensures { λ r. ⌜ r ≡ cond first x y ⌝ }
+{
+    if first { x } else { y }
+}
+
 // The larger of most and the count of basin v, if it is wet; else most.
 fn count_in(
     n: usize,
@@ -34,10 +41,8 @@ fn count_in(
     if count <= most {
         return most;
     }
-    if basins::is_wet(n, kinds, a, b, head, next, v) {
-        return count;
-    }
-    most
+    let wet = basins::is_wet(n, kinds, a, b, head, next, v);
+    pick(wet, count, most)
 }
 
 // The greatest count of a wet basin: UNREACHED if one is not reached, 0 if there is none.

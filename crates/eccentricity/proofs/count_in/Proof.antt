@@ -1,10 +1,10 @@
--- `count_in` meets its contract: the count is not larger, or the basin is wet, or it is dry.
+-- `count_in` meets its contract: the count is not larger, or it is taken if the basin is wet.
 -- Assumes nothing.
 use native.Mathlib.Omega.{arith}
 use lib.ListN.{getD}
 use Rattle.network.specs.Networks.{isWet}
 use Rattle.tables.specs.Rows.{netOf}
-use Rattle.eccentricity.proofs.Mosts.{most-kept, most-taken, most-dry}
+use Rattle.eccentricity.proofs.Mosts.{most-kept, most-picked}
 use Rattle.eccentricity.proofs.count_in.Statement.{statement}
 use Rattle.eccentricity.proofs.count_in.Tie as tie
 
@@ -22,15 +22,13 @@ returns c =
 is-wet-requires : tie.Need-is-wet-requires
 is-wet-requires c κs = let s = c .before .before .before .before .before .before .before .before in (s .pre .0, s .pre .1 .1)
 
+pick-requires : tie.Need-pick-requires
+pick-requires c κs = tt
+
 returns-2 : tie.Need-returns-2
 returns-2 c =
     let s = c .before .before .before .before .before .before .before .before .before .before .args in
-    most-taken (s .most) (getD (s .seen .now) (s .v) 0) (c .before .is-wet .ensures) (c .if2 .taken) (omega (arith, c .before .before .if1 .left)) (omega arith)
-
-returns-3 : tie.Need-returns-3
-returns-3 c =
-    let s = c .before .before .before .before .before .before .before .before .before .before .args in
-    most-dry (s .most) (getD (s .seen .now) (s .v) 0) (c .before .is-wet .ensures) (c .if2 .left) (omega arith)
+    most-picked (s .most) (getD (s .seen .now) (s .v) 0) (c .pick .ensures) (c .before .is-wet .ensures) (omega arith) (omega (arith, c .before .before .if1 .left))
 
 pub count-in-spec : {M : Type 1} → statement M
-count-in-spec = tie.close (tie.spec mul-count shared-slice-read-count returns is-wet-requires returns-2 returns-3)
+count-in-spec = tie.close (tie.spec mul-count shared-slice-read-count returns is-wet-requires pick-requires returns-2)
