@@ -37,19 +37,10 @@ walk-of-walk (crossing m p) = step m (walk-of-walk p)
 
 -- ---- the fewest
 
--- never more than 65,535
-pub fewest-most : (A : List Arc) (u v : ℕ) → fewest A u v ≤ unreached
-fewest-most [] u v = go (eqb u v)
-  where
-    go : (b : Bool) → cond b 0 unreached ≤ unreached
-    go true = omega arith
-    go false = omega arith
-fewest-most (arc a b ∷ A) u v = omega (arith, fewest-most A u v)
-
--- "0 from a basin to itself"
-pub fewest-self : (A : List Arc) (u : ℕ) → fewest A u u ≡ 0
-fewest-self [] u = rw (eq-eqb u u refl)
-fewest-self (arc a b ∷ A) u = omega (arith, fewest-self A u)
+-- without arcs: 0 or 65,535
+none-most : (b : Bool) → cond b 0 unreached ≤ unreached
+none-most true = omega arith
+none-most false = omega arith
 
 -- the triangle rule
 pub triangle : (A : List Arc) (u v w : ℕ) → fewest A u w ≤ fewest A u v + fewest A v w
@@ -57,9 +48,19 @@ triangle [] u v w = go (eqb u v) (eqb v w) refl refl
   where
     go : (x y : Bool) → eqb u v ≡ x → eqb v w ≡ y → cond (eqb u w) 0 unreached ≤ cond x 0 unreached + cond y 0 unreached
     go true true p q = rw (eq-eqb u w (eqb-true u v p ∙ eqb-true v w q)) (omega arith)
-    go true false p q = omega (arith, fewest-most [] u w)
-    go false y p q = omega (arith, fewest-most [] u w)
+    go true false p q = omega (arith, none-most (eqb u w))
+    go false y p q = omega (arith, none-most (eqb u w))
 triangle (arc a b ∷ A) u v w = omega (arith, triangle A u v w, triangle A u v a, triangle A b v w)
+
+-- never more than 65,535
+pub fewest-most : (A : List Arc) (u v : ℕ) → fewest A u v ≤ unreached
+fewest-most [] u v = none-most (eqb u v)
+fewest-most (arc a b ∷ A) u v = omega (arith, fewest-most A u v)
+
+-- "0 from a basin to itself"
+pub fewest-self : (A : List Arc) (u : ℕ) → fewest A u u ≡ 0
+fewest-self [] u = rw (eq-eqb u u refl)
+fewest-self (arc a b ∷ A) u = omega (arith, fewest-self A u)
 
 -- an arc is one crossing at most
 fewest-arc : (A : List Arc) (u v : ℕ) → List·Memᴰ (arc u v) A → fewest A u v ≤ 1
