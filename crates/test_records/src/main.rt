@@ -49,6 +49,8 @@ const CONTRACT: u8 = 12;
 
 const COMPARE: u8 = 13;
 
+const DIAMETER: u8 = 14;
+
 fn over_rows(
     call: u8,
     basins: u16,
@@ -71,6 +73,7 @@ fn over_rows(
         READ_SHEET => sums::of_sheet(sheet_rows::read_sheet(basins, kinds, a, b, s, out)),
         WRITE_SHEET => sums::of_written(sheet_rows::write_sheet(basins, kinds, a, b, s, out)),
         BOUND => sums::of_answer(bound_gates::bound_gates_rows(basins, kinds, a, b, out, marks)),
+        DIAMETER => sums::of_diameter(diameter::diameter_rows(basins, kinds, a, b, s)),
         _ => sums::of_written(sheet_rows::write_reply(basins, kinds, a, b, out)),
     }
 }
@@ -98,6 +101,7 @@ fn over_records(
         READ_SHEET => sums::of_sheet(relays::read_sheet(n, basins, reaches, s, out)),
         WRITE_SHEET => sums::of_written(relays::write_sheet(n, basins, reaches, s, out)),
         BOUND => sums::of_answer(relays::bound_gates(n, basins, reaches, out, marks)),
+        DIAMETER => sums::of_diameter(relays::diameter(n, basins, reaches, s)),
         _ => sums::of_written(relays::write_reply(n, basins, reaches, out)),
     }
 }
@@ -555,4 +559,5 @@ fn main() {
     show(b"bound gates", BOUND);
     show(b"contract", CONTRACT);
     show(b"compare two sheets", COMPARE);
+    show(b"diameter", DIAMETER);
 }

@@ -1,6 +1,7 @@
 // The calls over a lent slice of records. Each relay has a table by value, and lends the first n records of its copy.
 // The borrow checker does not cover a slice of structs, nor who lends one. So a relay is one line, proved safe by a walk of its code, by hand.
 use contraction::ContractAnswer;
+use distances::DiameterAnswer;
 use file_records::WriteAnswer;
 use netfile_format::ReadAnswer;
 use network::Reach;
@@ -27,6 +28,12 @@ pub fn check(n: usize, basins: u16, reaches: [Reach; ROOM], setting: &[u8]) -> C
     requires { ⌜ n ≤ 1030 ⌝ }
 {
     planner::check(basins, &reaches[..n], setting)
+}
+
+pub fn diameter(n: usize, basins: u16, reaches: [Reach; ROOM], setting: &[u8]) -> DiameterAnswer
+    requires { ⌜ n ≤ 1030 ⌝ }
+{
+    diameter::diameter(basins, &reaches[..n], setting)
 }
 
 pub fn first_plan(

@@ -1,5 +1,6 @@
 // What a call replies, as a number, and the sum of all that it leaves.
 use contraction::ContractAnswer;
+use distances::DiameterAnswer;
 use file_records::WriteAnswer;
 use netfile_format::ReadAnswer;
 use network::Refusal;
@@ -49,6 +50,13 @@ fn number(r: Refusal) -> u64 {
         Refusal::ShortBuffer => 7,
         Refusal::BadSetting => 8,
         Refusal::LastPlan => 11,
+    }
+}
+
+pub fn of_diameter(answer: DiameterAnswer) -> u64 {
+    match answer {
+        DiameterAnswer::Refused(r) => number(r),
+        DiameterAnswer::Longest(d) => 100 + d as u64,
     }
 }
 
