@@ -42,9 +42,10 @@ ranges =
     far case3 (0 ∷ 1 ∷ []) 1 ∷ far case3 (1 ∷ 0 ∷ []) 1 ∷ far (net 2 (T 0 1 ∷ [])) [] 1 ∷ far (net 2 (F 1 0 ∷ G 0 1 ∷ [])) (0 ∷ []) 1 ∷
     -- Case 7: round the ring, as drawn and turned; with a gate turned by itself it is no plan.
     far case7 (0 ∷ 0 ∷ 0 ∷ []) 2 ∷ far case7 (1 ∷ 1 ∷ 1 ∷ []) 2 ∷ noPlan case7 (0 ∷ 1 ∷ 0 ∷ []) ∷
-    -- A ring of four, and a path of two-way reaches: the fewest between some two wet basins are all but one. A two-way reach across makes it less.
-    far ring4 (0 ∷ 0 ∷ 0 ∷ 0 ∷ []) 3 ∷ far (net 4 (T 2 0 ∷ T 0 3 ∷ T 3 1 ∷ [])) [] 3 ∷ far (net 4 (F 0 1 ∷ F 1 2 ∷ F 2 3 ∷ F 3 0 ∷ T 0 2 ∷ [])) [] 2 ∷
-    -- The longest is from 2 to 1, and from basin 0 no basin is as far.
+    -- A ring of four, and a path of two-way reaches: the longest is one less than the wet basins. A two-way reach across makes it less. (README's example.)
+    far ring4 (0 ∷ 0 ∷ 0 ∷ 0 ∷ []) 3 ∷ noPlan ring4 (0 ∷ 1 ∷ 0 ∷ 0 ∷ []) ∷ far (net 4 (T 2 0 ∷ T 0 3 ∷ T 3 1 ∷ [])) [] 3 ∷
+    far (net 4 (G 0 1 ∷ G 1 2 ∷ G 2 3 ∷ G 3 0 ∷ T 0 2 ∷ [])) (0 ∷ 0 ∷ 0 ∷ 0 ∷ []) 2 ∷
+    -- The longest is between 1 and 2; from basin 0 none is as far.
     far (net 3 (F 0 1 ∷ F 0 2 ∷ F 1 0 ∷ F 2 0 ∷ [])) [] 2 ∷
     -- Of two walks the shorter counts, whichever stands first; a loop is crossed in no fewest count.
     far (net 3 (F 0 1 ∷ F 1 2 ∷ F 0 2 ∷ F 2 0 ∷ F 1 1 ∷ [])) [] 2 ∷ far (net 3 (F 0 2 ∷ F 2 0 ∷ F 1 2 ∷ F 0 1 ∷ [])) [] 2 ∷
