@@ -10,7 +10,7 @@ use Rattle.tables.specs.Rows.{netOf, waysRow}
 use Rattle.distances.specs.Diameters.{greatest, farthest, diameter}
 use Rattle.distances.specs.declared.DiameterAnswer.{DiameterAnswer}
 use Rattle.distances.specs.Answers.{DiameterCall}
-use Rattle.distances.proofs.Answers.{told, told-faulty}
+use Rattle.distances.proofs.Answers.{diameter-called, diameter-faulty}
 use Rattle.packing.proofs.Packings.{ByTable}
 use Rattle.seeking.specs.Levels.{Level}
 use Rattle.seeking.proofs.Levels.{level-arcs}
@@ -23,4 +23,4 @@ rows-diameter {n} {r} {ks} {xs} {ys} v s e q =
 
 -- what is promised where the table is refused depends on the refusal only
 pub diameter-alike : {r : DiameterAnswer} (s : List ℕ) → ByTable (λ N. DiameterCall N s r)
-diameter-alike s N N′ x e e′ h = told N′ s (h .answer ∙ sym (told-faulty N s x e .answer) ∙ told-faulty N′ s x e′ .answer)
+diameter-alike s N N′ x e e′ h = diameter-called N′ s (h .answer ∙ sym (diameter-faulty N s x e .answer) ∙ diameter-faulty N′ s x e′ .answer)

@@ -1,2 +1,2 @@
 -- The law of the two calls, from what they promise.
-pub mod Ranges
+pub mod Diameters

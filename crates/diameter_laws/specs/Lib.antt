@@ -1,2 +1,2 @@
 -- What the check of a setting and the longest of its fewest counts say together.
-pub mod Ranges
+pub mod Diameters

@@ -20,23 +20,23 @@ use Rattle.distances.specs.Answers.{diameterFault, longestUnless, longes
 use Rattle.distances.proofs.Diameters.{diameter-exactly, diameter-shown}
 
 -- the answer has its number
-told-number : (o : Option Refusal) (d : ℕ) → diameterNumber (longestUnless o d) ≡ faultNumber o
-told-number (some r) d = refl
-told-number none d = refl
+number-called : (o : Option Refusal) (d : ℕ) → diameterNumber (longestUnless o d) ≡ faultNumber o
+number-called (some r) d = refl
+number-called none d = refl
 
-pub told : (N : Network) (s : List ℕ) {r : DiameterAnswer} → r ≡ diameterOf N s → DiameterCall N s r
+pub diameter-called : (N : Network) (s : List ℕ) {r : DiameterAnswer} → r ≡ diameterOf N s → DiameterCall N s r
 unfolding diameterOf
-told N s e = record { answer = e; number = ap diameterNumber e ∙ told-number (diameterFault N s) (diameter N s) }
+diameter-called N s e = record { answer = e; number = ap diameterNumber e ∙ number-called (diameterFault N s) (diameter N s) }
 
 -- a table that is refused, whatever the setting
-pub told-faulty : (N : Network) (s : List ℕ) (r : Refusal) → tableFault N ≡ some r → DiameterCall N s (Refused r)
+pub diameter-faulty : (N : Network) (s : List ℕ) (r : Refusal) → tableFault N ≡ some r → DiameterCall N s (Refused r)
 unfolding diameterOf
-told-faulty N s r e = told N s (rw e)
+diameter-faulty N s r e = diameter-called N s (rw e)
 
 -- so is a table that is refused, or a setting by its length or bytes
-pub told-refused : (N : Network) (s : List ℕ) {r : Refusal} → checkFault N s ≡ some r → DiameterCall N s (Refused r)
+pub diameter-refused : (N : Network) (s : List ℕ) {r : Refusal} → checkFault N s ≡ some r → DiameterCall N s (Refused r)
 unfolding checkFault settingFault isPlan diameterOf
-told-refused N s {r} e = told N s (go (tableFault N) (isSetting N s) e)
+diameter-refused N s {r} e = diameter-called N s (go (tableFault N) (isSetting N s) e)
   where
     go : (o : Option Refusal) (fits : Bool) → firstOf o (cond fits none (some BadSetting)) ≡ some r
         → Refused r ≡ longestUnless (firstOf o (cond (fits && stronglyConnectedUnder N s) none (some BadSetting))) (diameter N s)
@@ -45,9 +45,9 @@ told-refused N s {r} e = told N s (go (tableFault N) (isSetting N s) e)
     go none false e = ap Refused (sym (Option·some-injective BadSetting r e))
 
 -- neither: a number, or 8 if the setting is no plan
-pub told-longest : (N : Network) (s : List ℕ) {d : ℕ} {r : DiameterAnswer} → Accepted N → isSetting N s ≡ true → d ≡ diameter N s → r ≡ longestOr8 d → DiameterCall N s r
+pub diameter-given : (N : Network) (s : List ℕ) {d : ℕ} {r : DiameterAnswer} → Accepted N → isSetting N s ≡ true → d ≡ diameter N s → r ≡ longestOr8 d → DiameterCall N s r
 unfolding isPlan diameterOf
-told-longest N s ok fits e is = told N s (is ∙ ap longestOr8 e ∙ ap (λ (b : Bool). cond b (Longest (diameter N s)) (Refused BadSetting)) (diameter-exactly N s ok) ∙ rw (ok, fits) (go (stronglyConnectedUnder N s)))
+diameter-given N s ok fits e is = diameter-called N s (is ∙ ap longestOr8 e ∙ ap (λ (b : Bool). cond b (Longest (diameter N s)) (Refused BadSetting)) (diameter-exactly N s ok) ∙ rw (ok, fits) (go (stronglyConnectedUnder N s)))
   where
     go : (b : Bool) → cond b (Longest (diameter N s)) (Refused BadSetting) ≡ longestUnless (cond b none (some BadSetting)) (diameter N s)
     go true = refl

@@ -6,8 +6,8 @@ use Rattle.network.specs.Settings.{isSetting}
 use Rattle.network.specs.Plans.{stronglyConnectedUnder, isPlan}
 use Rattle.distances.specs.Diameters.{diameter}
 use Rattle.distances.specs.Answers.{diameterOf}
-use Rattle.distances.specs.Cases.{ranges, RangesHold}
+use Rattle.distances.specs.Cases.{spanCases, SpansHold}
 
-pub ranges-hold : RangesHold ranges
+pub spans-hold : SpansHold spanCases
 unfolding isWet basinsOf tableFault isSetting stronglyConnectedUnder isPlan diameter diameterOf
-ranges-hold = (refl, (refl, (refl, (refl, (refl, (refl, (refl, (refl, (refl, (refl, (refl, (refl, (refl, (refl, (refl, (refl, (refl, (refl, (refl, (refl, (refl, (refl, (refl, (refl, (refl, (refl, (refl, (refl, (refl, (refl, (refl, tt)))))))))))))))))))))))))))))))
+spans-hold = (refl, (refl, (refl, (refl, (refl, (refl, (refl, (refl, (refl, (refl, (refl, (refl, (refl, (refl, (refl, (refl, (refl, (refl, (refl, (refl, (refl, (refl, (refl, (refl, (refl, (refl, (refl, (refl, (refl, (refl, (refl, tt)))))))))))))))))))))))))))))))

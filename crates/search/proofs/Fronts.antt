@@ -23,7 +23,7 @@ use Rattle.network.proofs.Walks.{walk-trans, walk-arc, walk-reached, reached-wa
 use Rattle.half_edges.specs.Ends.{Next}
 use Rattle.search.specs.Searches.{Seen, Unseen, Visited, first, again, Grown, stay as none-more, more, Scanned, Noted, Meets, meeting, apart}
 use Rattle.search.proofs.Counts.{unseen-le, unseen-set}
-use Rattle.search.proofs.Visits.{Grew, set-news, visited-grew, visited-seen, grown-grew, Counted, grown-counted}
+use Rattle.search.proofs.Visits.{Grew, set-news, visited-grew, visited-seen, grown-grew, CountsGrew, grown-counts}
 use Rattle.search.specs.Fronts.{Waits, Sound, Closed, Searching, Counting}
 
 module _ {A : List Arc} {n start : ℕ} where
@@ -183,8 +183,8 @@ module _ {A : List Arc} {n start : ℕ} where
       g : Grew (replicate n unreached ++ drop n seen₀) queue₀ 0 seen queue tail
       g = visited-grew (fits start refl) (omega arith) (omega (arith, same, unseen-le (replicate n unreached ++ drop n seen₀))) v
 
-      k : Counted (λ w. w ≡ start) 0 (replicate n unreached ++ drop n seen₀) 0 seen queue tail
-      k = grown-counted fits (omega arith) (omega (arith, same, unseen-le (replicate n unreached ++ drop n seen₀))) (more none-more refl v)
+      k : CountsGrew (λ w. w ≡ start) 0 (replicate n unreached ++ drop n seen₀) 0 seen queue tail
+      k = grown-counts fits (omega arith) (omega (arith, same, unseen-le (replicate n unreached ++ drop n seen₀))) (more none-more refl v)
 
       own : (u : ℕ) → u < n → Seen seen u → (u ≡ start) × (getD seen u 0 ≡ 0)
       own u l x = ⊎-elim (λ y. absurd (omega (arith, blank u l, y))) (λ y. y) (k .fresh u x)
@@ -202,8 +202,8 @@ module _ {A : List Arc} {n start : ℕ} where
     g : Grew seen queue tail seen′ queue′ tail′
     g = grown-grew fits few (s .sound .room) (d .grown)
 
-    k : Counted (Next A u) count seen tail seen′ queue′ tail′
-    k = grown-counted fits few (s .sound .room) (d .grown)
+    k : CountsGrew (Next A u) count seen tail seen′ queue′ tail′
+    k = grown-counts fits few (s .sound .room) (d .grown)
 
     u-in : u < n
     u-in = s .sound .basins at l

@@ -88,14 +88,14 @@ grown-grew f c r (more {w = w} g p v) =
 -- ---- the counts
 
 -- What was seen keeps its count; what is newly seen passes the test and has the count, and so has each basin that is newly queued.
-pub record Counted (P : ℕ → Type 0) (count : ℕ) (seen : List ℕ) (tail : ℕ) (seen′ queue′ : List ℕ) (tail′ : ℕ) : Type 0 where
+pub record CountsGrew (P : ℕ → Type 0) (count : ℕ) (seen : List ℕ) (tail : ℕ) (seen′ queue′ : List ℕ) (tail′ : ℕ) : Type 0 where
   pub same : (v : ℕ) → Seen seen v → getD seen′ v 0 ≡ getD seen v 0
   pub fresh : (v : ℕ) → Seen seen′ v → Seen seen v ⊎ (P v × (getD seen′ v 0 ≡ count))
   pub queued : (k : ℕ) → tail ≤ k → k < tail′ → getD seen′ (getD queue′ k 0) 0 ≡ count
 
 -- one more basin is visited for the first time
 module _ {P : ℕ → Type 0} {count : ℕ} {seen queue seen′ queue′ : List ℕ} {tail end : ℕ} (w : ℕ) (in-seen : w < length seen′) (few : count < unreached) (p : P w) (e : Unseen seen′ w)
-    (h : Grew seen queue tail seen′ queue′ end) (k : Counted P count seen tail seen′ queue′ end) where
+    (h : Grew seen queue tail seen′ queue′ end) (k : CountsGrew P count seen tail seen′ queue′ end) where
   own : getD (set seen′ w count) w 0 ≡ count
   own = getD-set-same seen′ w count 0 in-seen
 
@@ -110,7 +110,7 @@ module _ {P : ℕ → Type 0} {count : ℕ} {seen queue seen′ queue′ : List 
   at j l (yes q) m = rw (q, getD-set-same queue′ end w 0 (omega (arith, h .room, unseen-set seen′ w count in-seen few e))) own
   at j l (no q) m = let z = k .queued j l (omega arith) in rw (getD-set-other queue′ end j w 0 q) (others (getD queue′ j 0) (omega (arith, z)) ∙ z)
 
-  counted-first : Counted P count seen tail (set seen′ w count) (set queue′ end w) (end + 1)
+  counted-first : CountsGrew P count seen tail (set seen′ w count) (set queue′ end w) (end + 1)
   counted-first =
       record {
         same = λ v s. others v (h .keeps v s) ∙ k .same v s;
@@ -118,10 +118,10 @@ module _ {P : ℕ → Type 0} {count : ℕ} {seen queue seen′ queue′ : List 
         queued = λ j l m. at j l (ℕ-discrete j end) m;
       }
 
-pub grown-counted : {P : ℕ → Type 0} {count : ℕ} {seen queue seen′ queue′ : List ℕ} {tail tail′ : ℕ} → ((w : ℕ) → P w → w < length seen) → count < unreached → QueueRoom seen queue tail
-    → Grown P count seen queue tail seen′ queue′ tail′ → Counted P count seen tail seen′ queue′ tail′
-grown-counted f c r stay = record { same = λ v s. refl; fresh = λ v s. inl s; queued = λ k l m. absurd (omega arith) }
-grown-counted f c r (more g p (again s)) = grown-counted f c r g
-grown-counted f c r (more {w = w} g p (first e)) =
+pub grown-counts : {P : ℕ → Type 0} {count : ℕ} {seen queue seen′ queue′ : List ℕ} {tail tail′ : ℕ} → ((w : ℕ) → P w → w < length seen) → count < unreached → QueueRoom seen queue tail
+    → Grown P count seen queue tail seen′ queue′ tail′ → CountsGrew P count seen tail seen′ queue′ tail′
+grown-counts f c r stay = record { same = λ v s. refl; fresh = λ v s. inl s; queued = λ k l m. absurd (omega arith) }
+grown-counts f c r (more g p (again s)) = grown-counts f c r g
+grown-counts f c r (more {w = w} g p (first e)) =
     let h = grown-grew f c r g in
-    counted-first w (omega (arith, f w p, h .seen-length)) c p e h (grown-counted f c r g)
+    counted-first w (omega (arith, f w p, h .seen-length)) c p e h (grown-counts f c r g)

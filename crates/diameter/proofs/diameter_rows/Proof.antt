@@ -12,7 +12,7 @@ use Rattle.tables.proofs.Cuts.{cut-kinds, cut-a, cut-b, cut-net}
 use Rattle.refusals.proofs.Dues.{fitting}
 use Rattle.seeking.proofs.Levels.{cut-level}
 use Rattle.distances.specs.Diameters.{diameter}
-use Rattle.distances.proofs.Answers.{told-refused, told-longest}
+use Rattle.distances.proofs.Answers.{diameter-refused, diameter-given}
 use Rattle.diameter.proofs.diameter_rows.Statement.{statement}
 use Rattle.diameter.proofs.diameter_rows.Tie as tie
 
@@ -31,7 +31,7 @@ enum-known-r : tie.Need-enum-known-r
 enum-known-r c = search needs
 
 returns : tie.Need-returns
-returns c = let s = c .before .before .before .before .before .before .before .before in told-refused (net s) (s .args .setting .now) (answer-refused (checkFault (net s) (s .args .setting .now)) _ (sym (c .before .before .before .check-refusal .ensures) ∙ c .before .r .given .1))
+returns c = let s = c .before .before .before .before .before .before .before .before in diameter-refused (net s) (s .args .setting .now) (answer-refused (checkFault (net s) (s .args .setting .now)) _ (sym (c .before .before .before .check-refusal .ensures) ∙ c .before .r .given .1))
 
 enum-told : tie.Need-enum-told
 enum-told c = search needs
@@ -71,7 +71,7 @@ returns-2 c =
     let s = c .before .before .before .before .before .before .before .before .before .before .before .before .before in
     let m = c .before .before .before .before .before .row-count in
     let fit = fitting (net s) (s .args .setting .now) (clear (c .before .before .before .before .before .before)) in
-    told-longest (net s) (s .args .setting .now) (fit .0) (fit .1)
+    diameter-given (net s) (s .args .setting .now) (fit .0) (fit .1)
     (c .before .diameter-accepted .ensures ∙ ap (λ (N : Network). diameter N (s .args .setting .now)) (cut-net (s .args .kinds .now) (s .args .a .now) (s .args .b .now) (m .result) (m .ensures) (s .args .basins))) (c .longest-or-8 .ensures)
 
 pub diameter-rows-spec : {M : Type 1} → statement M

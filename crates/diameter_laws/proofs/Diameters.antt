@@ -17,25 +17,25 @@ use Rattle.distances.specs.Answers.{longestUnless, diameterOf, DiameterCall}
 use Rattle.distances.proofs.Diameters.{diameter-shown}
 use Rattle.replies.specs.declared.CheckAnswer.{CheckAnswer}
 use Rattle.replies.specs.Answers.{yesOr, unlessRefused, checkOf, CheckCall}
-use Rattle.diameter_laws.specs.Ranges.{RangeTold, range-of-plan, range-of-none, range-refused, LongestOfChecked}
+use Rattle.diameter_laws.specs.Diameters.{DiameterTold, of-plan, of-no-plan, refused-alike, LongestOfChecked}
 
 -- over the definitions
-range-told : (N : Network) (s : List ℕ) → RangeTold N s (checkOf N s) (diameterOf N s)
+diameter-told : (N : Network) (s : List ℕ) → DiameterTold N s (checkOf N s) (diameterOf N s)
 unfolding checkOf checkFault settingFault isPlan diameterOf
-range-told N s = go (tableFault N) refl (isSetting N s) refl (stronglyConnectedUnder N s) refl
+diameter-told N s = go (tableFault N) refl (isSetting N s) refl (stronglyConnectedUnder N s) refl
   where
     go : (o : Option Refusal) → tableFault N ≡ o → (fits : Bool) → isSetting N s ≡ fits → (all : Bool) → stronglyConnectedUnder N s ≡ all
-        → RangeTold N s (unlessRefused (firstOf o (cond fits none (some BadSetting))) (yesOr (fits && all))) (longestUnless (firstOf o (cond (fits && all) none (some BadSetting))) (diameter N s))
-    go (some r) e fits f all h = range-refused
-    go none e false f all h = range-refused
-    go none e true f false h = range-of-none (rw (f, h))
-    go none e true f true h = let p : isPlan N s ≡ true = rw (f, h) in range-of-plan p (diameter-shown N s e p)
+        → DiameterTold N s (unlessRefused (firstOf o (cond fits none (some BadSetting))) (yesOr (fits && all))) (longestUnless (firstOf o (cond (fits && all) none (some BadSetting))) (diameter N s))
+    go (some r) e fits f all h = refused-alike
+    go none e false f all h = refused-alike
+    go none e true f false h = of-no-plan (rw (f, h))
+    go none e true f true h = let p : isPlan N s ≡ true = rw (f, h) in of-plan p (diameter-shown N s e p)
 
 -- over the two calls
-pub range-over : (N : Network) (s : List ℕ) {c : CheckAnswer} {r : DiameterAnswer} → CheckCall N s c → DiameterCall N s r → LongestOfChecked N s c r
-range-over N s {c} {r} x y =
+pub diameter-over : (N : Network) (s : List ℕ) {c : CheckAnswer} {r : DiameterAnswer} → CheckCall N s c → DiameterCall N s r → LongestOfChecked N s c r
+diameter-over N s {c} {r} x y =
     record {
       checked = x;
       called = y;
-      told = subst (λ (a : CheckAnswer). RangeTold N s a r) (sym (x .answer)) (subst (λ (a : DiameterAnswer). RangeTold N s (checkOf N s) a) (sym (y .answer)) (range-told N s));
+      told = subst (λ (a : CheckAnswer). DiameterTold N s a r) (sym (x .answer)) (subst (λ (a : DiameterAnswer). DiameterTold N s (checkOf N s) a) (sym (y .answer)) (diameter-told N s));
     }

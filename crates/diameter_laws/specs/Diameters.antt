@@ -19,13 +19,13 @@ use Rattle.replies.specs.Answers.{CheckCall}
 -- A number is given exactly if the check says yes, and then `DiameterShown` holds of it: "0 if there are fewer than two and, where there is any, always below the number
 -- of wet basins"; some pair of wet basins has it, and none has more. "A setting that isn't a plan is refused 8": so it is where the check says no. What the
 -- check refuses is refused by the same number.
-pub data RangeTold (N : Network) (s : List ℕ) : CheckAnswer → DiameterAnswer → Type 0 where
-  range-of-plan : {d : ℕ} → isPlan N s ≡ true → DiameterShown N s d → RangeTold N s C.Yes (D.Longest d)
-  range-of-none : isPlan N s ≡ false → RangeTold N s C.No (D.Refused BadSetting)
-  range-refused : {r : Refusal} → RangeTold N s (C.Refused r) (D.Refused r)
+pub data DiameterTold (N : Network) (s : List ℕ) : CheckAnswer → DiameterAnswer → Type 0 where
+  of-plan : {d : ℕ} → isPlan N s ≡ true → DiameterShown N s d → DiameterTold N s C.Yes (D.Longest d)
+  of-no-plan : isPlan N s ≡ false → DiameterTold N s C.No (D.Refused BadSetting)
+  refused-alike : {r : Refusal} → DiameterTold N s (C.Refused r) (D.Refused r)
 
 -- What the two calls promise, and what they say together.
 pub record LongestOfChecked (N : Network) (s : List ℕ) (c : CheckAnswer) (r : DiameterAnswer) : Type 0 where
   pub checked : CheckCall N s c
   pub called : DiameterCall N s r
-  pub told : RangeTold N s c r
+  pub told : DiameterTold N s c r
