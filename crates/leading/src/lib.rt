@@ -1,5 +1,5 @@
-// Whether one basin leads to another, searched for from both ends. These searches do not count: what they note for a basin that they see is the basin that they
-// began at, a number below UNREACHED.
+// Whether one basin leads to another, searched for from both ends. These searches do not count: for a basin that they see they note the number of the basin that they
+// began at, for that one 0; any number below UNREACHED would do.
 // The functions with a `requires` are for the crates above, which have checked it.
 ghost use mathlib.Core.Path.{_≡_};
 ghost use Prim.Native.Nat.{_≤_, _<_};
