@@ -49,6 +49,10 @@ NETWORKS = {
     # fields; 6 is dug, and its reach still shut. Reaches 3 and 10 are flaps inside the fields, reach 4 a gate inside them.
     "polder": (7, "T 4-1, G 0-1, T 5-2, F 2-0, G 2-5, G 4-3, T 0-5, F 3-2, t 3-6, G 1-3, F 4-1, T 2-0"),
 
+    # A ring main over basins 0 to 7, its first reach a flap, and two cross ditches from one side to the other, reaches 8 and 9. Which way
+    # these are hung decides how far the water goes.
+    "ring-main": (8, "F 0-1, G 1-2, G 2-3, G 3-4, G 4-5, G 5-6, G 6-7, G 7-0, G 1-6, G 2-5"),
+
     # On both edges of the lister's 1,000 plans. Parts that meet in basin 0 alone multiply: 5 * 5 * 5 * 2 * 2 * 2 plans,
     # and 7 * 11 * 13.
     "plans-1000": (10,

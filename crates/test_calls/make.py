@@ -1,11 +1,12 @@
 #!/usr/bin/env python3
 """Writes the case file `stdin` and the expected output `stdout` of the program test_calls, into the folder that this file stands in.
 
-What is expected is worked out here from document 01 and items 1 to 5 of document 02 alone. Small networks are planned by trying every setting, from every
+What is expected is worked out here from document 01 and items 1 to 6 of document 02 alone. Small networks are planned by trying every setting, from every
 wet basin, and every division of the wet basins, and their bound gates are looked up in all their plans; larger ones go by the theorem, gate by gate. Where
 both can be had they are compared. Clusters are found by relabelling until nothing changes; of small networks the folded one must have the same plans, by
-trying every setting. Two plan sheets are ordered by their settings, and cut into records to see where they part. The pseudo-random sequence is fixed: the
-files never change by themselves.
+trying every setting. Two plan sheets are ordered by their settings, and cut into records to see where they part. How far the water goes is seen by letting what
+lies within so many reaches grow, round every basin at once; on small networks the fewest counts of all pairs, by way of each basin in turn, must agree. The
+pseudo-random sequence is fixed: the files never change by themselves.
 """
 import os
 from bisect import bisect
@@ -13,6 +14,7 @@ from collections import Counter
 from functools import lru_cache
 from itertools import product
 
+HERE = os.path.dirname(os.path.abspath(__file__))
 OLD, OLD_WORD = 170, 43690          # what every byte and every two-byte entry of a lent buffer holds before a call
 GATED, FLAP, TWO_WAY = 0, 1, 2      # kinds in a row of a table
 SHUT = 3                            # is added to the kind of a reach that is shut for works; every number over 5 is shut two-way too
@@ -361,6 +363,54 @@ def compare_call(basins, reaches, first, second):
     return earlier, [x for record in cut[earlier - 1][place:] for x in record]
 
 
+# ---- how far the water goes (document 02, item 6)
+
+GAUGED, NO_PLANS, UNFIT = set(), set(), Counter()       # what was asked: with a plan; with a setting that is none; how often each other refusal came
+
+
+def longest_by_growth(net, setting):
+    """The number of reaches within which all wet basins lie of each, under a plan. Within one more of a basin lies what lies within so many of those that
+    a reach leads to from it."""
+    arcs, near, count = net.arcs(setting), {v: 1 << v for v in net.wet}, 0
+    while any(seen != net.all for seen in near.values()):
+        wider = dict(near)
+        for a, b in arcs:
+            wider[a] |= near[b]
+        near, count = wider, count + 1
+    return count
+
+
+def fewest_counts(net, setting):
+    """The fewest reaches from each wet basin to each, by way of each of them in turn; as many as there are wet basins where there is no way."""
+    n = len(net.wet)
+    rows = [[n * (i != j) for j in range(n)] for i in range(n)]
+    for a, b in net.arcs(setting):
+        if a != b:
+            rows[net.wet.index(a)][net.wet.index(b)] = 1
+    for via in range(n):
+        rows = [[min(x, row[via] + y) for x, y in zip(row, rows[via])] for row in rows]
+    return rows
+
+
+@lru_cache(maxsize=None)
+def farthest(reaches, setting):
+    return longest_by_growth(network(reaches), setting)
+
+
+def diameter_call(basins, reaches, setting):
+    """The number of a refusal, or the longest of the fewest counts, by itself in a row."""
+    number = table_fault(basins, reaches) or (8 if misfits(reaches, setting) else 0)
+    if number:
+        UNFIT[number] += 1
+        return number
+    asked = basins, reaches, tuple(setting)
+    if not network(reaches).is_plan(setting):
+        NO_PLANS.add(asked)
+        return 8
+    GAUGED.add(asked)
+    return [farthest(*asked[1:])]
+
+
 def plan_sheet(reaches, setting):
     gates = [i for i, r in enumerate(reaches) if r[0] == GATED]
     return [16] + two(len(gates)) + [x for i, s in zip(gates, setting) for x in [17 + s] + two(i)] + [9]
@@ -454,7 +504,7 @@ class Out:
 
 # first plan is a walk that does not go on, a step a walker that does not
 CALLS = ['table', 'check', 'walk', 'bound', 'next', 'make', 'walker', 'read network', 'write network', 'read sheet', 'write sheet', 'write reply', 'list',
-         'list placed', 'contract', 'compare']
+         'list placed', 'contract', 'compare', 'diameter']
 CODES = dict([(call, i) for i, call in enumerate(CALLS)] + [('first', 2), ('step', 6)])
 
 
@@ -541,6 +591,11 @@ def play(o, c, table):
         if not isinstance(got, int):
             o.value(got[0])
         o.row([] if isinstance(got, int) else got[1])
+    elif call == 'diameter':
+        got = diameter_call(basins, reaches, s[limit:limit + p])
+        o.reply(got if isinstance(got, int) else 0)
+        for x in () if isinstance(got, int) else got:
+            o.value(x)
     elif call == 'list':
         text = listing(s)
         for at in range(0, p * limit + 1, p or 1):
@@ -728,6 +783,12 @@ def all_pairs(gr, basins):
     gr.case('compare', basins, vary=hung(g) + hung(g, len(sheet) + 1), mode=BRIEF if g <= 3 else QUIET, **beside(sheet, sheet))
 
 
+def all_settings(gr, basins, values=3):
+    """How far the water goes under every setting, with bytes over 1 too, as long as it should be, one byte shorter and one longer."""
+    g = gates_of(gr.reaches)
+    gr.case('diameter', basins, [0] * (g + 1), vary=[('p', 3, max(g - 1, 0))] + [(i, values, 0) for i in range(g)])
+
+
 # ---- cases 1 to 11, 13: all calls on small networks
 
 def whole(title, basins, reaches):
@@ -756,6 +817,7 @@ def whole(title, basins, reaches):
     all_pairs(gr, basins)
     gr.case('list', 0, file, p=len(listing(file)) + 16)
     gr.case('contract', basins, **new_rows(len(reaches)))
+    all_settings(gr, basins)
 
 
 whole('case 1: one basin, no reach', 1, [])
@@ -821,6 +883,7 @@ def cuts(title, basins, reaches):
     gr.case('read sheet', basins, sheet, p=g, vary=vary + hung(g))
     gr.case('compare', basins, vary=vary + hung(g) + hung(g, len(sheet) + 1), mode=QUIET, **beside(sheet, sheet))
     gr.case('contract', basins, vary=vary, **new_rows(len(reaches)))
+    gr.case('diameter', basins, zeros, vary=vary + [('p', g + 1, 0)] + settings(g))
 
 
 whole('case 4 with its reach shut', 2, [(ST, 0, 1)])
@@ -841,6 +904,7 @@ gr = group('256 basins: two lines at every sixth, then a shut gate, a gate and a
 for call in ('first', 'bound', 'write reply'):
     gr.case(call, 256, p=38, vary=[('k', 4, 41)], mode=FULL)
 gr.case('contract', 256, vary=[('k', 4, 41)], mode=FULL, **new_rows(44))
+gr.case('diameter', 256, [0], vary=[('k', 4, 41), ('p', 2, 0), (0, 2, 0)])
 
 file = network_file(4, [(G, 1, 3), (G, 3, 1)])
 gr = group('dry basins: files of G1-3 and another reach, with four and five basins', [])
@@ -854,6 +918,8 @@ for call in ('first', 'bound', 'write reply'):
     gr.case(call, 0, p=38, vary=[('k', 6, 0)] + counts, mode=QUIET)
 gr.case('check', 0, [0, 0, 0], vary=[(0, 2, 0), (2, 2, 0)] + counts)
 gr.case('next', 0, [0, 0, 0], p=3, vary=[(0, 2, 0), (2, 2, 0)] + counts, mode=QUIET)
+gr.case('diameter', 0, [0, 0, 0], p=3, vary=[(0, 2, 0), (2, 2, 0)] + counts, mode=QUIET)
+gr.case('diameter', 6, [0, 0, 0], p=3, vary=[(1, 256, 0)])
 
 
 # ---- case 12: the limits
@@ -873,6 +939,8 @@ for title, kind in (('flaps', F), ('two-way reaches', T), ('shut gates', SG)):
     gr.case('bound', 256, k=256)
     gr.case('contract', 0, k=1024, vary=EDGES, **new_rows(1024))
     gr.case('contract', 0, k=1024, vary=EDGES, **new_rows(1023))
+    gr.case('diameter', 0, [0], k=1024, vary=EDGES + [('p', 2, 0)])
+    gr.case('diameter', 256, k=255, vary=[('k high', 2, 0)])
 
 gr = group('case 12: gates round a ring of 256 basins, four times', ring(256, 1026, G))
 zeros = [0] * 1025
@@ -896,6 +964,8 @@ gr.case('walker', 256, zeros[:1024], p=1024, k=1024, limit=2)
 gr.case('table', 256, k=1025, x=1024, y=1026)
 gr.case('table', 256, k=1026, x=1026, y=1025)
 gr.case('contract', 256, k=1024, vary=[('p high', 2, 3), ('m high', 2, 3), ('limit high', 2, 3)], **new_rows(1024))
+# once round as drawn, turned, and in part turned, which is no plan; twice round, as drawn and turned
+gr.case('diameter', 256, [0] * 256 + [1] * 256, k=0, vary=[('k high', 2, 1), ('p high', 2, 1), ('limit high', 2, 0), ('limit', 256, 0)])
 
 for odd in ((G, 256, 0), (G, 0, 255), (F, 0, 255), (T, 0, 255), (SF, 0, 255), (SG, 190, 191)):
     gr = group('gates round a ring of 255 basins, and reach 700 is ' + letters([odd]), ring(255, 1025, G, (700, odd)))
@@ -936,6 +1006,7 @@ for title, reaches in (('', grid), (' with reach 100 shut', grid[:100] + [(SG,) 
     gr.case('walker', 256, [0] * g, p=g, limit=10)
     gr.case('bound', 256, p=g)
     gr.case('check', 256, network(gr.reaches).next_plan(), vary=[(g - 1, 2, 0)])
+    gr.case('diameter', 256, network(gr.reaches).next_plan(), p=g, vary=[(g - 1, 2, 0)])
     gr.case('write reply', 256, p=4 + 3 * g)
 
 
@@ -1009,6 +1080,7 @@ for title, reaches in TABLES:
     sheet = plan_sheet(reaches, [0, 0, 0])
     gr.case('read sheet', 3, sheet + [0], vary=table + [('n', 4, 11), (9, 4, 16), ('p', 3, 2)], **at_six)
     gr.case('compare', 3, vary=table + [('p', 3, 12), (9, 4, 16), ('m', 3, 12), (23, 4, 16)], **beside(sheet, sheet), **at_six)
+    gr.case('diameter', 3, [0, 0, 0, 0], vary=table + [('p', 3, 2), (1, 2, 0), (2, 3, 0)], **at_six)
     lengths = [('k', 4, 5), ('x', 4, 5), ('y', 4, 5)]
     gr.case('table', 3, vary=lengths)
     gr.case('first', 3, p=8, vary=lengths)
@@ -1021,6 +1093,7 @@ for title, reaches in TABLES:
     gr.case('contract', 3, vary=table + rows, **at_six)
     gr.case('contract', 3, vary=lengths + rows, mode=QUIET)
     gr.case('contract', 3, vary=lengths, p=8, m=9, limit=10)
+    gr.case('diameter', 3, [0, 0, 0, 0, 0], vary=lengths + [('p', 3, 2)])
 
 
 # ---- small networks of a fixed sequence, all different
@@ -1111,6 +1184,8 @@ for f, (basins, g) in enumerate(product(range(2, 7), range(11))):
     gr.case('step', basins, setting, p=g, vary=[('basins', 2, basins)] + vary[-3:], mode=QUIET)
     gr.case('write reply', basins, p=40, vary=[('basins', 2, basins)], mode=QUIET)
     gr.case('contract', basins, vary=[('basins', 2, basins)], mode=QUIET, **new_rows(12))
+    if g <= 8:
+        gr.case('diameter', basins, [0] * g, p=g, vary=settings(g), mode=QUIET)
 
 # many more, 168 from each eleven reaches: the first two of all kinds, and shut (the first of all kinds, the second by number 255), and cut at five to
 # eleven; the sums of all their plans and of the bytes of their gates. Of the first for each number of basins the other nine are shut, so that most are dry
@@ -1330,6 +1405,8 @@ for title, reaches in (('a path, rising', path), ('a path, falling', path[::-1])
     assert len(reaches) == 255 and fold(256, gr.reaches) == (1, ((T, 0, 0), (G, 0, 0)))
     gr.case('contract', 256, vary=[('k high', 2, 0), ('k', 4, 0)], **new_rows(259))
     gr.case('contract', 256, k=240, vary=[('k', 16, 240)], mode=QUIET, **new_rows(255))
+    gr.case('diameter', 256, [0], k=255, vary=[('k', 2, 254)])
+    gr.case('diameter', 256, [0], p=1, k=256, vary=[('k', 4, 0), (0, 2, 0)])
 
 pairs = [(T, v, 255 - v) if i % 2 else (T, 255 - v, v) for i in range(8) for v in reversed(range(128))]
 gr = group('folded: 128 pairs of basins, each joined eight times', pairs)
@@ -1572,18 +1649,123 @@ assert came(500, *('refused %d, %d' % numbers for n in (4, 5, 6, 8) for numbers 
 assert came(90, *('refused %d, %d' % numbers for numbers in product((4, 5, 6, 8), repeat=2)))
 
 
+# ---- how far the water goes (document 02, item 6), with counts that are seen by hand
+
+def example(name):
+    """The basins and reaches of an example."""
+    with open(os.path.join(HERE, '..', '..', 'examples', name + '.net'), 'rb') as f:
+        return read_network(list(f.read()))
+
+
+def far(title, basins, reaches, expected, values=3):
+    """A table, and its plans in order with what each gets."""
+    gr = group('how far: ' + title, reaches)
+    plans = [s for s in product((0, 1), repeat=gates_of(reaches)) if network(gr.reaches).is_plan(s)]
+    assert ' '.join('%s:%d' % (''.join(map(str, s)), farthest(gr.reaches, s)) for s in plans) == expected
+    all_settings(gr, basins, values)
+
+
+far('a ring of four gates', 4, reaches_of('G0-1 G1-2 G2-3 G3-0'), '0000:3 1111:3')
+far('the same with a two-way reach across', 4, reaches_of('G0-1 G1-2 T0-2 G2-3 G3-0'), '0000:2 0011:3 1100:3 1111:2')
+far('the same with that reach shut', 4, reaches_of('G0-1 G1-2 t0-2 G2-3 G3-0'), '0000:3 1111:3')
+far('a path of two-way reaches among dry basins', 9, reaches_of('T5-1 T1-7 g3-8 T7-2'), ':3')
+far('one reach from basin 0 to each and one back, some of them twice, and loops', 4, reaches_of('F0-1 F1-1 T0-3 F0-2 F1-0 T0-0 F2-0 F0-2'), ':2')
+far('half round a ring of two-way reaches', 6, reaches_of('T0-1 T1-2 T2-3 T3-4 T4-5 T5-0'), ':3')
+far('the example ring-main', *example('ring-main'),
+    '000000000:7 000000001:7 000000010:5 000000011:7 011100000:7 011100010:6 100010001:7 111110000:7 111110001:6', values=2)
+
+# all networks of three reaches on three basins, kinds below 3, under every setting: by which of the reaches are gated
+
+gr = group('how far: all networks of three reaches on three basins', [])
+for kinds in product((G, F), repeat=3):
+    table, g = table_bytes([(k, 0, 0) for k in kinds]), kinds.count(G)
+    gr.case('diameter', 3, table + [0] * g, p=g, limit=len(table), k=3, x=3, y=3, mode=QUIET, listed=True, name='%d gates' % g,
+            vary=[(2 + i, 2, F) for i in range(3) if kinds[i] == F] + [(5 + 2 * i, 3, 0) for i in range(6)] + [(len(table) + i, 2, 0) for i in range(g)])
+
+# a ring over all basins but basin 1, a flap, a two-way reach or a shut gate with all ends, and a gate with all ends, under every setting
+
+gr = group('how far: rings, with two more reaches of all ends', [])
+for order in ((3, 0, 2), (4, 0, 3, 2), (2, 5, 0, 4, 3)):
+    basins = len(order) + 1
+    table = table_bytes([(F, 0, 0), (G, 0, 0)] + [((G, F)[i % 2], v, w) for i, (v, w) in enumerate(zip(order, order[1:] + order[:1]))])
+    size, g = word(table, 0), 1 + basins // 2
+    ends = [(2 + size + 2 * i, basins, 0) for i in range(4)]
+    gr.case('diameter', basins, table + [0] * g, p=g, limit=len(table), k=size, x=size, y=size, mode=QUIET, listed=True, name='%d basins' % basins,
+            vary=[(2, 3, F)] + ends + [(len(table) + i, 2, 0) for i in range(g)])
+
+# the limits: one basin wet, or none; a path cut at every length; 1,024 gates
+
+table = table_bytes([(G, 200, 200)])
+gr = group('how far: 256 basins, a loop of each kind at basin 200', [])
+gr.case('diameter', 256, table + [0], limit=len(table), k=1, x=1, y=1, vary=[(2, 6, 0), ('p', 2, 0), (len(table), 2, 0)], listed=True)
+
+order = sorted(range(256), key=lambda v: NUMBERS.below(1 << 20))
+gr = group('how far: a path of two-way reaches over 256 basins, numbered by lot', [(T, v, w) for v, w in zip(order, order[1:])])
+assert [farthest(gr.reaches[:k], ()) for k in range(256)] == list(range(256))
+gr.case('diameter', 256, vary=[('k', 256, 0)])
+
+basins, reaches = example('limits')
+plan = network(reaches).next_plan()
+assert len(reaches) == 1024 and [i for i, way in enumerate(plan) if way] == [530, 603, 638, 691, 770, 835, 891, 904, 981]
+gr = group('how far: the example limits, under its first plan', reaches)
+gr.case('diameter', basins, plan, p=1024, vary=[(1023, 3, 0)])
+for reaches in (reaches, tuple(grid)):
+    plan = network(reaches).next_plan()
+    assert max(map(max, fewest_counts(network(reaches), plan))) == farthest(reaches, plan)
+
+
+# what was asked of small networks: each answer came often, and so did what tells it from others that are nearly right
+
+def depths(arcs, v, depth):
+    """The depths at which a depth-first search finds the basins."""
+    for a, b in arcs:
+        if a == v and b not in depth:
+            depth[b] = depth[v] + 1
+            depths(arcs, b, depth)
+    return depth
+
+
+def far_traits(basins, reaches, setting):
+    net, found = network(reaches), farthest(reaches, setting)
+    counts = fewest_counts(net, setting)
+    outward, inward = [max(row) for row in counts], [max(column) for column in zip(*counts)]
+    assert max(outward, default=0) == found < max(len(net.wet), 1) and (found == 0) == (len(net.wet) < 2)
+    if found == 0:
+        return ['longest 0', '%d wet' % len(net.wet)]
+    only = ['only %s the %s' % (way, place) for way, most in (('from', outward), ('to', inward))
+            for place, others in (('lowest', most[1:]), ('highest', most[:-1])) if max(others) < found]
+    arcs, opened = net.arcs(setting), [network(put_back(reaches, k)) for k in (F, T)]
+    return ['longest %d' % found] + only + ['not from the lowest'] * (outward[0] < found) + ['not to the lowest'] * (inward[0] < found) + \
+        ['deeper depth-first'] * any(max(depths(arcs, v, {v: 0}).values()) > found for v in net.wet) + ['below the last place'] * (found < len(net.wet) - 1) + \
+        ['as far as can be'] * (found == len(net.wet) - 1 > 1) + ['dry'] * (len(net.wet) < basins) + ['dry below'] * (net.wet[0] > 0) + \
+        ['for want of a shut reach'] * any(other.is_plan(setting) and longest_by_growth(other, setting) < found for other in opened) + \
+        ['loops'] * any(a == b for _, a, b in served(reaches)) + ['shut'] * (len(served(reaches)) < len(reaches))
+
+
+def came_far(least, *names):
+    return all(FAR[name] >= least for name in names)
+
+
+FAR = Counter(name for basins, reaches, setting in GAUGED if network(reaches).small for name in far_traits(basins, reaches, setting))
+assert len(GAUGED) >= 37000 and len(NO_PLANS) >= 146000 and len({asked[:2] for asked in GAUGED | NO_PLANS}) >= 27000
+assert UNFIT[1] >= 1700 and UNFIT[2] >= 12 and UNFIT[3] >= 1200 and UNFIT[8] >= 7000
+assert came_far(10000, 'longest 1', 'longest 2', 'dry', 'loops', 'shut', 'as far as can be') and came_far(5000, 'longest 3', 'longest 4')
+assert came_far(9000, 'not from the lowest', 'not to the lowest') and came_far(900, 'longest 5') and came_far(2500, 'longest 0', '1 wet') and came_far(25, '0 wet')
+assert came_far(1300, *('only %s the %s' % name for name in product(('from', 'to'), ('lowest', 'highest'))))
+assert came_far(2500, 'deeper depth-first', 'below the last place', 'dry below') and came_far(700, 'for want of a shut reach')
+
+
 def main():
-    here = os.path.dirname(os.path.abspath(__file__))
     tables, places = Family.all_tables(), []
     for g in GROUPS:
         places.append(g.place or (4 + len(tables)) // 4)
         tables += g.table
     cases = [x for g, place in zip(GROUPS, places) for x in g.bytes(place)]
     file = bytes(two(sum(len(g.cases) for g in GROUPS)) + two((4 + len(tables)) // 4) + tables + cases)
-    assert len(file) <= 430000          # the program reads no more
-    with open(os.path.join(here, 'stdin'), 'wb') as f:
+    assert len(file) <= 440000          # the program reads no more
+    with open(os.path.join(HERE, 'stdin'), 'wb') as f:
         f.write(file)
-    with open(os.path.join(here, 'stdout'), 'w') as f:
+    with open(os.path.join(HERE, 'stdout'), 'w') as f:
         f.write(''.join(x for g in GROUPS for x in g.expected))
 
 

@@ -3,6 +3,7 @@
 mod bounds;
 mod comparisons;
 mod contractions;
+mod diameters;
 mod files;
 mod plans;
 mod show;
@@ -41,6 +42,8 @@ const LIST_PLACED: u8 = 13;
 const CONTRACT: u8 = 14;
 
 const COMPARE: u8 = 15;
+
+const DIAMETER: u8 = 16;
 
 // A case's bytes: the call; the basin count; the lengths of the three rows; those of two buffers; that of the data; how often to go on; where the
 // table stands, in steps of four bytes; the data, which is the table where that stands nowhere.
@@ -114,6 +117,7 @@ fn play_on(o: Out, c: &[u8], kinds: &[u8], a: &[u16], b: &[u16]) -> Out {
         LIST_PLACED => files::list(o, ks, room, n),
         CONTRACT => contract(o, c, ks, xs, ys),
         COMPARE => comparisons::compare(o, c, ks, xs, ys, s),
+        DIAMETER => diameters::longest(o, c, ks, xs, ys, s),
         _ => write(o, c, ks, xs, ys, s),
     }
 }
@@ -239,7 +243,7 @@ fn play_cases(file: &[u8]) {
 }
 
 fn main() {
-    let mut cases = [0u8; 430000];
+    let mut cases = [0u8; 440000];
     let n = io::read_full(0, &mut cases);
     play_cases(&cases[..n]);
 }
