@@ -15,21 +15,21 @@ use Rattle.distances.specs.Distances.{unreached, fewest}
 use Rattle.distances.specs.Diameters.{greatest, farthest}
 use Rattle.distances.proofs.Diameters.{greatest-at, greatest-le, greatest-same}
 use Rattle.search.specs.Searches.{Noted}
-use Rattle.eccentricity.specs.Rows.{countAt}
+use Rattle.eccentricity.specs.Rows.{countAt, mostWith}
 
 -- ---- the larger of most and x, if the basin is wet
 
-pub most-kept : {r : ℕ} (wet : Bool) (most x : ℕ) → r ≡ most → x ≤ most → r ≡ cond wet (max most x) most
+pub most-kept : {r : ℕ} (wet : Bool) (most x : ℕ) → r ≡ most → x ≤ most → r ≡ mostWith wet most x
 most-kept true most x e l = omega arith
 most-kept false most x e l = e
 
-pub most-picked : {r z : ℕ} {is wet : Bool} (most x : ℕ) → r ≡ cond is z most → is ≡ wet → z ≡ x → most ≤ x → r ≡ cond wet (max most x) most
+pub most-picked : {r z : ℕ} {is wet : Bool} (most x : ℕ) → r ≡ cond is z most → is ≡ wet → z ≡ x → most ≤ x → r ≡ mostWith wet most x
 most-picked {wet = wet} most x q e f l = q ∙ ap₂ (λ (b : Bool) (y : ℕ). cond b y most) e (omega arith)
 
-pub most-larger : {r wet : Bool} {z : ℕ} (most x : ℕ) → r ≡ wet → r ≡ true → z ≡ max most x → z ≡ cond wet (max most x) most
+pub most-larger : {r wet : Bool} {z : ℕ} (most x : ℕ) → r ≡ wet → r ≡ true → z ≡ max most x → z ≡ mostWith wet most x
 most-larger most x e y q = rw (sym e ∙ y) q
 
-pub most-dry : {r wet : Bool} {z : ℕ} (most x : ℕ) → r ≡ wet → r ≡ false → z ≡ most → z ≡ cond wet (max most x) most
+pub most-dry : {r wet : Bool} {z : ℕ} (most x : ℕ) → r ≡ wet → r ≡ false → z ≡ most → z ≡ mostWith wet most x
 most-dry most x e y q = rw (sym e ∙ y) q
 
 -- ---- one basin after the other
@@ -44,7 +44,7 @@ module _ (N : Network) (f : ℕ → ℕ) where
   most-none = record { bound = λ u l w. absurd (omega arith); shown = inl refl }
 
   -- one basin more
-  pub most-more : {r : ℕ} (v most : ℕ) → Most N f v most → r ≡ cond (isWet N v) (max most (f v)) most → Most N f (v + 1) r
+  pub most-more : {r : ℕ} (v most : ℕ) → Most N f v most → r ≡ mostWith (isWet N v) most (f v) → Most N f (v + 1) r
   most-more v most m e = rw e (go (isWet N v) refl (decLt most (f v)))
     where
       earlier : (k : ℕ) → most ≤ k → (isWet N v ≡ true → f v ≤ k) → (u : ℕ) → u < v + 1 → isWet N u ≡ true → Dec (u ≡ v) → f u ≤ k
@@ -54,7 +54,7 @@ module _ (N : Network) (f : ℕ → ℕ) where
       kept : (most ≡ 0) ⊎ ((u : ℕ) × (u < v + 1) × (isWet N u ≡ true) × (f u ≡ most))
       kept = ⊎-elim (λ z. inl z) (λ u. inr (u .0, omega (arith, u .1), u .2, u .3)) (m .shown)
 
-      go : (wet : Bool) → isWet N v ≡ wet → Dec (most < f v) → Most N f (v + 1) (cond wet (max most (f v)) most)
+      go : (wet : Bool) → isWet N v ≡ wet → Dec (most < f v) → Most N f (v + 1) (mostWith wet most (f v))
       go false w d = record { bound = λ u b y. earlier most (omega arith) (λ t. clash t w) u b y (ℕ-discrete u v); shown = kept }
       go true w (yes d) =
           let is : max most (f v) ≡ f v = omega arith in

@@ -3,14 +3,14 @@
 ghost use mathlib.Core.Path.{_≡_};
 ghost use mathlib.Core.Bool.{cond};
 ghost use Prim.Native.Nat.{_≤_, _<_, max};
-ghost use lib.ListN.{length, getD};
+ghost use lib.ListN.{length};
 ghost use Rattle.network.specs.Networks.{basinsOf, isWet};
 ghost use Rattle.distances.specs.Diameters.{greatest, farthest};
 ghost use Rattle.half_edges.specs.Ends.{arcsOf};
 ghost use Rattle.tables.specs.Rows.{netOf};
 ghost use Rattle.basins.specs.Wet.{Tabled};
 ghost use Rattle.orienting.specs.Ready.{Ready};
-ghost use Rattle.eccentricity.specs.Rows.{countAt};
+ghost use Rattle.eccentricity.specs.Rows.{countAt, mostWith};
 use distances::UNREACHED;
 
 // The first number if so asked, else the second.
@@ -35,7 +35,7 @@ fn count_in(
     requires { ⌜ Tabled n (now kinds) (now a) (now b) (now head) (now next) ⌝ }
     requires { ⌜ n ≤ length (now seen) ⌝ }
     requires { ⌜ v < n ⌝ }
-    ensures { λ r. ⌜ r ≡ cond (isWet (netOf n (now (kinds .entry)) (now (a .entry)) (now (b .entry))) v) (max most (getD (now (seen .entry)) v 0)) most ⌝ }
+    ensures { λ r. ⌜ r ≡ mostWith (isWet (netOf n (now (kinds .entry)) (now (a .entry)) (now (b .entry))) v) most (countAt (now (seen .entry)) v) ⌝ }
 {
     let count = seen[v];
     if count <= most {
@@ -115,8 +115,8 @@ fn longest_in(
     requires { ⌜ Ready n (now a) (now b) (now ways) (now head) (now next) (now seen) (now queue) ⌝ }
     requires { ⌜ length (now kinds) ≡ length (now a) ⌝ }
     requires { ⌜ v < n ⌝ }
-    ensures { λ r. ⌜ r ≡ cond (isWet (netOf n (now (kinds .entry)) (now (a .entry)) (now (b .entry))) v)
-        (max most (farthest (basinsOf (netOf n (now (kinds .entry)) (now (a .entry)) (now (b .entry)))) (arcsOf (now (a .entry)) (now (b .entry)) (now (ways .entry))) v)) most ⌝ }
+    ensures { λ r. ⌜ r ≡ mostWith (isWet (netOf n (now (kinds .entry)) (now (a .entry)) (now (b .entry))) v) most
+        (farthest (basinsOf (netOf n (now (kinds .entry)) (now (a .entry)) (now (b .entry)))) (arcsOf (now (a .entry)) (now (b .entry)) (now (ways .entry))) v) ⌝ }
 {
     if !basins::is_wet(n, kinds, a, b, head, next, v) {
         return most;
