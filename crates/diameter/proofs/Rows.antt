@@ -3,7 +3,7 @@
 use Prim.Native.Nat.{ℕ}
 use mathlib.Core.Path.{_≡_, sym, ap, _∙_}
 use mathlib.Core.List.{List}
-use Rattle.network.specs.Networks.{Network, basinsOf}
+use Rattle.network.specs.Networks.{basinsOf}
 use Rattle.network.specs.Orientations.{Arc}
 use Rattle.half_edges.specs.Ends.{arcsOf}
 use Rattle.tables.specs.Rows.{netOf, waysRow}

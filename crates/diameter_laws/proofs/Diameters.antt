@@ -12,7 +12,7 @@ use Rattle.network.specs.Settings.{isSetting, settingFault}
 use Rattle.network.specs.Plans.{stronglyConnectedUnder, isPlan}
 use Rattle.network.specs.Replies.{firstOf, checkFault}
 use Rattle.distances.specs.declared.DiameterAnswer.{DiameterAnswer}
-use Rattle.distances.specs.Diameters.{diameter, DiameterShown}
+use Rattle.distances.specs.Diameters.{diameter}
 use Rattle.distances.specs.Answers.{longestUnless, diameterOf, DiameterCall}
 use Rattle.distances.proofs.Diameters.{diameter-shown}
 use Rattle.replies.specs.declared.CheckAnswer.{CheckAnswer}

@@ -1,23 +1,21 @@
 -- What the call answers: a refusal of the table or of the setting, or by the diameter; and what an answer shows.
 -- Assumes nothing.
 use Prim.Native.Nat.{ℕ}
-use mathlib.Core.Path.{_≡_, refl, sym, ap, subst, _∙_}
+use mathlib.Core.Path.{_≡_, refl, sym, ap, _∙_}
 use mathlib.Core.Bool.{Bool, true, false, cond, _&&_}
 use mathlib.Core.Option.{Option, none, some, Option·some-injective, Option·none-ne-some}
 use mathlib.Core.List.{List}
-use lib.Dec.{ltb}
 use Rattle.network.specs.declared.Refusal.{Refusal}
 use Rattle.network.specs.declared.Refusal.the-variants.{BadSetting}
 use Rattle.network.specs.Networks.{Network, tableFault, Accepted}
 use Rattle.network.specs.Settings.{isSetting, settingFault}
 use Rattle.network.specs.Plans.{stronglyConnectedUnder, isPlan}
-use Rattle.network.specs.Replies.{firstOf, checkFault, planFault, refusalNumber, faultNumber}
+use Rattle.network.specs.Replies.{firstOf, checkFault, faultNumber}
 use Rattle.distances.specs.declared.DiameterAnswer.{DiameterAnswer}
 use Rattle.distances.specs.declared.DiameterAnswer.the-variants.{Refused, Longest}
-use Rattle.distances.specs.Distances.{unreached}
-use Rattle.distances.specs.Diameters.{diameter, DiameterShown}
+use Rattle.distances.specs.Diameters.{diameter}
 use Rattle.distances.specs.Answers.{diameterFault, longestUnless, longestOr8, diameterOf, diameterNumber, DiameterCall}
-use Rattle.distances.proofs.Diameters.{diameter-exactly, diameter-shown}
+use Rattle.distances.proofs.Diameters.{diameter-exactly}
 
 -- the answer has its number
 number-called : (o : Option Refusal) (d : ℕ) → diameterNumber (longestUnless o d) ≡ faultNumber o

@@ -1,22 +1,22 @@
 -- The longest of the fewest counts: 65,535 exactly if the setting is no plan; and what holds of it under a plan.
 -- Assumes nothing.
-use Prim.Native.Nat.{ℕ, zero, suc, max, _≤_, _<_}
+use Prim.Native.Nat.{ℕ, zero, _≤_, _<_}
 use native.Mathlib.Omega.{arith}
 use native.Mathlib.Decide.{decLt}
 use mathlib.Core.Path.{_≡_, refl, sym, ap, ap₂, _∙_}
-use mathlib.Core.Bool.{Bool, true, false, _&&_}
+use mathlib.Core.Bool.{true, false}
 use mathlib.Core.Logic.{⊎-elim}
-use mathlib.Core.List.{List, [], _∷_, List·Memᴰ, List·Memᴰ·head, List·Memᴰ·tail, List·Memᴰ·not-nil}
+use mathlib.Core.List.{List, [], _∷_, List·Memᴰ, List·Memᴰ·head, List·Memᴰ·tail}
 use lib.ListN.{length}
 use lib.Dec.{ltb}
 use borrow.Author.Tests.{lt-ltb, le-ltb}
 use mathlib.Mathlib.Data.Bool.Basic.{and-elim-right}
-use Rattle.lists.proofs.Bools.{decide, clash}
+use Rattle.lists.proofs.Bools.{decide}
 use Rattle.lists.proofs.Searches.{every-at, every-fails}
-use Rattle.network.specs.Networks.{Network, basinsOf, maxBasins, Accepted}
+use Rattle.network.specs.Networks.{Network, basinsOf, Accepted}
 use Rattle.network.specs.Settings.{isSetting}
 use Rattle.network.specs.Orientations.{Arc, arc, ways, arcsUnder, reached}
-use Rattle.network.specs.Plans.{reachesAll, stronglyConnected, stronglyConnectedUnder, isPlan}
+use Rattle.network.specs.Plans.{reachesAll, stronglyConnectedUnder, isPlan}
 use Rattle.network.specs.Services.{serviceNet}
 use Rattle.network.specs.Enlarged.{enlarged}
 use Rattle.network.proofs.Services.{service-basins, service-arcs}
@@ -38,7 +38,7 @@ module _ (f : ℕ → ℕ) where
   greatest-le [] k h = omega arith
   greatest-le (x ∷ l) k h = omega (arith, h x (List·Memᴰ·head refl), greatest-le l k (λ y m. h y (List·Memᴰ·tail m)))
 
-  pub greatest-some : (l : List ℕ) → 0 < length l → (x : ℕ) × List·Memᴰ x l × (f x ≡ greatest f l)
+  greatest-some : (l : List ℕ) → 0 < length l → (x : ℕ) × List·Memᴰ x l × (f x ≡ greatest f l)
   greatest-some [] h = absurd (omega arith)
   greatest-some (x ∷ []) h = (x, List·Memᴰ·head refl, omega arith)
   greatest-some (x ∷ y ∷ l) h = go (decLt (f x) (greatest f (y ∷ l))) (greatest-some (y ∷ l) (omega arith))
@@ -65,12 +65,12 @@ module _ (N : Network) (s : List ℕ) where
   wet = basinsOf N
 
   -- no pair has more
-  pub pair-most : (u v : ℕ) → List·Memᴰ u wet → List·Memᴰ v wet → fewest A u v ≤ diameter N s
+  pair-most : (u v : ℕ) → List·Memᴰ u wet → List·Memᴰ v wet → fewest A u v ≤ diameter N s
   unfolding diameter
   pair-most u v mu mv = omega (arith, greatest-at (fewest A u) wet mv, greatest-at (farthest wet A) wet mu)
 
   -- some pair has it
-  pub pair-some : 0 < length wet → PairAt N s (diameter N s)
+  pair-some : 0 < length wet → PairAt N s (diameter N s)
   unfolding diameter
   pair-some h =
       let u = greatest-some (farthest wet A) wet h in
@@ -78,7 +78,7 @@ module _ (N : Network) (s : List ℕ) where
       record { from = u .0; to = v .0; from-wet = u .1; to-wet = v .1; apart = v .2 ∙ u .2 }
 
   -- never more than 65,535
-  pub diameter-most : diameter N s ≤ unreached
+  diameter-most : diameter N s ≤ unreached
   unfolding diameter
   diameter-most = greatest-le (farthest wet A) wet unreached (λ u m. farthest-most wet A u)
 
@@ -92,7 +92,7 @@ module _ (N : Network) (s : List ℕ) where
       go (x ∷ l) e = absurd (omega arith)
 
   -- a pair that is not reached
-  pub diameter-open : stronglyConnectedUnder N s ≡ false → diameter N s ≡ unreached
+  diameter-open : stronglyConnectedUnder N s ≡ false → diameter N s ≡ unreached
   unfolding stronglyConnectedUnder
   diameter-open n =
       let u = every-fails (reachesAll wet A) wet n in
@@ -104,12 +104,12 @@ module _ (N : Network) (s : List ℕ) where
     leads : (a b : ℕ) → List·Memᴰ (arc a b) A → List·Memᴰ b wet
     leads a b m = arcs-in-basins N ok (ways (N .reaches) s) (shut-out (N .reaches) s) a b m .1
 
-    pub pair-below : stronglyConnectedUnder N s ≡ true → (u v : ℕ) → List·Memᴰ u wet → List·Memᴰ v wet → fewest A u v < length wet
+    pair-below : stronglyConnectedUnder N s ≡ true → (u v : ℕ) → List·Memᴰ u wet → List·Memᴰ v wet → fewest A u v < length wet
     unfolding stronglyConnectedUnder
     pair-below e u v mu mv = fewest-below A wet leads u v mu (every-at (reached A u) (every-at (reachesAll wet A) e mu) mv)
 
     -- "where there is any, always below the number of wet basins"
-    pub diameter-below : stronglyConnectedUnder N s ≡ true → 0 < length wet → diameter N s < length wet
+    diameter-below : stronglyConnectedUnder N s ≡ true → 0 < length wet → diameter N s < length wet
     diameter-below e h = let p = pair-some h in omega (arith, p .apart, pair-below e (p .from) (p .to) (p .from-wet) (p .to-wet))
 
     -- 65,535 exactly if it is no plan

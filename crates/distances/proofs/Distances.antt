@@ -1,6 +1,6 @@
 -- The laws of `fewest`: a walk of that many arcs exists and none is shorter, the triangle rule, and a count below 65,535 exactly if reached.
 -- Assumes nothing.
-use Prim.Native.Nat.{ℕ, zero, suc, _+_, min, _≤_, _<_}
+use Prim.Native.Nat.{ℕ, _+_, _≤_, _<_}
 use native.Mathlib.Omega.{arith}
 use native.Mathlib.Decide.{decLt, decLe, ℕ-discrete}
 use mathlib.Core.Path.{_≡_, refl, subst, _∙_}
@@ -18,11 +18,11 @@ use Rattle.distances.specs.Distances.{unreached, WalkOf, none-crossed, c
 
 -- ---- walks whose arcs are counted
 
-pub walk-of-trans : {A : List Arc} {j k u v w : ℕ} → WalkOf A j u v → WalkOf A k v w → WalkOf A (j + k) u w
+walk-of-trans : {A : List Arc} {j k u v w : ℕ} → WalkOf A j u v → WalkOf A k v w → WalkOf A (j + k) u w
 walk-of-trans {A} {k} {u} {w} none-crossed q = subst (λ (n : ℕ). WalkOf A n u w) (omega arith) q
 walk-of-trans {A} {k} {u} {w} (crossing {k = j} m p) q = subst (λ (n : ℕ). WalkOf A n u w) (omega arith) (crossing m (walk-of-trans p q))
 
-pub walk-of-within : {A B : List Arc} {k u v : ℕ} → Within A B → WalkOf A k u v → WalkOf B k u v
+walk-of-within : {A B : List Arc} {k u v : ℕ} → Within A B → WalkOf A k u v → WalkOf B k u v
 walk-of-within h none-crossed = none-crossed
 walk-of-within h (crossing {u = a} {v = b} m p) = crossing (h (arc a b) m) (walk-of-within h p)
 
@@ -31,7 +31,7 @@ pub walk-of-more : {A : List Arc} {k u v w : ℕ} → WalkOf A k u v → List·M
 walk-of-more p m = walk-of-trans p (crossing m none-crossed)
 
 -- the arcs not counted
-pub walk-of-walk : {A : List Arc} {k u v : ℕ} → WalkOf A k u v → Walk A u v
+walk-of-walk : {A : List Arc} {k u v : ℕ} → WalkOf A k u v → Walk A u v
 walk-of-walk none-crossed = stay
 walk-of-walk (crossing m p) = step m (walk-of-walk p)
 
@@ -71,7 +71,7 @@ fewest-arc (arc a b ∷ A) u v m =
     (λ t. omega (arith, fewest-arc A u v t))
     (List·Memᴰ·cases-cons m)
 
-pub fewest-step : (A : List Arc) (u v w : ℕ) → List·Memᴰ (arc v w) A → fewest A u w ≤ fewest A u v + 1
+fewest-step : (A : List Arc) (u v w : ℕ) → List·Memᴰ (arc v w) A → fewest A u w ≤ fewest A u v + 1
 fewest-step A u v w m = omega (arith, triangle A u v w, fewest-arc A v w m)
 
 -- no walk is shorter
@@ -134,14 +134,3 @@ fewest-unreached A u v n = go (decLt (fewest A u v) unreached)
     go : Dec (fewest A u v < unreached) → fewest A u v ≡ unreached
     go (yes l) = clash (walk-reached (walk-of-walk (fewest-walk A u v l))) n
     go (no l) = omega (arith, fewest-most A u v)
-
--- the counts hang on which arcs there are, not on their order or number
-pub fewest-same : (A B : List Arc) (u v : ℕ) → Within A B → Within B A → fewest A u v ≡ fewest B u v
-fewest-same A B u v f g = omega (arith, at-most A B f, at-most B A g)
-  where
-    at-most : (A B : List Arc) → Within A B → fewest B u v ≤ fewest A u v
-    at-most A B h = go (decLt (fewest A u v) unreached)
-      where
-        go : Dec (fewest A u v < unreached) → fewest B u v ≤ fewest A u v
-        go (yes l) = fewest-least (walk-of-within h (fewest-walk A u v l))
-        go (no l) = omega (arith, fewest-most B u v)

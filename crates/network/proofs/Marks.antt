@@ -27,13 +27,9 @@ digits-lt : (xs : List Bool) → digits xs < 2 ^ length xs
 digits-lt [] = omega arith
 digits-lt (x ∷ xs) = rw pow-suc (omega (arith, bit-lt x, digits-lt xs))
 
-pub bit-is : (x : Bool) → eqb (bit x) 1 ≡ x
+bit-is : (x : Bool) → eqb (bit x) 1 ≡ x
 bit-is true = refl
 bit-is false = refl
-
-pub bit-0 : (x : Bool) → bit x ≡ 0 → x ≡ false
-bit-0 true e = absurd (omega arith)
-bit-0 false e = refl
 
 bit-of-zero : (j : ℕ) → bitAt j 0 ≡ false
 bit-of-zero zero = refl

@@ -18,7 +18,7 @@ use Rattle.lists.proofs.Bools.{clash}
 use Rattle.lists.proofs.Ranges.{length-range, range-has}
 use Rattle.lists.proofs.Searches.{attained-below}
 use Rattle.distances.specs.Distances.{unreached, WalkOf, none-crossed, crossing, fewest, noted}
-use Rattle.distances.proofs.Distances.{walk-of-more, walk-of-walk, fewest-most, fewest-least, fewest-walk, counted-exactly}
+use Rattle.distances.proofs.Distances.{walk-of-more, fewest-most, fewest-least, fewest-walk, counted-exactly}
 use Rattle.network.proofs.Walks.{walk-trans, walk-arc, walk-reached, reached-walk}
 use Rattle.half_edges.specs.Ends.{Next}
 use Rattle.search.specs.Searches.{Seen, Unseen, Visited, first, again, Grown, stay as none-more, more, Scanned, Noted, Meets, meeting, apart}

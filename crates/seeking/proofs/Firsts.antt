@@ -1,6 +1,6 @@
 -- The first plan and the findings, from what the searches found.
 -- Assumes nothing.
-use Prim.Native.Nat.{ℕ, zero, suc, _≤_, _<_}
+use Prim.Native.Nat.{ℕ, _≤_, _<_}
 use native.Mathlib.Omega.{arith}
 use native.Mathlib.Decide.{decLt}
 use mathlib.Core.Path.{_≡_, refl, sym, ap, subst, _∙_}
@@ -15,7 +15,7 @@ use Rattle.lists.specs.Lists.{range, find, keep, elem}
 use Rattle.network.specs.Networks.{Network, isWet, basinsOf, lowestBasin, Accepted}
 use Rattle.network.specs.Orientations.{Arc, ways, arcs, arcsUnder, reached, unoriented}
 use Rattle.network.specs.Plans.{reachesAll, stronglyConnected, stronglyConnectedUnder, isPlan, passable}
-use Rattle.network.specs.Bridges.{reachAt, crossesAlone, isBridge, lowestBridge}
+use Rattle.network.specs.Bridges.{crossesAlone, isBridge, lowestBridge}
 use Rattle.network.specs.Marks.{marksOf}
 use Rattle.network.specs.Settings.{gateCount}
 use Rattle.network.specs.Replies.{shutInBasin, shutInSide, bridgeSide, answer, firstAnswer}
@@ -24,9 +24,9 @@ use Rattle.lists.proofs.Searches.{every-at, every-make, find-is, find-lowest, k
 use Rattle.lists.proofs.Ranges.{range-in}
 use Rattle.network.proofs.Marks.{marks-same}
 use Rattle.network.proofs.Walks.{reached-walk}
-use Rattle.network.proofs.Ways.{gated-in-service, shut-out}
-use Rattle.network.proofs.Networks.{basin-in, basin-below, basin-wet, basins-kept, basins-found, end-a-in, lowest-in, walk-in-basins}
-use Rattle.network.proofs.Bridges.{Alone, LoneSide, alone-facts, alone-rest, alone-same, side-basins, cut-unique, bridge-below, bridge-gated, bridge-blocks, bridge-side}
+use Rattle.network.proofs.Ways.{shut-out}
+use Rattle.network.proofs.Networks.{basin-in, basin-below, basin-wet, basins-kept, basins-found, walk-in-basins}
+use Rattle.network.proofs.Bridges.{Alone, LoneSide, alone-facts, alone-rest, alone-same, side-basins, cut-unique, bridge-below, bridge-blocks, bridge-side}
 use Rattle.tables.proofs.Laws.{ways-unoriented}
 use Rattle.marks.specs.Sets.{markedSet}
 use Rattle.distances.specs.Distances.{unreached, noted}
