@@ -15,6 +15,7 @@ use Rattle.half_edges.specs.Chains.{Index, Table}
 abbrev pub Seen : List ℕ → ℕ → Type 0
 Seen seen v = getD seen v 0 < unreached
 
+-- It is not seen where that is 65,535.
 abbrev pub Unseen : List ℕ → ℕ → Type 0
 Unseen seen v = unreached ≤ getD seen v 0
 
