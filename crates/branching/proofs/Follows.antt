@@ -16,8 +16,8 @@ use Rattle.network.proofs.Ways.{length-ways}
 use Rattle.tables.specs.Rows.{netOf}
 use Rattle.tables.proofs.Laws.{row-length}
 use Rattle.orientations.specs.Least.{isTried}
-use Rattle.orientations.specs.Partials.{StronglyConnected, NotStronglyConnected, Tries, Under, upTo, StronglyConnectedBelow, NoPart}
-use Rattle.orientations.proofs.Parts.{up-length, up-all, up-more, up-plain, up-again, up-either, byte-under}
+use Rattle.orientations.specs.Partials.{StronglyConnected, NotStronglyConnected, Tries, Begun, Under, upTo, StronglyConnectedBelow, NoPart}
+use Rattle.orientations.proofs.Parts.{up-length, up-all, up-more, up-plain, up-again, up-either, byte-under, open-up}
 use Rattle.orienting.specs.Tries.{leftOut, ledRound, Tried}
 use Rattle.orienting.proofs.Readies.{tried-same, tried-led, tried-lost}
 use Rattle.orienting.proofs.Rows.{row-below, row-way}
@@ -125,6 +125,12 @@ module _ (n : ℕ) (ks xs ys : List ℕ) (ea : length xs ≡ length ks) (eb : le
             go : Dec (j ≡ i) → NoPart N fs us j
             go (yes d) = subst⁻¹ (λ (v : ℕ). NoPart N fs us v) d f
             go (no d) = w .none j (omega arith) q
+
+        -- with reach i usable either way the ways are a partial orientation up to it
+        pub back-begun : isTried fs i ≡ true → Begun N fs (set ws i 2) i
+        back-begun t =
+            subst⁻¹ (λ (v : List ℕ). Begun N fs v i) (again 2 ∙ up-either N (u .setting) us (u .is) fs tries i below t)
+            (open-up N (u .setting) us (u .is) fs tries (u .fits) i (omega (arith, below)) (all i k))
 
         -- one reach less
         pub back-on : {ws′ : List ℕ} {r : Bool} → PartedAt fs xs ys us ws i ws′ r → r ≡ false → Back N fs us to ws′ i

@@ -8,6 +8,7 @@ use lib.ListN.{length, getD, set}
 use Rattle.network.specs.Networks.{Network, Accepted}
 use Rattle.tables.specs.Rows.{netOf}
 use Rattle.orientations.specs.Least.{isTried}
+use Rattle.series.specs.Guides.{Guides}
 use Rattle.orientations.specs.Partials.{StronglyConnected, NotStronglyConnected, Tries, Under, upTo, StronglyConnectedBelow, NoPart}
 
 -- An accepted table, with a kind for each reach, the gates that are tried, and the ways us under a setting; ws are these up to reach i.
@@ -32,5 +33,5 @@ pub data TurnedBack (N : Network) (fs us : List ℕ) (to : ℕ) : List ℕ → �
   nowhere : {ws : List ℕ} {r : ℕ} → r ≡ length (N .reaches) → ((j : ℕ) → j < to → NoPart N fs us j) → TurnedBack N fs us to ws r
 
 -- So it is in the table of all kinds ks of which fs tries gates, if everything reaches everything up to each reach below `to`.
-pub record TurnedBackFrom (n : ℕ) (fs xs ys us ws : List ℕ) (to : ℕ) (ws′ : List ℕ) (r : ℕ) : Type 0 where
-  pub from : (ks : List ℕ) → Following n ks fs xs ys us ws to → StronglyConnectedBelow (netOf n ks xs ys) fs us to → TurnedBack (netOf n ks xs ys) fs us to ws′ r
+pub record TurnedBackFrom (n : ℕ) (guide fs xs ys us ws : List ℕ) (to : ℕ) (ws′ : List ℕ) (r : ℕ) : Type 0 where
+  pub from : (ks : List ℕ) → Following n ks fs xs ys us ws to → StronglyConnectedBelow (netOf n ks xs ys) fs us to → Guides (netOf n ks xs ys) guide → TurnedBack (netOf n ks xs ys) fs us to ws′ r

@@ -44,6 +44,7 @@ pub fn follow(
 // leaves in seen and in the queue is free.
 pub fn turn_back(
     n: usize,
+    guide: &[u16],
     tried: &[u8],
     a: &[u16],
     b: &[u16],
@@ -59,12 +60,25 @@ pub fn turn_back(
     requires { ⌜ length (now tried) ≡ length (now a) ⌝ }
     requires { ⌜ length (now under) ≡ length (now a) ⌝ }
     requires { ⌜ to ≤ length (now a) ⌝ }
-    ensures { λ r. ⌜ TurnedBackFrom n (now (tried .entry)) (now (a .entry)) (now (b .entry)) (now (under .entry)) (now (ways .entry)) to (now (ways .exit)) r ⌝ }
+    ensures { λ r. ⌜ TurnedBackFrom n (now (guide .entry)) (now (tried .entry)) (now (a .entry)) (now (b .entry)) (now (under .entry)) (now (ways .entry)) to (now (ways .exit)) r ⌝ }
 {
     let mut i = to;
     while i > 0 {
         i -= 1;
-        if parting::part_at(n, tried, a, b, under, ways, head, next, i, seen, queue) {
+        if parting::part_at(
+            n,
+            guide,
+            tried,
+            a,
+            b,
+            under,
+            ways,
+            head,
+            next,
+            i,
+            seen,
+            queue,
+        ) {
             return i;
         }
     }

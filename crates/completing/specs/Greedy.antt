@@ -14,6 +14,7 @@ use Rattle.tables.specs.Bytes.{bytesOf}
 use Rattle.tables.specs.Rows.{netOf}
 use Rattle.orientations.specs.Least.{LeastPlan}
 use Rattle.orientations.specs.Partials.{Begun, Bridgeless}
+use Rattle.series.specs.Guides.{Guides}
 
 -- An accepted table, with a kind for each reach, of which the gates below i are decided and the others that fs tries are not.
 pub record Completable (n : ℕ) (ks fs xs ys ws : List ℕ) (i : ℕ) : Type 0 where
@@ -34,6 +35,6 @@ pub record Completed (N : Network) (ws ws′ : List ℕ) : Type 0 where
   pub least : LeastPlan N ws (bytesOf (N .reaches) ws′)
   pub oriented : ws′ ≡ ways (N .reaches) (bytesOf (N .reaches) ws′)
 
--- It leaves so the table of all kinds ks of which fs tries gates.
-pub record CompletedFrom (n : ℕ) (fs xs ys ws : List ℕ) (i : ℕ) (ws′ : List ℕ) : Type 0 where
-  pub from : (ks : List ℕ) → Completable n ks fs xs ys ws i → Bridgeless (netOf n ks xs ys) → Completed (netOf n ks xs ys) ws ws′
+-- It leaves so the table of all kinds ks of which fs tries gates and the row of guides is true.
+pub record CompletedFrom (n : ℕ) (guide fs xs ys ws : List ℕ) (i : ℕ) (ws′ : List ℕ) : Type 0 where
+  pub from : (ks : List ℕ) → Completable n ks fs xs ys ws i → Bridgeless (netOf n ks xs ys) → Guides (netOf n ks xs ys) guide → Completed (netOf n ks xs ys) ws ws′

@@ -40,6 +40,7 @@ pub fn greedy(
 // already is not tried if `tried` has another kind in its place. What it leaves in seen and in the queue is free.
 pub fn complete(
     n: usize,
+    guide: &[u16],
     tried: &[u8],
     a: &[u16],
     b: &[u16],
@@ -53,11 +54,11 @@ pub fn complete(
     requires { ⌜ Ready n (now a) (now b) (now ways) (now head) (now next) (now seen) (now queue) ⌝ }
     requires { ⌜ length (now tried) ≡ length (now a) ⌝ }
     requires { ⌜ from ≤ length (now a) ⌝ }
-    ensures { λ _. ⌜ CompletedFrom n (now (tried .entry)) (now (a .entry)) (now (b .entry)) (now (ways .entry)) from (now (ways .exit)) ⌝ }
+    ensures { λ _. ⌜ CompletedFrom n (now (guide .entry)) (now (tried .entry)) (now (a .entry)) (now (b .entry)) (now (ways .entry)) from (now (ways .exit)) ⌝ }
 {
     let mut i = from;
     while i < a.len() {
-        deciding::settle(n, tried, a, b, ways, head, next, i, seen, queue);
+        deciding::settle(n, guide, tried, a, b, ways, head, next, i, seen, queue);
         i += 1;
     }
 }

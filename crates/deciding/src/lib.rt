@@ -2,7 +2,7 @@
 // These functions are for the planner; what they require it has checked.
 ghost use mathlib.Core.Path.{_≡_};
 ghost use Rattle.orienting.specs.Ready.{AtReach};
-ghost use Rattle.deciding.specs.Gates.{OrientedGate, Settled};
+ghost use Rattle.deciding.specs.Gates.{OrientedGate, SettledFrom};
 
 // Orients reach i, if it is a gate, as drawn where that loses nothing, else turned where that does not. Says whether it could; if not, seen holds
 // what its end A leads to without it, and the ways are free. What else it leaves in seen, and the queue, is free.
@@ -39,6 +39,7 @@ pub fn orient_gate(
 // leaves in seen and in the queue is free.
 pub fn settle(
     n: usize,
+    guide: &[u16],
     kinds: &[u8],
     a: &[u16],
     b: &[u16],
@@ -50,12 +51,12 @@ pub fn settle(
     queue: &mut [u16],
 )
     requires { ⌜ AtReach n (now kinds) (now a) (now b) (now ways) (now head) (now next) i (now seen) (now queue) ⌝ }
-    ensures { λ _. ⌜ Settled (now (kinds .entry)) (now (a .entry)) (now (b .entry)) (now (ways .entry)) i (now (ways .exit)) ⌝ }
+    ensures { λ _. ⌜ SettledFrom n (now (guide .entry)) (now (kinds .entry)) (now (a .entry)) (now (b .entry)) (now (ways .entry)) i (now (ways .exit)) ⌝ }
 {
     if kinds[i] != 0 {
         return;
     }
-    let drawn = orienting::try_way(n, a, b, ways, head, next, i, 0, seen, queue);
+    let drawn = series_way::try_guided(n, guide, a, b, ways, head, next, i, 0, seen, queue);
     if drawn {
         return;
     }

@@ -28,7 +28,8 @@ use Rattle.skipping.specs.Skips.{BindsStill}
 use Rattle.stepping.specs.Advances.{gatesBefore, PartsAt, Advanced, moved, at-last}
 use Rattle.priming.specs.Priming.{Spare, Primed}
 use Rattle.stepping.proofs.Rewrites.{gates-split}
-use Rattle.priming.proofs.Priming.{spare-ways, spare-ready}
+use Rattle.priming.proofs.Priming.{spare-ways, spare-index, spare-ready}
+use Rattle.series_channels.specs.Channels.{FindableIf}
 use Rattle.lines.specs.declared.Due.{Due}
 use Rattle.lines.specs.declared.Due.the-variants as D
 use Rattle.listing_state.specs.declared.Lister.{Lister}
@@ -181,3 +182,12 @@ primed-kept {n} {ks} {fs} {xs} {ys} {s} {us} {ws} {ws₀} {head} {head₀} {next
         kept y (spare-ready v z e (p .indexed y) (omega (arith, seen-long, accepted (netOf n ks xs ys) (v .accepted) .few-basins)) (omega (arith, seen-long, queue-long)))
         (ap length whole ∙ sym (v .ends-a)) f
         (stands d (record { at-plan = p .at-plan y; binds = subst⁻¹ (λ (w : List ℕ). Binds (netOf n ks xs ys) w ws) whole (plan-binds n ks xs ys (p .at-plan y)) }))
+
+-- and with it the table is indexed, so that channels can be looked for
+pub primed-findable : {n : ℕ} {ks xs ys s ws ws₀ head head₀ next next₀ guide : List ℕ} {r : Bool} → Spare ks ws₀ head₀ next₀ → length ws₀ ≤ length guide → Primed n ks xs ys s ws head next r
+    → FindableIf n ks xs ys head next guide r
+primed-findable {head₀ = head₀} {next₀ = next₀} z e p =
+    record {
+      tabled = λ y. record { table = spare-index (p .at-plan y .level) z {head′ = head₀} {next′ = next₀} refl refl .table; kinds-full = sym (p .at-plan y .level .ends-a); index = p .indexed y };
+      row-room = λ y. omega (arith, e, spare-ways (p .at-plan y .level) z, p .at-plan y .level .ends-a);
+    }

@@ -17,6 +17,7 @@ use listing_state::Lister;
 use network::MAX_BASINS;
 use network::MAX_REACHES;
 use priming::prime;
+use series_channels::find_if;
 use stepping::copy_row;
 use tables::gates_held;
 use tables::least;
@@ -26,6 +27,7 @@ ghost use lib.ListN.{length, take, drop};
 ghost use Rattle.network.specs.Networks.{maxReaches};
 ghost use Rattle.finder.specs.Rooms.{Space};
 ghost use Rattle.lines.specs.Puts.{Put};
+ghost use Rattle.series_channels.specs.Channels.{Guiding};
 ghost use Rattle.listing.specs.Keeping.{Kept};
 ghost use Rattle.listing_state.specs.Pending.{lineOf, stateNet, Filling};
 ghost use Rattle.tables.specs.Rows.{gatesHeld};
@@ -63,6 +65,7 @@ fn line_after(
     g: usize,
     standing: bool,
     known: usize,
+    guide: &[u16],
     kinds: &[u8],
     a: &[u16],
     b: &[u16],
@@ -77,6 +80,7 @@ fn line_after(
     requires { ⌜ g ≡ gatesHeld (stateNet l (now kinds) (now a) (now b)) ⌝ }
     requires { ⌜ Kept (l .basins) (now kinds) (now tried) (now a) (now b) (Due.Plan left) (take g (l .setting)) (now under) (now ways) (now head) (now next)
         (now seen) (now queue) standing ⌝ }
+    requires { ⌜ Guiding (now kinds) (now a) (now b) (now guide) ⌝ }
     ensures { λ r. ⌜ LineAfter (stateNet l (now (kinds .entry)) (now (a .entry)) (now (b .entry))) l left (r .lister) ⌝ }
     ensures { λ r. ⌜ Kept (l .basins) (now (kinds .entry)) (now (tried .exit)) (now (a .entry)) (now (b .entry)) (r .lister .due) (take g (r .lister .setting))
         (now (under .exit)) (now (ways .exit)) (now (head .entry)) (now (next .entry)) (now (seen .exit)) (now (queue .exit)) standing ⌝ }
@@ -84,9 +88,10 @@ fn line_after(
     if standing {
         let basins = l.basins;
         let n = basins as usize;
-        let r = stepping::advance(n, tried, a, b, under, ways, head, next, seen, queue);
+        let r = stepping::advance(n, guide, tried, a, b, under, ways, head, next, seen, queue);
         let noted = skipping::note_bound(
             n,
+            guide,
             kinds,
             a,
             b,
@@ -117,6 +122,7 @@ fn turned(
     g: usize,
     standing: bool,
     known: usize,
+    guide: &[u16],
     kinds: &[u8],
     a: &[u16],
     b: &[u16],
@@ -131,6 +137,7 @@ fn turned(
     requires { ⌜ g ≡ gatesHeld (stateNet l (now kinds) (now a) (now b)) ⌝ }
     requires { ⌜ Kept (l .basins) (now kinds) (now tried) (now a) (now b) (l .due) (take g (l .setting)) (now under) (now ways) (now head) (now next)
         (now seen) (now queue) standing ⌝ }
+    requires { ⌜ Guiding (now kinds) (now a) (now b) (now guide) ⌝ }
     ensures { λ r. ⌜ Turned (stateNet l (now (kinds .entry)) (now (a .entry)) (now (b .entry))) l (r .lister) ⌝ }
     ensures { λ r. ⌜ Kept (l .basins) (now (kinds .entry)) (now (tried .exit)) (now (a .entry)) (now (b .entry)) (r .lister .due) (take g (r .lister .setting))
         (now (under .exit)) (now (ways .exit)) (now (head .entry)) (now (next .entry)) (now (seen .exit)) (now (queue .exit)) standing ⌝ }
@@ -146,6 +153,7 @@ fn turned(
                 g,
                 standing,
                 known,
+                guide,
                 kinds,
                 a,
                 b,
@@ -169,6 +177,7 @@ fn print_lines(
     l: Lister,
     g: usize,
     standing: bool,
+    guide: &[u16],
     kinds: &[u8],
     a: &[u16],
     b: &[u16],
@@ -184,6 +193,7 @@ fn print_lines(
     requires { ⌜ g ≡ gatesHeld (stateNet l (now kinds) (now a) (now b)) ⌝ }
     requires { ⌜ Kept (l .basins) (now kinds) (now tried) (now a) (now b) (l .due) (take g (l .setting)) (now under) (now ways) (now head) (now next)
         (now seen) (now queue) standing ⌝ }
+    requires { ⌜ Guiding (now kinds) (now a) (now b) (now guide) ⌝ }
     ensures { λ r. ⌜ Filling l (now (kinds .entry)) (now (a .entry)) (now (b .entry)) (now (out .entry)) (now (out .exit)) r ⌝ }
 {
     let mut state = l;
@@ -195,6 +205,7 @@ fn print_lines(
             g,
             standing,
             known,
+            guide,
             kinds,
             a,
             b,
@@ -231,6 +242,7 @@ fn fill_in(
     a: &[u16],
     b: &[u16],
     out: &mut [u8],
+    guide: &mut [u16],
     tried: &mut [u8],
     under: &mut [u8],
     ways: &mut [u8],
@@ -240,6 +252,7 @@ fn fill_in(
     queue: &mut [u16; MAX_BASINS],
 ) -> Filled
     requires { ⌜ Space (now ways) (now head) (now next) (now seen) (now queue) ⌝ }
+    requires { ⌜ length (now guide) ≡ maxReaches ⌝ }
     requires { ⌜ length (now tried) ≡ maxReaches ⌝ }
     requires { ⌜ length (now under) ≡ maxReaches ⌝ }
     ensures { λ r. ⌜ Filling l (now (kinds .entry)) (now (a .entry)) (now (b .entry)) (now (out .entry)) (now (out .exit)) r ⌝ }
@@ -252,10 +265,12 @@ fn fill_in(
     let standing = prime(basins, kinds, a, b, &setting[..g], oriented, head, next);
     let all = &mut tried[..m];
     copy_row(&kinds[..m], all);
+    let k = find_if(standing, basins, kinds, a, b, head, next, guide);
     print_lines(
         l,
         g,
         standing,
+        &guide[..k],
         kinds,
         a,
         b,
@@ -274,6 +289,7 @@ fn fill_in(
 pub fn fill(l: Lister, kinds: &[u8], a: &[u16], b: &[u16], out: &mut [u8]) -> Filled
     ensures { λ r. ⌜ Filling l (now (kinds .entry)) (now (a .entry)) (now (b .entry)) (now (out .entry)) (now (out .exit)) r ⌝ }
 {
+    let mut guide = [0u16; MAX_REACHES];
     let mut tried = [0u8; MAX_REACHES];
     let mut under = [0u8; MAX_REACHES];
     let mut ways = [0u8; MAX_REACHES];
@@ -287,6 +303,7 @@ pub fn fill(l: Lister, kinds: &[u8], a: &[u16], b: &[u16], out: &mut [u8]) -> Fi
         a,
         b,
         out,
+        &mut guide,
         &mut tried,
         &mut under,
         &mut ways,

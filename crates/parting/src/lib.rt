@@ -3,7 +3,7 @@
 ghost use mathlib.Core.Path.{_≡_};
 ghost use lib.ListN.{length};
 ghost use Rattle.orienting.specs.Ready.{AtReach};
-ghost use Rattle.parting.specs.Parts.{OrientedAs, PartedAt};
+ghost use Rattle.parting.specs.Parts.{OrientedAs, PartedAtFrom};
 
 // Orients reach i, if it is a gate, as `under` has it where that loses nothing; otherwise it is usable either way. Says whether it could. What it leaves
 // in seen and in the queue is free.
@@ -34,6 +34,7 @@ pub fn orient_as(
 // it leaves in seen and in the queue is free.
 pub fn part_at(
     n: usize,
+    guide: &[u16],
     kinds: &[u8],
     a: &[u16],
     b: &[u16],
@@ -47,7 +48,7 @@ pub fn part_at(
 ) -> bool
     requires { ⌜ AtReach n (now kinds) (now a) (now b) (now ways) (now head) (now next) i (now seen) (now queue) ⌝ }
     requires { ⌜ length (now under) ≡ length (now a) ⌝ }
-    ensures { λ r. ⌜ PartedAt (now (kinds .entry)) (now (a .entry)) (now (b .entry)) (now (under .entry)) (now (ways .entry)) i (now (ways .exit)) r ⌝ }
+    ensures { λ r. ⌜ PartedAtFrom n (now (guide .entry)) (now (kinds .entry)) (now (a .entry)) (now (b .entry)) (now (under .entry)) (now (ways .entry)) i (now (ways .exit)) r ⌝ }
 {
     if kinds[i] != 0 {
         return false;
@@ -56,5 +57,5 @@ pub fn part_at(
         ways[i] = 2;
         return false;
     }
-    orienting::try_way(n, a, b, ways, head, next, i, 1, seen, queue)
+    series_way::try_guided(n, guide, a, b, ways, head, next, i, 1, seen, queue)
 }

@@ -13,6 +13,7 @@ use Rattle.network.specs.Bridges.{reachAt}
 use Rattle.tables.specs.Rows.{netOf, waysRow}
 use Rattle.orientations.specs.Least.{NoneFrom}
 use Rattle.orientations.specs.Partials.{Under, Binds, upTo, StronglyConnectedBelow, NoPart}
+use Rattle.series.specs.Guides.{Guides}
 use Rattle.completing.specs.Greedy.{Completed}
 use Rattle.seeking.specs.declared.Sought.{Sought}
 use Rattle.seeking.specs.Levels.{Level}
@@ -46,8 +47,8 @@ pub data StepTaken (N : Network) (fs us : List ℕ) (to : ℕ) : List ℕ → �
   no-step : {ws : List ℕ} {r : ℕ} → r ≡ length (N .reaches) → ((j : ℕ) → j < to → NoPart N fs us j) → StepTaken N fs us to ws r
 
 -- So it is in the table of all kinds ks of which fs tries gates.
-pub record StepFrom (n : ℕ) (fs xs ys us ws : List ℕ) (to : ℕ) (ws′ : List ℕ) (r : ℕ) : Type 0 where
-  pub from : (ks : List ℕ) → Partable n ks fs xs ys us ws to → StepTaken (netOf n ks xs ys) fs us to ws′ r
+pub record StepFrom (n : ℕ) (guide fs xs ys us ws : List ℕ) (to : ℕ) (ws′ : List ℕ) (r : ℕ) : Type 0 where
+  pub from : (ks : List ℕ) → Partable n ks fs xs ys us ws to → Guides (netOf n ks xs ys) guide → StepTaken (netOf n ks xs ys) fs us to ws′ r
 
 -- The ways us are those under the plan s.
 pub record AtPlan (n : ℕ) (ks xs ys s us : List ℕ) : Type 0 where

@@ -78,6 +78,7 @@ pub fn first_from(
 // tried if `tried` has another kind in its place: it keeps the way that it has.
 pub fn step(
     n: usize,
+    guide: &[u16],
     tried: &[u8],
     a: &[u16],
     b: &[u16],
@@ -93,11 +94,24 @@ pub fn step(
     requires { ⌜ length (now tried) ≡ length (now a) ⌝ }
     requires { ⌜ length (now under) ≡ length (now a) ⌝ }
     requires { ⌜ to ≤ length (now a) ⌝ }
-    ensures { λ r. ⌜ StepFrom n (now (tried .entry)) (now (a .entry)) (now (b .entry)) (now (under .entry)) (now (ways .entry)) to (now (ways .exit)) r ⌝ }
+    ensures { λ r. ⌜ StepFrom n (now (guide .entry)) (now (tried .entry)) (now (a .entry)) (now (b .entry)) (now (under .entry)) (now (ways .entry)) to (now (ways .exit)) r ⌝ }
 {
-    let at = branching::turn_back(n, tried, a, b, under, ways, head, next, to, seen, queue);
+    let at = branching::turn_back(
+        n,
+        guide,
+        tried,
+        a,
+        b,
+        under,
+        ways,
+        head,
+        next,
+        to,
+        seen,
+        queue,
+    );
     if at < a.len() {
-        completing::complete(n, tried, a, b, ways, head, next, at + 1, seen, queue);
+        completing::complete(n, guide, tried, a, b, ways, head, next, at + 1, seen, queue);
         return at;
     }
     at
@@ -122,7 +136,20 @@ pub fn part_from(
     ensures { λ r. ⌜ NextFrom (netOf n (now (kinds .entry)) (now (a .entry)) (now (b .entry))) (now (under .entry)) to
         (now (ways .exit)) (now (seen .exit)) r ⌝ }
 {
-    let at = step(n, kinds, a, b, under, ways, head, next, to, seen, queue);
+    let at = step(
+        n,
+        &[],
+        kinds,
+        a,
+        b,
+        under,
+        ways,
+        head,
+        next,
+        to,
+        seen,
+        queue,
+    );
     if at < a.len() {
         Sought::CameTo(Found::Oriented)
     } else {

@@ -1,6 +1,7 @@
 // Gates that need no trying from plan to plan: those that are bound in the whole network (document 02, item 2). They are looked for only where a step went back
 // over many gates, and each of them once.
 // These functions are for the crates above, which have checked what they require.
+use series_way::UNGUIDED;
 ghost use mathlib.Core.Path.{_≡_};
 ghost use Prim.Native.Nat.{_≤_, _<_};
 ghost use lib.ListN.{length};
@@ -10,10 +11,19 @@ ghost use Rattle.skipping.specs.Skips.{NotedAt, NotedFrom, BindsStill};
 // The fewest reaches for which it pays to look which of them are bound. No promise rests on it.
 const WORTH: usize = 32;
 
+// Whether another reach guides reach i: it is then tried without a search, and need not be looked at. No promise rests on it.
+fn is_guided(guide: &[u16], i: usize) -> bool {
+    if i >= guide.len() {
+        return false;
+    }
+    guide[i] < UNGUIDED
+}
+
 // Tries reach i no more if it is a gate that is bound, being hung in the way by a plan. No gate is oriented in the ways `loose`. What it leaves in seen and in
 // the queue is free.
 fn note_at(
     n: usize,
+    guide: &[u16],
     a: &[u16],
     b: &[u16],
     tried: &mut [u8],
@@ -36,6 +46,9 @@ fn note_at(
     if way > 1 {
         return;
     }
+    if is_guided(guide, i) {
+        return;
+    }
     if binding::bound_at(n, a, b, loose, head, next, i, way, seen, queue) {
         tried[i] = 1;
     }
@@ -44,6 +57,7 @@ fn note_at(
 // The same of all reaches from one to another, which `ways` has as a plan hangs them.
 fn note_from(
     n: usize,
+    guide: &[u16],
     a: &[u16],
     b: &[u16],
     tried: &mut [u8],
@@ -64,7 +78,20 @@ fn note_from(
 {
     let mut i = from;
     while i < to {
-        note_at(n, a, b, tried, loose, head, next, i, ways[i], seen, queue);
+        note_at(
+            n,
+            guide,
+            a,
+            b,
+            tried,
+            loose,
+            head,
+            next,
+            i,
+            ways[i],
+            seen,
+            queue,
+        );
         i += 1;
     }
 }
@@ -73,6 +100,7 @@ fn note_from(
 // looked at yet; those from reach `to` on were. Returns the first that is looked at now. What it leaves in `loose`, in seen and in the queue is free.
 pub fn note_bound(
     n: usize,
+    guide: &[u16],
     kinds: &[u8],
     a: &[u16],
     b: &[u16],
@@ -102,6 +130,7 @@ pub fn note_bound(
     let end = tables::least(to, a.len());
     note_from(
         n,
+        guide,
         a,
         b,
         tried,

@@ -13,6 +13,7 @@ use Rattle.network.specs.Plans.{isPlan}
 use Rattle.network.specs.Replies.{plan, refused, nextAnswer}
 use Rattle.tables.specs.Rows.{netOf, gatesIn, waysRow, bytesRow}
 use Rattle.orientations.specs.Partials.{Binds}
+use Rattle.series.specs.Guides.{Guides}
 use Rattle.seeking.specs.Seeks.{AtPlan}
 
 -- The number of gated reaches before reach r, by their kinds: the place of a gate's byte in a setting.
@@ -35,5 +36,5 @@ pub data Advanced (N : Network) (ks s : List ℕ) : List ℕ → ℕ → Type 0 
 
 -- A step from the ways us, which are those of one plan, to the next of it: so it is in the table of all kinds ks of which fs tries gates, where what fs
 -- does not try has one way in all plans.
-pub record AdvancedFrom (n : ℕ) (fs xs ys us ws′ : List ℕ) (r : ℕ) : Type 0 where
-  pub from : (ks s : List ℕ) → AtPlan n ks xs ys s us → Binds (netOf n ks xs ys) fs us → Advanced (netOf n ks xs ys) ks s ws′ r
+pub record AdvancedFrom (n : ℕ) (guide fs xs ys us ws′ : List ℕ) (r : ℕ) : Type 0 where
+  pub from : (ks s : List ℕ) → AtPlan n ks xs ys s us → Binds (netOf n ks xs ys) fs us → Guides (netOf n ks xs ys) guide → Advanced (netOf n ks xs ys) ks s ws′ r

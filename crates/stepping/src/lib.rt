@@ -23,6 +23,7 @@ pub fn copy_row(from: &[u8], to: &mut [u8])
 // leaves in `under`, in seen and in the queue is free.
 pub fn advance(
     n: usize,
+    guide: &[u16],
     tried: &[u8],
     a: &[u16],
     b: &[u16],
@@ -36,11 +37,24 @@ pub fn advance(
     requires { ⌜ Ready n (now a) (now b) (now ways) (now head) (now next) (now seen) (now queue) ⌝ }
     requires { ⌜ length (now tried) ≡ length (now a) ⌝ }
     requires { ⌜ length (now under) ≡ length (now ways) ⌝ }
-    ensures { λ r. ⌜ AdvancedFrom n (now (tried .entry)) (now (a .entry)) (now (b .entry)) (now (ways .entry)) (now (ways .exit)) r ⌝ }
+    ensures { λ r. ⌜ AdvancedFrom n (now (guide .entry)) (now (tried .entry)) (now (a .entry)) (now (b .entry)) (now (ways .entry)) (now (ways .exit)) r ⌝ }
 {
     copy_row(ways, under);
     let m = a.len();
-    seeking::step(n, tried, a, b, under, ways, head, next, m, seen, queue)
+    seeking::step(
+        n,
+        guide,
+        tried,
+        a,
+        b,
+        under,
+        ways,
+        head,
+        next,
+        m,
+        seen,
+        queue,
+    )
 }
 
 // Puts the bytes of the gates from reach r on into a plan in which those of the gates before it stand. The reaches have g gates.

@@ -11,25 +11,27 @@ use Rattle.orientations.specs.Partials.{Bridgeless}
 use Rattle.orienting.specs.Ready.{Ready}
 use Rattle.completing.specs.Greedy.{Completable}
 use Rattle.orientations.proofs.Goings.{Going, starts}
-use Rattle.completing.proofs.Goings.{going-settled, going-complete}
+use Rattle.completing.proofs.Goings.{begun-either, going-settled, going-complete}
+use Rattle.series.specs.Guides.{Guides}
+use Rattle.orienting.proofs.Rows.{row-below}
 use Rattle.orienting.proofs.Readies.{ready-ways, ready-notes}
 use Rattle.completing.proofs.complete.Statement.{statement}
 use Rattle.completing.proofs.complete.Tie as tie
 
 abbrev Inv-loop : tie.InvT-loop
-Inv-loop n tried a b ways₀ head next from seen₀ queue₀ i₀ ways seen queue i =
+Inv-loop n guide tried a b ways₀ head next from seen₀ queue₀ i₀ ways seen queue i =
     (i ≤ length a) × Ready n a b ways head next seen queue
-    × ((ks : List ℕ) → Completable n ks tried a b ways₀ from → Bridgeless (netOf n ks a b) → Going (netOf n ks a b) tried ways₀ from ways i)
+    × ((ks : List ℕ) → Completable n ks tried a b ways₀ from → Bridgeless (netOf n ks a b) → Guides (netOf n ks a b) guide → Going (netOf n ks a b) tried ways₀ from ways i)
     × (length ways ≡ length ways₀) × (length seen ≡ length seen₀) × (length queue ≡ length queue₀)
 
 abbrev μ-loop : tie.MeasureT-loop
-μ-loop n tried a b ways₀ head next from seen₀ queue₀ i₀ ways seen queue i = length a - i
+μ-loop n guide tried a b ways₀ head next from seen₀ queue₀ i₀ ways seen queue i = length a - i
 
 loop-holds : tie.Need-loop-holds Inv-loop μ-loop
-loop-holds c = let s = c .before .before .before .before .before .before .before .before in (s .pre .1 .1, s .pre .0, (λ ks p b. starts (p .begun)), refl, refl, refl)
+loop-holds c = let s = c .before .before .before .before .before .before .before .before .before in (s .pre .1 .1, s .pre .0, (λ ks p b d. starts (p .begun)), refl, refl, refl)
 
 settle-requires : tie.Need-settle-requires Inv-loop μ-loop
-settle-requires c κs = let l = (c .before .before .before .before) .loop .inv in record { ready = l .1; kinds-full = (c .before .before .before .before .before .before .before .before .before .before .before .before .before) .pre .1 .0; below = (c .before .before .before) .loop-test .taken }
+settle-requires c κs = let l = (c .before .before .before .before) .loop .inv in record { ready = l .1; kinds-full = (c .before .before .before .before .before .before .before .before .before .before .before .before .before .before) .pre .1 .0; below = (c .before .before .before) .loop-test .taken }
 
 add-i : tie.Need-add-i Inv-loop μ-loop
 add-i c = omega arith
@@ -39,18 +41,25 @@ loop-less c = omega arith
 
 loop-again : tie.Need-loop-again Inv-loop μ-loop
 loop-again c =
-    let s = c .before .before .before .before .before .before .before .before .before .before .before .before .before .before .before .before .before .before .before .before in
+    let s = c .before .before .before .before .before .before .before .before .before .before .before .before .before .before .before .before .before .before .before .before .before in
     let l = (c .before .before .before .before .before .before .before .before .before .before .before) .loop in
     let t = (c .before .before .before .before .before .before) .settle in
     let k = t .kept in (
       omega (arith, (c .before .before .before .before .before .before .before .before .before .before) .loop-test .taken),
-      ready-notes _ _ (ready-ways _ (l .inv .1) (k .1 .1 .1 .1 .0)) (k .1 .1 .1 .1 .1 .1 .1 .1 .0) (k .1 .1 .1 .1 .1 .1 .1 .1 .1 .0),
-      (λ ks p b. rw add-one
+      ready-notes _ _ (ready-ways _ (l .inv .1) (k .1 .1 .1 .1 .1 .0)) (k .1 .1 .1 .1 .1 .1 .1 .1 .1 .0) (k .1 .1 .1 .1 .1 .1 .1 .1 .1 .1 .0),
+      (λ ks p b d. rw add-one
           (going-settled (s .args .n) ks (s .args .a .now) (s .args .b .now) (sym (p .kinds-full)) (s .pre .0 .table .paired ∙ sym (p .kinds-full)) (p .accepted) (s .args .tried .now)
-          (s .args .ways .now) (s .args .from) (l .ways) (l .i) (omega (arith, (c .before .before .before .before .before .before .before .before .before .before) .loop-test .taken, p .kinds-full)) (l .inv .2 ks p b) (b (l .i)) (t .ensures))),
-      k .1 .1 .1 .1 .0 ∙ l .inv .3,
-      k .1 .1 .1 .1 .1 .1 .1 .1 .0 ∙ l .inv .4,
-      k .1 .1 .1 .1 .1 .1 .1 .1 .1 .0 ∙ l .inv .5,
+          (s .args .ways .now) (s .args .from) (l .ways) (l .i) (omega (arith, (c .before .before .before .before .before .before .before .before .before .before) .loop-test .taken, p .kinds-full)) (l .inv .2 ks p b d) (b (l .i)) (t .ensures .from ks (record {
+            kinds-full = p .kinds-full;
+            accepted = p .accepted;
+            guides = d;
+            begun = begun-either (netOf (s .args .n) ks (s .args .a .now) (s .args .b .now)) (s .args .tried .now) (l .ways) (l .i)
+                (row-below (s .args .n) ks (s .args .a .now) (s .args .b .now) (sym (p .kinds-full)) (s .pre .0 .table .paired ∙ sym (p .kinds-full)) (l .i) (omega (arith, (c .before .before .before .before .before .before .before .before .before .before) .loop-test .taken, p .kinds-full)))
+                (l .inv .2 ks p b d .begun);
+          })))),
+      k .1 .1 .1 .1 .1 .0 ∙ l .inv .3,
+      k .1 .1 .1 .1 .1 .1 .1 .1 .1 .0 ∙ l .inv .4,
+      k .1 .1 .1 .1 .1 .1 .1 .1 .1 .1 .0 ∙ l .inv .5,
     )
 
 same-length : tie.Need-same-length Inv-loop μ-loop
@@ -64,11 +73,11 @@ same-length-3 c = (c .before) .loop .inv .5
 
 returns : tie.Need-returns Inv-loop μ-loop
 returns c =
-    let s = c .before .before .before .before .before .before .before .before .before .before in
+    let s = c .before .before .before .before .before .before .before .before .before .before .before in
     let l = (c .before) .loop in
     record {
-      from = λ ks p b. going-complete (s .args .n) ks (s .args .a .now) (s .args .b .now) (sym (p .kinds-full)) (s .pre .0 .table .paired ∙ sym (p .kinds-full)) (s .args .tried .now)
-          (s .args .ways .now) (s .args .from) (l .ways) (l .i) (omega (arith, l .inv .0, c .loop-test .left, p .kinds-full)) (l .inv .2 ks p b);
+      from = λ ks p b d. going-complete (s .args .n) ks (s .args .a .now) (s .args .b .now) (sym (p .kinds-full)) (s .pre .0 .table .paired ∙ sym (p .kinds-full)) (s .args .tried .now)
+          (s .args .ways .now) (s .args .from) (l .ways) (l .i) (omega (arith, l .inv .0, c .loop-test .left, p .kinds-full)) (l .inv .2 ks p b d);
     }
 
 pub complete-spec : {M : Type 1} → statement M

@@ -13,12 +13,12 @@ use Rattle.listing.proofs.print_lines.Statement.{statement}
 use Rattle.listing.proofs.print_lines.Tie as tie
 
 abbrev Inv-loop : tie.InvT-loop
-Inv-loop g standing kinds a b out₀ tried₀ under₀ ways₀ head next seen₀ queue₀ state₀ known₀ n₀ out tried under ways seen queue state known n =
+Inv-loop g standing guide kinds a b out₀ tried₀ under₀ ways₀ head next seen₀ queue₀ state₀ known₀ n₀ out tried under ways seen queue state known n =
     Printing state₀ kinds a b out₀ out state n × Kept (state₀ .basins) kinds tried a b (state .due) (take g (state .setting)) under ways head next seen queue standing
     × (length tried ≡ length tried₀) × (length under ≡ length under₀) × (length ways ≡ length ways₀)
 
 abbrev μ-loop : tie.MeasureT-loop
-μ-loop g standing kinds a b out₀ tried₀ under₀ ways₀ head next seen₀ queue₀ state₀ known₀ n₀ out tried under ways seen queue state known n = length out₀ - n
+μ-loop g standing guide kinds a b out₀ tried₀ under₀ ways₀ head next seen₀ queue₀ state₀ known₀ n₀ out tried under ways seen queue state known n = length out₀ - n
 
 -- where a line was put: the call before it, the loop and the start
 abbrev turned-at : tie.After-put-line Inv-loop μ-loop → tie.After-turned Inv-loop μ-loop
@@ -28,24 +28,27 @@ abbrev loop-at : tie.After-put-line Inv-loop μ-loop → tie.At-loop Inv-loop μ
 loop-at e = e .before .before .before .before .before .before .before .before .before .before .before .before .before .before .before .before
 
 abbrev start : tie.After-put-line Inv-loop μ-loop → tie.Start Inv-loop μ-loop
-start e = e .before .before .before .before .before .before .before .before .before .before .before .before .before .before .before .before .before .before .before .before .before .before .before .before
+start e = e .before .before .before .before .before .before .before .before .before .before .before .before .before .before .before .before .before .before .before .before .before .before .before .before .before
 
 -- the state that is turned to
 turn :
-    (c : tie.After-turned Inv-loop μ-loop) → let s = c .before .before .before .before .before .before .before .before .before .before .before .before .before .before .before .args in
+    (c : tie.After-turned Inv-loop μ-loop) → let s = c .before .before .before .before .before .before .before .before .before .before .before .before .before .before .before .before .args in
     Printing (s .l) (s .kinds .now) (s .a .now) (s .b .now) (s .out .now) (c .before .before .before .before .before .before .before .loop .out) (c .turned .result .lister) (c .before .before .before .before .before .before .before .loop .n)
 turn c = print-turn _ _ _ _ _ _ _ _ (c .before .before .before .before .before .before .before .loop .inv .0) (c .turned .ensures .0)
 
 loop-holds : tie.Need-loop-holds Inv-loop μ-loop
-loop-holds c = (print-none _ _ _ _ _, c .before .before .before .before .before .before .before .pre .1, refl, refl, refl)
+loop-holds c = (print-none _ _ _ _ _, c .before .before .before .before .before .before .before .before .pre .1 .0, refl, refl, refl)
 
 turned-requires : tie.Need-turned-requires Inv-loop μ-loop
 turned-requires c κs =
-    let s = c .before .before .before .before .before .before .before .before .before .before .before .before .before .before in
+    let s = c .before .before .before .before .before .before .before .before .before .before .before .before .before .before .before in
     let l = c .before .before .before .before .before .before .loop in (
       s .pre .0 ∙ sym (ap gatesHeld (same-net _ _ _ _ _ _ _ _ (l .inv .0))),
-      subst⁻¹ (λ (m : ℕ). Kept m (s .args .kinds .now) (l .tried) (s .args .a .now) (s .args .b .now) (l .state .due) (take (s .args .g) (l .state .setting)) (l .under) (l .ways) (s .args .head .now) (s .args .next .now) (l .seen) (l .queue) (s .args .standing))
-          (l .inv .0 .basins-kept) (l .inv .1),
+      (
+        subst⁻¹ (λ (m : ℕ). Kept m (s .args .kinds .now) (l .tried) (s .args .a .now) (s .args .b .now) (l .state .due) (take (s .args .g) (l .state .setting)) (l .under) (l .ways) (s .args .head .now) (s .args .next .now) (l .seen) (l .queue) (s .args .standing))
+            (l .inv .0 .basins-kept) (l .inv .1),
+        s .pre .1 .1,
+      ),
     )
 
 sub-put-line : tie.Need-sub-put-line Inv-loop μ-loop
@@ -58,7 +61,7 @@ part-put-line-end : tie.Need-part-put-line-end Inv-loop μ-loop
 part-put-line-end c = omega (arith, c .before .before .before .before .before .before .before .before .before .before .before .before .before .loop-test .taken)
 
 put-line-requires : tie.Need-put-line-requires Inv-loop μ-loop
-put-line-requires c κs = omega (arith, c .before .before .before .before .before .before .before .before .before .before .before .before .before .before .before .before .before .before .before .before .before .before .before .pre .0)
+put-line-requires c κs = omega (arith, c .before .before .before .before .before .before .before .before .before .before .before .before .before .before .before .before .before .before .before .before .before .before .before .before .pre .0)
 
 same-length : tie.Need-same-length Inv-loop μ-loop
 same-length c =
@@ -66,13 +69,13 @@ same-length c =
     copied-length (print-laid _ _ _ _ _ _ _ _ (turn (turned-at e)) (start e .pre .0) (e .put-line .ensures))
 
 same-length-2 : tie.Need-same-length-2 Inv-loop μ-loop
-same-length-2 c = let e = c .before .before .before in turned-at e .turned .kept .1 .1 .1 .1 .1 .1 .1 .0 ∙ loop-at e .loop .inv .2
+same-length-2 c = let e = c .before .before .before in turned-at e .turned .kept .1 .1 .1 .1 .1 .1 .1 .1 .0 ∙ loop-at e .loop .inv .2
 
 same-length-3 : tie.Need-same-length-3 Inv-loop μ-loop
-same-length-3 c = let e = c .before .before .before in turned-at e .turned .kept .1 .1 .1 .1 .1 .1 .1 .1 .0 ∙ loop-at e .loop .inv .3
+same-length-3 c = let e = c .before .before .before in turned-at e .turned .kept .1 .1 .1 .1 .1 .1 .1 .1 .1 .0 ∙ loop-at e .loop .inv .3
 
 same-length-4 : tie.Need-same-length-4 Inv-loop μ-loop
-same-length-4 c = let e = c .before .before .before in turned-at e .turned .kept .1 .1 .1 .1 .1 .1 .1 .1 .1 .0 ∙ loop-at e .loop .inv .4
+same-length-4 c = let e = c .before .before .before in turned-at e .turned .kept .1 .1 .1 .1 .1 .1 .1 .1 .1 .1 .0 ∙ loop-at e .loop .inv .4
 
 returns : tie.Need-returns Inv-loop μ-loop
 returns c =
@@ -90,7 +93,7 @@ add-state c =
 add-n : tie.Need-add-n Inv-loop μ-loop
 add-n c =
     let e = c .before .before .before .before in
-    omega (arith, start e .good .1 .1 .1 .1 .1 .1 .0, print-laid _ _ _ _ _ _ _ _ (turn (turned-at e)) (start e .pre .0) (e .put-line .ensures) .room)
+    omega (arith, start e .good .1 .1 .1 .1 .1 .1 .1 .0, print-laid _ _ _ _ _ _ _ _ (turn (turned-at e)) (start e .pre .0) (e .put-line .ensures) .room)
 
 loop-less : tie.Need-loop-less Inv-loop μ-loop
 loop-less c =
@@ -104,10 +107,10 @@ loop-again c =
     let o = loop-at e .loop in
     let t = turned-at e .turned in (
       print-more _ _ _ _ _ _ _ _ (turn (turned-at e)) (s .pre .0) (e .put-line .ensures),
-      subst (λ (m : ℕ). Kept m (s .args .kinds .now) (t .last .1 .1 .1 .1 .1 .1 .1 .0) (s .args .a .now) (s .args .b .now) (t .result .lister .due) (take (s .args .g) (t .result .lister .setting)) (t .last .1 .1 .1 .1 .1 .1 .1 .1 .0) (t .last .1 .1 .1 .1 .1 .1 .1 .1 .1 .0) (s .args .head .now) (s .args .next .now) (t .last .1 .1 .1 .1 .1 .1 .1 .1 .1 .1 .1 .1 .0) (t .last .1 .1 .1 .1 .1 .1 .1 .1 .1 .1 .1 .1 .1 .0) (s .args .standing)) (o .inv .0 .basins-kept) (t .ensures .1),
-      t .kept .1 .1 .1 .1 .1 .1 .1 .0 ∙ o .inv .2,
-      t .kept .1 .1 .1 .1 .1 .1 .1 .1 .0 ∙ o .inv .3,
-      t .kept .1 .1 .1 .1 .1 .1 .1 .1 .1 .0 ∙ o .inv .4,
+      subst (λ (m : ℕ). Kept m (s .args .kinds .now) (t .last .1 .1 .1 .1 .1 .1 .1 .1 .0) (s .args .a .now) (s .args .b .now) (t .result .lister .due) (take (s .args .g) (t .result .lister .setting)) (t .last .1 .1 .1 .1 .1 .1 .1 .1 .1 .0) (t .last .1 .1 .1 .1 .1 .1 .1 .1 .1 .1 .0) (s .args .head .now) (s .args .next .now) (t .last .1 .1 .1 .1 .1 .1 .1 .1 .1 .1 .1 .1 .1 .0) (t .last .1 .1 .1 .1 .1 .1 .1 .1 .1 .1 .1 .1 .1 .1 .0) (s .args .standing)) (o .inv .0 .basins-kept) (t .ensures .1),
+      t .kept .1 .1 .1 .1 .1 .1 .1 .1 .0 ∙ o .inv .2,
+      t .kept .1 .1 .1 .1 .1 .1 .1 .1 .1 .0 ∙ o .inv .3,
+      t .kept .1 .1 .1 .1 .1 .1 .1 .1 .1 .1 .0 ∙ o .inv .4,
     )
 
 same-length-5 : tie.Need-same-length-5 Inv-loop μ-loop

@@ -21,10 +21,13 @@ plan-length-requires c κs = search needs
 
 line-after-requires : tie.Need-line-after-requires
 line-after-requires c κs =
-    let s = c .before .before .before .before .before .before .before .before .before .before .before .before .before .before .before .before .before in (
+    let s = c .before .before .before .before .before .before .before .before .before .before .before .before .before .before .before .before .before .before in (
       s .pre .0,
-      subst (λ (d : Due). Kept (s .args .l .basins) (s .args .kinds .now) (s .args .tried .now) (s .args .a .now) (s .args .b .now) d (take (s .args .g) (s .args .l .setting)) (s .args .under .now) (s .args .ways .now) (s .args .head .now) (s .args .next .now) (s .args .seen .now) (s .args .queue .now) (s .args .standing))
-          (c .before .before .before .before .before .before .before .before .before .due .given .1) (s .pre .1),
+      (
+        subst (λ (d : Due). Kept (s .args .l .basins) (s .args .kinds .now) (s .args .tried .now) (s .args .a .now) (s .args .b .now) d (take (s .args .g) (s .args .l .setting)) (s .args .under .now) (s .args .ways .now) (s .args .head .now) (s .args .next .now) (s .args .seen .now) (s .args .queue .now) (s .args .standing))
+            (c .before .before .before .before .before .before .before .before .before .due .given .1) (s .pre .1 .0),
+        s .pre .1 .1,
+      ),
     )
 
 enum-told : tie.Need-enum-told
@@ -38,21 +41,21 @@ enum-told-3 c = search needs
 
 returns : tie.Need-returns
 returns c =
-    let s = c .before .before .before .before .before .before .before .before .before .before .before .before in
-    (turned-none (stateNet (s .args .l) (s .args .kinds .now) (s .args .a .now) (s .args .b .now)) (s .args .l) (lister-size (s .args .l) (s .good .0)) _ (c .before .before .before .before .due .given .1) (omega (arith, c .if1 .taken, c .before .before .plan-length .ensures, ap planLength (s .pre .0))), s .pre .1)
+    let s = c .before .before .before .before .before .before .before .before .before .before .before .before .before in
+    (turned-none (stateNet (s .args .l) (s .args .kinds .now) (s .args .a .now) (s .args .b .now)) (s .args .l) (lister-size (s .args .l) (s .good .0)) _ (c .before .before .before .before .due .given .1) (omega (arith, c .if1 .taken, c .before .before .plan-length .ensures, ap planLength (s .pre .0))), s .pre .1 .0)
 
 same-length : tie.Need-same-length
-same-length c = c .before .before .before .before .before .before .line-after .kept .1 .1 .1 .1 .1 .1 .1 .1 .0
+same-length c = c .before .before .before .before .before .before .line-after .kept .1 .1 .1 .1 .1 .1 .1 .1 .1 .0
 
 same-length-2 : tie.Need-same-length-2
-same-length-2 c = c .before .before .before .before .before .before .line-after .kept .1 .1 .1 .1 .1 .1 .1 .1 .1 .0
+same-length-2 c = c .before .before .before .before .before .before .line-after .kept .1 .1 .1 .1 .1 .1 .1 .1 .1 .1 .0
 
 same-length-3 : tie.Need-same-length-3
-same-length-3 c = c .before .before .before .before .before .before .line-after .kept .1 .1 .1 .1 .1 .1 .1 .1 .1 .1 .0
+same-length-3 c = c .before .before .before .before .before .before .line-after .kept .1 .1 .1 .1 .1 .1 .1 .1 .1 .1 .1 .0
 
 returns-2 : tie.Need-returns-2
 returns-2 c =
-    let s = c .before .before .before .before .before .before .before .before .before .before .before .before .before .before .before .before .before .before .before .before .before .before .before .before in
+    let s = c .before .before .before .before .before .before .before .before .before .before .before .before .before .before .before .before .before .before .before .before .before .before .before .before .before in
     let t = c .before .before .before .before .before .before .line-after in (
       turned-next (stateNet (s .args .l) (s .args .kinds .now) (s .args .a .now) (s .args .b .now)) (s .args .l) (lister-size (s .args .l) (s .good .0)) _ (t .result .lister) (c .before .before .before .before .before .before .before .before .before .before .before .before .before .before .before .before .due .given .1)
           (omega (arith, c .before .before .before .before .before .before .before .before .before .before .before .before .if1 .left, c .before .before .before .before .before .before .before .before .before .before .before .before .before .before .plan-length .ensures, ap planLength (s .pre .0))) (t .ensures .0),
@@ -60,13 +63,13 @@ returns-2 c =
     )
 
 returns-3 : tie.Need-returns-3
-returns-3 c = let s = c .before .before .before .before .before .before .before .before in (turned-last (stateNet (s .args .l) (s .args .kinds .now) (s .args .a .now) (s .args .b .now)) (s .args .l) (ap (λ (d : Due). linesAfter (stateNet (s .args .l) (s .args .kinds .now) (s .args .a .now) (s .args .b .now)) d (planInHand (stateNet (s .args .l) (s .args .kinds .now) (s .args .a .now) (s .args .b .now)) (s .args .l))) (c .enum-told .given .1)), s .pre .1)
+returns-3 c = let s = c .before .before .before .before .before .before .before .before .before in (turned-last (stateNet (s .args .l) (s .args .kinds .now) (s .args .a .now) (s .args .b .now)) (s .args .l) (ap (λ (d : Due). linesAfter (stateNet (s .args .l) (s .args .kinds .now) (s .args .a .now) (s .args .b .now)) d (planInHand (stateNet (s .args .l) (s .args .kinds .now) (s .args .a .now) (s .args .b .now)) (s .args .l))) (c .enum-told .given .1)), s .pre .1 .0)
 
 returns-4 : tie.Need-returns-4
-returns-4 c = let s = c .before .before .before .before .before .before .before .before in (turned-last (stateNet (s .args .l) (s .args .kinds .now) (s .args .a .now) (s .args .b .now)) (s .args .l) (ap (λ (d : Due). linesAfter (stateNet (s .args .l) (s .args .kinds .now) (s .args .a .now) (s .args .b .now)) d (planInHand (stateNet (s .args .l) (s .args .kinds .now) (s .args .a .now) (s .args .b .now)) (s .args .l))) (c .enum-told2 .given .1)), s .pre .1)
+returns-4 c = let s = c .before .before .before .before .before .before .before .before .before in (turned-last (stateNet (s .args .l) (s .args .kinds .now) (s .args .a .now) (s .args .b .now)) (s .args .l) (ap (λ (d : Due). linesAfter (stateNet (s .args .l) (s .args .kinds .now) (s .args .a .now) (s .args .b .now)) d (planInHand (stateNet (s .args .l) (s .args .kinds .now) (s .args .a .now) (s .args .b .now)) (s .args .l))) (c .enum-told2 .given .1)), s .pre .1 .0)
 
 returns-5 : tie.Need-returns-5
-returns-5 c = let s = c .before .before .before .before .before .before .before .before in (turned-last (stateNet (s .args .l) (s .args .kinds .now) (s .args .a .now) (s .args .b .now)) (s .args .l) (ap (λ (d : Due). linesAfter (stateNet (s .args .l) (s .args .kinds .now) (s .args .a .now) (s .args .b .now)) d (planInHand (stateNet (s .args .l) (s .args .kinds .now) (s .args .a .now) (s .args .b .now)) (s .args .l))) (c .enum-told3 .given .1)), s .pre .1)
+returns-5 c = let s = c .before .before .before .before .before .before .before .before .before in (turned-last (stateNet (s .args .l) (s .args .kinds .now) (s .args .a .now) (s .args .b .now)) (s .args .l) (ap (λ (d : Due). linesAfter (stateNet (s .args .l) (s .args .kinds .now) (s .args .a .now) (s .args .b .now)) d (planInHand (stateNet (s .args .l) (s .args .kinds .now) (s .args .a .now) (s .args .b .now)) (s .args .l))) (c .enum-told3 .given .1)), s .pre .1 .0)
 
 pub turned-spec : {M : Type 1} → statement M
 turned-spec =

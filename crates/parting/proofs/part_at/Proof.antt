@@ -13,7 +13,7 @@ shared-slice-read-if1 : tie.Need-shared-slice-read-if1
 shared-slice-read-if1 c = omega arith
 
 returns : tie.Need-returns
-returns c = passed (not-gated _ (c .if1 .taken)) refl refl
+returns c = record { from = λ ks p. passed (not-gated _ (c .if1 .taken)) refl refl }
 
 shared-slice-read-if2 : tie.Need-shared-slice-read-if2
 shared-slice-read-if2 c = omega arith
@@ -25,10 +25,10 @@ same-length : tie.Need-same-length
 same-length c = search needs
 
 returns-2 : tie.Need-returns-2
-returns-2 c = freed (kind-gate _ ((c .before .before) .if1 .left)) (c .if2 .taken) refl refl
+returns-2 c = record { from = λ ks p. freed (kind-gate _ ((c .before .before) .if1 .left)) (c .if2 .taken) refl refl }
 
-try-way-requires : tie.Need-try-way-requires
-try-way-requires c κs = search needs
+try-guided-requires : tie.Need-try-guided-requires
+try-guided-requires c κs = let s = c .before .before .before .before .before .before .before .before .before .before .before .before .before .before .before .before .before in (s .pre .0 .ready, (s .pre .0 .below, omega arith))
 
 same-length-2 : tie.Need-same-length-2
 same-length-2 c = search needs
@@ -40,9 +40,12 @@ same-length-4 : tie.Need-same-length-4
 same-length-4 c = search needs
 
 returns-3 : tie.Need-returns-3
-returns-3 c = tried (kind-gate _ ((c .before .before .before .before .before .before .before .before .before .before .before .before) .if1 .left)) ((c .before .before .before .before .before .before .before .before .before .before) .if2 .left) ((c .before .before .before .before .before .before) .try-way .ensures)
+returns-3 c =
+    let s = c .before .before .before .before .before .before .before .before .before .before .before .before .before .before .before .before .before .before .before .before .before .before .before .before in
+    let g = kind-gate _ ((c .before .before .before .before .before .before .before .before .before .before .before .before) .if1 .left) in
+    record { from = λ ks p. tried g ((c .before .before .before .before .before .before .before .before .before .before) .if2 .left) ((c .before .before .before .before .before .before) .try-guided .ensures .from ks (s .args .kinds .now) p g) }
 
 pub part-at-spec : {M : Type 1} → statement M
 part-at-spec =
     tie.close
-    (tie.spec shared-slice-read-if1 returns shared-slice-read-if2 slice-write-ways same-length returns-2 try-way-requires same-length-2 same-length-3 same-length-4 returns-3)
+    (tie.spec shared-slice-read-if1 returns shared-slice-read-if2 slice-write-ways same-length returns-2 try-guided-requires same-length-2 same-length-3 same-length-4 returns-3)

@@ -27,7 +27,7 @@ least-requires c κs = tt
 
 note-from-requires : tie.Need-note-from-requires
 note-from-requires c κs =
-    let s = c .before .before .before .before .before .before .before .before .before .before .before .before .before .before .before .before .before .before .before .before .before .before in (
+    let s = c .before .before .before .before .before .before .before .before .before .before .before .before .before .before .before .before .before .before .before .before .before .before .before in (
       ready-ways _ (s .pre .0) (c .before .before .before .before .before .before .before .orient .kept .1 .1 .0 ∙ s .pre .1 .1 .1 ∙ sym (s .pre .0 .ways-full)),
       (s .pre .1 .1 .0, (s .pre .0 .ways-full, omega (arith, c .before .before .before .before .least .ensures))),
     )
@@ -45,7 +45,7 @@ same-length-4 : tie.Need-same-length-4
 same-length-4 c = search needs
 
 returns-3 : tie.Need-returns-3
-returns-3 c = c .before .before .before .before .before .before .before .before .note-from .ensures .from (c .before .before .before .before .before .before .before .before .before .before .before .before .before .before .before .before .before .before .before .before .before .before .before .before .before .before .before .before .before .before .before .args .kinds .now) (c .before .before .before .before .before .before .before .before .before .before .before .before .before .before .before .before .orient .ensures)
+returns-3 c = c .before .before .before .before .before .before .before .before .note-from .ensures .from (c .before .before .before .before .before .before .before .before .before .before .before .before .before .before .before .before .before .before .before .before .before .before .before .before .before .before .before .before .before .before .before .before .args .kinds .now) (c .before .before .before .before .before .before .before .before .before .before .before .before .before .before .before .before .orient .ensures)
 
 pub note-bound-spec : {M : Type 1} → statement M
 note-bound-spec =

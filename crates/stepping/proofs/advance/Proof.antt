@@ -16,16 +16,16 @@ use Rattle.stepping.proofs.advance.Tie as tie
 
 -- the ways are copied, and stand in both rows
 copied :
-    (c : tie.After-copy-row) (ks p : List ℕ) → let s = c .before .before .before .before .before .before .before .before .before .before .before .before .args in
+    (c : tie.After-copy-row) (ks p : List ℕ) → let s = c .before .before .before .before .before .before .before .before .before .before .before .before .before .args in
     AtPlan (s .n) ks (s .a .now) (s .b .now) p (s .ways .now) → AtPlan (s .n) ks (s .a .now) (s .b .now) p (c .copy-row .last .1 .0)
-copied c ks p h = let s = c .before .before .before .before .before .before .before .before .before .before .before .before .args in subst (λ u. AtPlan (s .n) ks (s .a .now) (s .b .now) p u) (sym (c .copy-row .ensures)) h
+copied c ks p h = let s = c .before .before .before .before .before .before .before .before .before .before .before .before .before .args in subst (λ u. AtPlan (s .n) ks (s .a .now) (s .b .now) p u) (sym (c .copy-row .ensures)) h
 
 copy-row-requires : tie.Need-copy-row-requires
 copy-row-requires c κs = search needs
 
 step-requires : tie.Need-step-requires
 step-requires c κs =
-    let s = c .before .before .before .before .before .before .before .before .before .before .before .before .before .before .before .before .before .before in
+    let s = c .before .before .before .before .before .before .before .before .before .before .before .before .before .before .before .before .before .before .before in
     (s .pre .0, (s .pre .1 .0, (ap length (c .before .before .before .before .before .before .copy-row .ensures) ∙ s .pre .0 .ways-full, omega arith)))
 
 same-length : tie.Need-same-length
@@ -42,14 +42,14 @@ same-length-4 c = search needs
 
 returns : tie.Need-returns
 returns c =
-    let s = c .before .before .before .before .before .before .before .before .before .before .before .before .before .before .before .before .before .before .before .before .before .before .before .before .before .args in
+    let s = c .before .before .before .before .before .before .before .before .before .before .before .before .before .before .before .before .before .before .before .before .before .before .before .before .before .before .args in
     let t = c .before .before .before .before .before .before .before .before .before .before .before .before .before in
     record {
-      from = λ ks p h f.
+      from = λ ks p h f guides.
           let h′ = copied t ks p h in
           let f′ = subst (λ u. Binds (netOf (s .n) ks (s .a .now) (s .b .now)) (s .tried .now) u) (sym (t .copy-row .ensures)) f in
           advanced (s .n) ks (s .a .now) (s .b .now) (h .level) h′ (h .oriented) f′
-          (c .before .before .before .before .before .before .step .ensures .from ks (plan-partable (s .n) ks (s .a .now) (s .b .now) h′ (h .oriented) f′));
+          (c .before .before .before .before .before .before .step .ensures .from ks (plan-partable (s .n) ks (s .a .now) (s .b .now) h′ (h .oriented) f′) guides);
     }
 
 pub advance-spec : {M : Type 1} → statement M

@@ -1,0 +1,3 @@
+-- Reaches in series, and rows that say so.
+pub mod Pairs
+pub mod Guides

@@ -1,0 +1,2 @@
+-- What the contracts of the functions that follow channels say.
+pub mod Channels

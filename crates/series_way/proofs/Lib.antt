@@ -1,0 +1,2 @@
+-- The law of guided gates.
+pub mod Guided
