@@ -1550,6 +1550,57 @@ for title, basins, reaches in [
     assert sorted(set(network(tuple(reaches)).bound())) == [0, 1, 2]
     listed(title, basins, reaches)
 listed('40 bound gates last, at every sixth of 256 basins', 256, moved([(G, 0, 0)] * 8 + ditch(40), 5, 6))
+
+# Gates in series: where just two reaches in service end at each inner basin of a channel, one gate or flap of it decides the others, and the lister takes their
+# ways from it, whatever their numbers.
+LOT = Sequence(30)
+
+
+def shuffled(reaches):
+    return sorted(reaches, key=lambda r: LOT.below(1 << 20))
+
+
+def channels(side, inner):
+    """Channels of gates, drawn by lot, between the neighbours of a grid of side by side basins, each over as many basins of its own."""
+    grid, out, v = range(side * side), [], side * side
+    for a, b in [(a, a + 1) for a in grid if (a + 1) % side] + [(a, a + side) for a in grid if a + side in grid]:
+        basins, v = [a, *range(v, v + inner), b], v + inner
+        out.append([(G, y, x) if LOT.below(2) else (G, x, y) for x, y in zip(basins, basins[1:])])
+    return out
+
+
+def in_series(reaches):
+    """How many gates, bound ones left out, are decided by an earlier one: hung alike with it in all plans, or against it in all."""
+    plans = listing(network_file(256, reaches)).split()[:-1]
+    columns = [column if column[0] == '0' else column.translate({48: 49, 49: 48}) for column in map(''.join, zip(*plans))]
+    return sum(column in columns[:i] and '1' in column for i, column in enumerate(columns))
+
+
+def kind_of(reaches, kind, *numbers):
+    return [(kind, a, b) if i in numbers else (k, a, b) for i, (k, a, b) in enumerate(reaches)]
+
+
+ditches = channels(3, 3)                    # 45 basins, of which 9 to 44 are inner ones, three of each channel
+along = [r for channel in ditches for r in channel]
+across = [r for line in zip(*ditches) for r in line]
+lines = [len(listing(network_file(45, reaches)).split()) for reaches in (along, across, shuffled(along))]
+assert lines[0] == lines[1] == lines[2]
+listed('12 channels of four gates, along', 45, along)
+listed('the same across', 45, across)
+listed('the same by lot', 45, shuffled(along))
+shut = [(SHUT + i % 3, 9 + i, 27 + i) for i in range(18)]           # a third reach at every inner basin, shut
+for title, basins, reaches, least in [
+        ('with two-way reaches, by lot', 45, shuffled(kind_of(along, T, *range(1, 48, 7))), 25),
+        ('with two flaps and two two-way reaches, by lot', 45, shuffled(kind_of(kind_of(kind_of(along, F, 1), T, 2, 20), F, 46)), 25),
+        ('that shut reaches make, by lot', 45, shuffled(along + shut), 30),
+        ('that shut reaches make but for two in service, by lot', 45, shuffled(along + shut[1:17] + [(G, 26, 44), (T, 27, 9)]), 25),
+        ('with loops at six inner basins, by lot', 45, shuffled(along + [((G, F, T)[i % 3], 10 + 3 * i, 10 + 3 * i) for i in range(6)]), 25),
+        ('among dry basins, by lot', 256, shuffled(moved(along, 3, 5) + [(SHUT + i % 3, 5 * i, 5 * i + 2) for i in range(20)] + moved(shut[:9], 3, 5)), 30),
+        ('in a ring of 40, by lot', 40, shuffled(ring(40, 40, G)), 39),
+        ('in a ring of 40, by lot, with loops', 41, shuffled(ring(40, 40, G) + [(G, 0, 0), (G, 40, 40), (T, 40, 0)]), 39),
+        ('in rings of two, by lot', 20, shuffled([(G, v, v + 1 - 2 * (v % 2)) for v in range(20)] + [(T, v, v + 2) for v in range(0, 18, 2)]), 9)]:
+    assert in_series(reaches) >= least, (title, in_series(reaches))
+    listed('channels ' + title, basins, reaches)
 gr.case('list', 0, SMALL + [7], p=11, vary=[(2, 2, 0), (4, 2, 2), (18, 2, 8), ('n', 4, 17)], name='list, refused 1, 3, 4, 5, 6')
 gr.case('list', 0, file, p=20, name='list, 1,025 reaches')
 
