@@ -21,8 +21,9 @@ use Rattle.orientations.proofs.Parts.{up-length, up-all, up-more, up-plain, up-
 use Rattle.orienting.specs.Tries.{leftOut, ledRound, Tried}
 use Rattle.orienting.proofs.Readies.{tried-same, tried-led, tried-lost}
 use Rattle.orienting.proofs.Rows.{row-below, row-way}
-use Rattle.parting.specs.Parts.{OrientedAs, no-gate, as-under, PartedAt, passed, freed, tried}
-use Rattle.branching.specs.Follows.{Followed, through, stopped, TurnedBack, turned-at, nowhere}
+use Rattle.series.specs.Guides.{Guides}
+use Rattle.parting.specs.Parts.{OrientedAs, no-gate, as-under, PartedAt, passed, freed, tried, PartedAtFrom}
+use Rattle.branching.specs.Follows.{Following, Followed, through, stopped, TurnedBack, turned-at, nowhere}
 
 -- the gates below i are oriented as us has them, the others usable either way, and everything reaches everything
 pub record Along (N : Network) (fs us ws : List ℕ) (i : ℕ) : Type 0 where
@@ -127,13 +128,13 @@ module _ (n : ℕ) (ks xs ys : List ℕ) (ea : length xs ≡ length ks) (eb : le
             go (no d) = w .none j (omega arith) q
 
         -- with reach i usable either way the ways are a partial orientation up to it
-        pub back-begun : isTried fs i ≡ true → Begun N fs (set ws i 2) i
+        back-begun : isTried fs i ≡ true → Begun N fs (set ws i 2) i
         back-begun t =
             subst⁻¹ (λ (v : List ℕ). Begun N fs v i) (again 2 ∙ up-either N (u .setting) us (u .is) fs tries i below t)
             (open-up N (u .setting) us (u .is) fs tries (u .fits) i (omega (arith, below)) (all i k))
 
         -- one reach less
-        pub back-on : {ws′ : List ℕ} {r : Bool} → PartedAt fs xs ys us ws i ws′ r → r ≡ false → Back N fs us to ws′ i
+        back-on : {ws′ : List ℕ} {r : Bool} → PartedAt fs xs ys us ws i ws′ r → r ≡ false → Back N fs us to ws′ i
         back-on (passed p q z) y =
             record { is = q ∙ w .is ∙ ap (λ (j : ℕ). upTo fs us j) e ∙ up-plain N (u .setting) us (u .is) fs tries i below p; none = more-none (λ h d. clash h p) }
         back-on (freed p z q d) y =
@@ -143,9 +144,37 @@ module _ (n : ℕ) (ks xs ys : List ℕ) (ea : length xs ≡ length ks) (eb : le
             record { is = o .0; none = more-none (λ h x. o .1) }
 
         -- or the gate that was turned
-        pub back-found : {ws′ : List ℕ} {r : Bool} → PartedAt fs xs ys us ws i ws′ r → r ≡ true → TurnedBack N fs us to ws′ i
+        back-found : {ws′ : List ℕ} {r : Bool} → PartedAt fs xs ys us ws i ws′ r → r ≡ true → TurnedBack N fs us to ws′ i
         back-found (passed p q z) y = clash y z
         back-found (freed p z q d) y = clash y d
         back-found (tried p z t) y =
             let o = tried-on (all i k) p 1 (omega arith) (tried-same xs ys ws (upTo fs us i) i again t) y in
             turned-at k p (sym byte ∙ z) (o .0) (subst⁻¹ (λ (v : List ℕ). StronglyConnected N v) (o .0) (o .1)) (λ j p q. w .none j (omega arith) q)
+
+-- ---- a turn of the loop that looks back
+
+module _
+    {n : ℕ} {ks fs xs ys us ws₀ : List ℕ} {to : ℕ} (p : Following n ks fs xs ys us ws₀ to) (eb : length ys ≡ length xs)
+    (all : StronglyConnectedBelow (netOf n ks xs ys) fs us to) (guide : List ℕ) (d : Guides (netOf n ks xs ys) guide) {ws : List ℕ} {m : ℕ} (i : ℕ) (e : m ≡ suc i)
+    (k : i < to)
+    (w : Back (netOf n ks xs ys) fs us to ws m)
+  where
+    l : i < length ks
+    l = omega (arith, k, p .bound, p .kinds-full)
+
+    -- what is promised of every guided table holds of this one
+    parted : {ws′ : List ℕ} {r : Bool} → PartedAtFrom n guide fs xs ys us ws i ws′ r → PartedAt fs xs ys us ws i ws′ r
+    parted f =
+        f .from ks
+        (record {
+          kinds-full = p .kinds-full;
+          accepted = p .accepted;
+          guides = d;
+          begun = back-begun n ks xs ys (sym (p .kinds-full)) (eb ∙ sym (p .kinds-full)) us (p .under) fs (p .tries) (p .accepted) i l ws to m e k all w;
+        })
+
+    pub turn-on : {ws′ : List ℕ} {r : Bool} → PartedAtFrom n guide fs xs ys us ws i ws′ r → r ≡ false → Back (netOf n ks xs ys) fs us to ws′ i
+    turn-on f = back-on n ks xs ys (sym (p .kinds-full)) (eb ∙ sym (p .kinds-full)) us (p .under) fs (p .tries) (p .accepted) i l ws to m e k all w (parted f)
+
+    pub turn-found : {ws′ : List ℕ} {r : Bool} → PartedAtFrom n guide fs xs ys us ws i ws′ r → r ≡ true → TurnedBack (netOf n ks xs ys) fs us to ws′ i
+    turn-found f = back-found n ks xs ys (sym (p .kinds-full)) (eb ∙ sym (p .kinds-full)) us (p .under) fs (p .tries) (p .accepted) i l ws to m e k all w (parted f)

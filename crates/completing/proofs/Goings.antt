@@ -19,16 +19,18 @@ use Rattle.network.proofs.Bridges.{bridge-gated}
 use Rattle.tables.specs.Rows.{netOf}
 use Rattle.tables.proofs.Laws.{row-length, row-a}
 use Rattle.orientations.specs.Least.{isTried}
-use Rattle.orientations.specs.Partials.{Begun}
+use Rattle.orientations.specs.Partials.{Begun, Bridgeless}
 use Rattle.orientations.proofs.Least.{bytes-ways}
 use Rattle.orientations.proofs.Goings.{Going, going-held, going-drawn, going-turned, going-end, bridge-cut, is-bridge}
 use Rattle.orienting.specs.Tries.{leftOut, ledRound}
 use Rattle.orienting.proofs.Rows.{row-arcs, row-below, row-led, row-led-turned, row-gated}
-use Rattle.deciding.specs.Gates.{OrientedGate, no-gate, drawn, turned, neither, Settled, as-it-was, as-drawn, as-turned}
-use Rattle.completing.specs.Greedy.{Greedy, all-oriented, bridge-at, Completed}
+use Rattle.series.specs.Guides.{Guides}
+use Rattle.series_way.specs.Guided.{Guidable}
+use Rattle.deciding.specs.Gates.{OrientedGate, no-gate, drawn, turned, neither, Settled, as-it-was, as-drawn, as-turned, SettledFrom}
+use Rattle.completing.specs.Greedy.{Completable, Greedy, all-oriented, bridge-at, Completed}
 
 -- a gate that is tried is usable either way where it stands next
-pub begun-either : (N : Network) (fs ws : List ℕ) (i : ℕ) → i < length (N .reaches) → Begun N fs ws i → isTried fs i ≡ true → Begun N fs (set ws i 2) i
+begun-either : (N : Network) (fs ws : List ℕ) (i : ℕ) → i < length (N .reaches) → Begun N fs ws i → isTried fs i ≡ true → Begun N fs (set ws i 2) i
 begun-either N fs ws i l b t =
     let free : getD ws i 3 ≡ 2 = b .undecided i (omega arith) (omega (arith, b .tries .row-full)) t in
     subst⁻¹ (λ (v : List ℕ). Begun N fs v i) (ap (λ (x : ℕ). set ws i x) (sym free) ∙ set-getD ws i 3) b
@@ -85,3 +87,22 @@ module _ (n : ℕ) (ks xs ys : List ℕ) (ea : length xs ≡ length ks) (eb : le
   going-complete fs ws₀ from ws i e w =
       let end : Going N fs ws₀ from ws (length (N .reaches)) = subst (λ (j : ℕ). Going N fs ws₀ from ws j) (e ∙ sym (row-length ks xs ys ea eb)) w in
       record { least = going-end N fs ws₀ from ws end; oriented = sym (bytes-ways (N .reaches) ws (end .begun .full) (end .begun .shaped)) }
+
+-- one reach more of a table of which the row of guides is true
+pub settled-on : {n : ℕ} {ks fs xs ys ws₀ : List ℕ} {from : ℕ} → Completable n ks fs xs ys ws₀ from → length ys ≡ length xs → Bridgeless (netOf n ks xs ys)
+    → (guide : List ℕ) → Guides (netOf n ks xs ys) guide → {ws ws′ : List ℕ} {i : ℕ} → i < length xs → Going (netOf n ks xs ys) fs ws₀ from ws i → SettledFrom n guide fs xs ys ws i ws′
+    → Going (netOf n ks xs ys) fs ws₀ from ws′ (suc i)
+settled-on {n} {ks} {fs} {xs} {ys} {ws₀} {from} p eb clear guide d {ws} {ws′} {i} l w f = going-settled n ks xs ys ea eb′ (p .accepted) fs ws₀ from ws i l′ w (clear i) (f .from ks guidable)
+  where
+    ea : length xs ≡ length ks
+    ea = sym (p .kinds-full)
+
+    eb′ : length ys ≡ length ks
+    eb′ = eb ∙ ea
+
+    l′ : i < length ks
+    l′ = omega (arith, l, p .kinds-full)
+
+    guidable : Guidable n guide ks fs xs ys ws i
+    guidable =
+        record { kinds-full = p .kinds-full; accepted = p .accepted; guides = d; begun = begun-either (netOf n ks xs ys) fs ws i (row-below n ks xs ys ea eb′ i l′) (w .begun) }

@@ -3,23 +3,23 @@
 use Prim.Native.Nat.{ℕ, _<_}
 use native.Mathlib.Nat.{not-suc-le-zero}
 use native.Mathlib.Decide.{ℕ-discrete}
-use mathlib.Core.Path.{_≡_, refl, sym, ap, subst, subst⁻¹, _∙_}
-use mathlib.Core.Bool.{Bool, true, false, not, _&&_, _||_, Bool·beq}
-use mathlib.Core.Logic.{_⊎_, inl, inr, ⊎-elim, _≢_}
+use mathlib.Core.Path.{_≡_, refl, sym, subst, subst⁻¹, _∙_}
+use mathlib.Core.Bool.{Bool, true, false, not, _&&_, _||_}
+use mathlib.Core.Logic.{_≢_}
 use mathlib.Core.List.{List, []}
 use lib.ListN.{length, getD}
 use lib.Dec.{eqb}
-use borrow.Author.Tests.{eqb-true, eq-eqb, ne-eqb}
-use mathlib.Mathlib.Data.Bool.Basic.{bool-eq-false, or-inl, or-inr}
+use borrow.Author.Tests.{eq-eqb, ne-eqb}
+use mathlib.Mathlib.Data.Bool.Basic.{or-inl, or-inr}
 use Rattle.network.specs.declared.Reach.{Reach}
 use Rattle.network.specs.Networks.{Network, inService, endsAt, Accepted}
 use Rattle.network.specs.Settings.{isGated}
 use Rattle.network.specs.Orientations.{ways}
 use Rattle.network.specs.Plans.{isPlan}
 use Rattle.network.specs.Bridges.{crossesBy, reachAt}
-use Rattle.lists.proofs.Bools.{decide, clash}
+use Rattle.lists.proofs.Bools.{clash}
 use Rattle.network.proofs.Bridges.{uncrossed, uncrossed-ends}
-use Rattle.series.specs.Pairs.{reachEnd, Crossing, CutPair, guidedWay, TwoAt, Channel, begins, goes-on}
+use Rattle.series.specs.Pairs.{reachEnd, CutPair, guidedWay, TwoAt, Channel, begins, goes-on}
 use Rattle.series.specs.Guides.{Guides}
 use Rattle.series.proofs.Pairs.{pair-plan}
 

@@ -4,22 +4,20 @@
 use Prim.Native.Nat.{ℕ, zero, suc, _-_, _≤_, _<_}
 use native.Mathlib.Omega.{arith}
 use native.Mathlib.Decide.{ℕ-discrete}
-use mathlib.Core.Path.{_≡_, refl, sym, ap, subst, subst⁻¹, _∙_}
-use mathlib.Core.Bool.{Bool, true, false, cond, not, _&&_, Bool·beq, true≢false, false≢true}
-use mathlib.Core.Logic.{_⊎_, inl, inr, ⊎-elim, _≢_}
+use mathlib.Core.Path.{_≡_, refl, sym, ap, subst, _∙_}
+use mathlib.Core.Bool.{Bool, true, false, not, _&&_, Bool·beq}
+use mathlib.Core.Logic.{_⊎_, ⊎-elim, _≢_}
 use mathlib.Core.List.{List, List·Memᴰ, List·Memᴰ·not-nil, List·Memᴰ·cases-cons}
 use lib.ListN.{length, getD, set}
 use lib.Seq.{getD-set-same, getD-set-other}
-use lib.Dec.{eqb}
-use borrow.Author.Tests.{eq-eqb, ne-eqb}
-use mathlib.Mathlib.Data.Bool.Basic.{bool-eq-false, eq-true-of-not-eq-false, and-intro, and-elim-right}
+use mathlib.Mathlib.Data.Bool.Basic.{bool-eq-false, eq-true-of-not-eq-false, and-elim-right}
 use Rattle.network.specs.declared.Reach.{Reach}
 use Rattle.network.specs.Networks.{Network, inService, basinsOf, Accepted}
 use Rattle.network.specs.Settings.{isGated, isSetting}
-use Rattle.network.specs.Orientations.{Arc, arc, passing, arcs, ways, reached}
+use Rattle.network.specs.Orientations.{arc, passing, arcs, ways, reached}
 use Rattle.network.specs.Plans.{stronglyConnected, stronglyConnectedUnder, isPlan}
 use Rattle.network.specs.Bridges.{crossesBy, reachAt}
-use Rattle.lists.proofs.Bools.{decide, clash, beq-make}
+use Rattle.lists.proofs.Bools.{clash}
 use Rattle.network.proofs.Walks.{walk-inside, arc-to}
 use Rattle.network.proofs.Cuts.{strong-walks}
 use Rattle.network.proofs.Ways.{passingAt, arcs-in, ShutOut, shut-out, arc-in-service}
@@ -58,7 +56,7 @@ crossing-crosses : (S : ℕ → Bool) (r : Reach) (x : Bool) → Crossing S r x 
 crossing-crosses S r true c = rw (c .serves, c .inside, c .outside)
 crossing-crosses S r false c = rw (c .serves, c .inside, c .outside)
 
-pub pair-rest : (N : Network) (S : ℕ → Bool) (i : ℕ) (x : Bool) (j : ℕ) (y : Bool) → CutPair N S i x j y → CutPair N (λ b. not (S b)) i (not x) j (not y)
+pair-rest : (N : Network) (S : ℕ → Bool) (i : ℕ) (x : Bool) (j : ℕ) (y : Bool) → CutPair N S i x j y → CutPair N (λ b. not (S b)) i (not x) j (not y)
 pair-rest N S i x j y p =
     record {
       below-i = p .below-i;
@@ -129,12 +127,12 @@ pair-plan N ok S i x j y p gi gj q e =
 -- ---- the way that is left
 
 -- the basins of which just one of two sides has each
-abbrev pub differ : (ℕ → Bool) → (ℕ → Bool) → ℕ → Bool
-differ S T b = not (Bool·beq (S b) (T b))
+abbrev symmetricDifference : (ℕ → Bool) → (ℕ → Bool) → ℕ → Bool
+symmetricDifference S T b = not (Bool·beq (S b) (T b))
 
 -- a reach crosses this division if it crosses just one of the two
-pub crossed-differ : (S T : ℕ → Bool) (r : Reach) → crossesBy (differ S T) r ≡ not (Bool·beq (crossesBy S r) (crossesBy T r))
-crossed-differ S T r = go (inService (r .state)) (S (r .a)) (S (r .b)) (T (r .a)) (T (r .b))
+crossed-difference : (S T : ℕ → Bool) (r : Reach) → crossesBy (symmetricDifference S T) r ≡ not (Bool·beq (crossesBy S r) (crossesBy T r))
+crossed-difference S T r = go (inService (r .state)) (S (r .a)) (S (r .b)) (T (r .a)) (T (r .b))
   where
     go : (e a b c d : Bool) → e && not (Bool·beq (not (Bool·beq a c)) (not (Bool·beq b d))) ≡ not (Bool·beq (e && not (Bool·beq a b)) (e && not (Bool·beq c d)))
     go false a b c d = refl
@@ -156,15 +154,15 @@ crossed-differ S T r = go (inService (r .state)) (S (r .a)) (S (r .b)) (T (r .a)
     go true false false false false = refl
 
 -- so if one of two reaches in series alone crosses some division, the other alone crosses another
-pub pair-alone : (N : Network) (S T : ℕ → Bool) (i : ℕ) (x : Bool) (j : ℕ) (y : Bool) → CutPair N S i x j y → Alone N T j → Alone N (differ S T) i
-pair-alone N S T i x j y p f = record { crossing = crossed-differ S T (reachAt N i) ∙ rw (crossing-crosses S (reachAt N i) x (p .one), f .others i (p .below-i) (p .apart)); others = others }
+pair-alone : (N : Network) (S T : ℕ → Bool) (i : ℕ) (x : Bool) (j : ℕ) (y : Bool) → CutPair N S i x j y → Alone N T j → Alone N (symmetricDifference S T) i
+pair-alone N S T i x j y p f = record { crossing = crossed-difference S T (reachAt N i) ∙ rw (crossing-crosses S (reachAt N i) x (p .one), f .others i (p .below-i) (p .apart)); others = others }
   where
-    others : (k : ℕ) → k < length (N .reaches) → k ≢ i → crossesBy (differ S T) (reachAt N k) ≡ false
+    others : (k : ℕ) → k < length (N .reaches) → k ≢ i → crossesBy (symmetricDifference S T) (reachAt N k) ≡ false
     others k l n = go (ℕ-discrete k j)
       where
-        go : Dec (k ≡ j) → crossesBy (differ S T) (reachAt N k) ≡ false
-        go (yes q) = rw q (crossed-differ S T (reachAt N j) ∙ rw (crossing-crosses S (reachAt N j) y (p .two), f .crossing))
-        go (no m) = crossed-differ S T (reachAt N k) ∙ rw (p .others k l n m, f .others k l m)
+        go : Dec (k ≡ j) → crossesBy (symmetricDifference S T) (reachAt N k) ≡ false
+        go (yes q) = rw q (crossed-difference S T (reachAt N j) ∙ rw (crossing-crosses S (reachAt N j) y (p .two), f .crossing))
+        go (no m) = crossed-difference S T (reachAt N k) ∙ rw (p .others k l n m, f .others k l m)
 
 -- Under ways with which everything reaches everything, reach i hung and reach j usable either way: j gets the way that i leaves it without loss, and the other not.
 module _ (N : Network) (ok : Accepted N) (ws : List ℕ) (full : length ws ≡ length (N .reaches)) (out : ShutOut (N .reaches) ws)

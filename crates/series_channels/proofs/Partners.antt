@@ -6,7 +6,7 @@ use native.Mathlib.Decide.{ℕ-discrete, decLt}
 use mathlib.Core.Path.{_≡_, refl, sym, _∙_}
 use mathlib.Core.Logic.{_⊎_, inl, inr, ⊎-elim, _≢_}
 use mathlib.Core.List.{List}
-use lib.ListN.{length, getD}
+use lib.ListN.{getD}
 use Rattle.half_edges.specs.Ends.{halves, endOf}
 use Rattle.half_edges.specs.Chains.{none, Last, nothing, last}
 use Rattle.half_edges.proofs.Hands.{Current, current}

@@ -4,18 +4,16 @@ use Prim.Native.Nat.{ℕ, zero, suc, _+_, _*_, _/_, _%_, _≤_, _<_}
 use native.Mathlib.Omega.{arith}
 use native.Mathlib.Decide.{ℕ-discrete, decLt}
 use mathlib.Core.Path.{_≡_, refl, sym, ap, subst, subst⁻¹, _∙_}
-use mathlib.Core.Bool.{Bool, true, false, cond, not, _&&_, _||_, Bool·beq}
+use mathlib.Core.Bool.{Bool, true, false, cond, not, Bool·beq}
 use mathlib.Core.Logic.{_⊎_, inl, inr, ⊎-elim, _≢_}
 use mathlib.Core.List.{List, _++_}
-use lib.ListN.{length, getD, set, take, replicate, length-set, length-append}
+use lib.ListN.{length, getD, set, replicate, length-set, length-append}
 use lib.Seq.{getD-set-same, getD-set-other, take-all, take-append-le}
 use lib.Dec.{eqb}
 use borrow.Author.Tests.{eqb-true, eq-eqb, ne-eqb}
 use mathlib.Mathlib.Data.Bool.Basic.{bool-eq-false, and-elim-left, and-elim-right}
-use Rattle.lists.proofs.Bools.{decide, clash, or-cases}
-use Rattle.network.specs.declared.Reach.{Reach}
+use Rattle.lists.proofs.Bools.{clash, or-cases}
 use Rattle.network.specs.Networks.{Network, inService, endsAt}
-use Rattle.network.specs.Tables.{stateOf, tableOf}
 use Rattle.network.specs.Bridges.{reachAt}
 use Rattle.network.proofs.Networks.{state-in-service, state-shut}
 use Rattle.tables.specs.Rows.{netOf}

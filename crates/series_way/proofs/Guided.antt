@@ -5,15 +5,13 @@ use native.Mathlib.Omega.{arith}
 use native.Mathlib.Decide.{decLt}
 use mathlib.Core.Path.{_≡_, refl, sym, ap, subst, subst⁻¹, _∙_}
 use mathlib.Core.Bool.{Bool, true, false, cond, not, Bool·beq}
-use mathlib.Core.Logic.{_⊎_, inl, inr, ⊎-elim, _≢_}
-use mathlib.Core.List.{List, []}
+use mathlib.Core.Logic.{_⊎_, inl, inr, ⊎-elim}
+use mathlib.Core.List.{List}
 use lib.ListN.{length, getD, set, List·getD-eq-default}
 use lib.Seq.{getD-set-other, set-set}
-use lib.Dec.{eqb}
-use borrow.Author.Tests.{eq-eqb, ne-eqb}
 use Rattle.lists.proofs.Lists.{getD-any}
-use Rattle.lists.proofs.Bools.{decide, clash}
-use Rattle.network.specs.Networks.{Network, inService, Accepted}
+use Rattle.lists.proofs.Bools.{decide}
+use Rattle.network.specs.Networks.{Network, inService}
 use Rattle.network.specs.Settings.{isGated}
 use Rattle.network.specs.Orientations.{arcs, reached}
 use Rattle.network.specs.Networks.{basinsOf}
@@ -21,13 +19,12 @@ use Rattle.network.specs.Plans.{stronglyConnected}
 use Rattle.network.specs.Bridges.{reachAt}
 use Rattle.network.proofs.Ways.{plain-small, shut-plain, shut-way, ShutOut}
 use Rattle.tables.specs.Rows.{netOf}
-use Rattle.tables.proofs.Laws.{row-length}
 use Rattle.orientations.specs.Least.{isTried}
 use Rattle.orientations.specs.Partials.{Begun}
 use Rattle.orienting.specs.Tries.{leftOut, ledRound, Tried, oriented, undecided}
 use Rattle.orienting.proofs.Rows.{row-led, row-led-turned}
 use Rattle.series.specs.Pairs.{CutPair, guidedWay, toward}
-use Rattle.series.specs.Guides.{unguided, wayBy, GuidedBy, Guides}
+use Rattle.series.specs.Guides.{unguided, wayBy, GuidedBy}
 use Rattle.series.proofs.Pairs.{guided-drawn, guided-turned}
 use Rattle.series_way.specs.Guided.{WayTaken, taken, not-taken, Guidable}
 

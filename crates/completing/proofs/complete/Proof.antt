@@ -11,9 +11,8 @@ use Rattle.orientations.specs.Partials.{Bridgeless}
 use Rattle.orienting.specs.Ready.{Ready}
 use Rattle.completing.specs.Greedy.{Completable}
 use Rattle.orientations.proofs.Goings.{Going, starts}
-use Rattle.completing.proofs.Goings.{begun-either, going-settled, going-complete}
+use Rattle.completing.proofs.Goings.{settled-on, going-complete}
 use Rattle.series.specs.Guides.{Guides}
-use Rattle.orienting.proofs.Rows.{row-below}
 use Rattle.orienting.proofs.Readies.{ready-ways, ready-notes}
 use Rattle.completing.proofs.complete.Statement.{statement}
 use Rattle.completing.proofs.complete.Tie as tie
@@ -27,11 +26,15 @@ Inv-loop n guide tried a b ways₀ head next from seen₀ queue₀ i₀ ways see
 abbrev μ-loop : tie.MeasureT-loop
 μ-loop n guide tried a b ways₀ head next from seen₀ queue₀ i₀ ways seen queue i = length a - i
 
+-- the function's entry
+abbrev entry : tie.At-loop Inv-loop μ-loop → tie.Start Inv-loop μ-loop
+entry c = c .before .before .before .before .before .before .before .before .before .before
+
 loop-holds : tie.Need-loop-holds Inv-loop μ-loop
 loop-holds c = let s = c .before .before .before .before .before .before .before .before .before in (s .pre .1 .1, s .pre .0, (λ ks p b d. starts (p .begun)), refl, refl, refl)
 
 settle-requires : tie.Need-settle-requires Inv-loop μ-loop
-settle-requires c κs = let l = (c .before .before .before .before) .loop .inv in record { ready = l .1; kinds-full = (c .before .before .before .before .before .before .before .before .before .before .before .before .before .before) .pre .1 .0; below = (c .before .before .before) .loop-test .taken }
+settle-requires c κs = let t = c .before .before .before in let l = t .before in record { ready = l .loop .inv .1; kinds-full = entry l .pre .1 .0; below = t .loop-test .taken }
 
 add-i : tie.Need-add-i Inv-loop μ-loop
 add-i c = omega arith
@@ -41,40 +44,32 @@ loop-less c = omega arith
 
 loop-again : tie.Need-loop-again Inv-loop μ-loop
 loop-again c =
-    let s = c .before .before .before .before .before .before .before .before .before .before .before .before .before .before .before .before .before .before .before .before .before in
-    let l = (c .before .before .before .before .before .before .before .before .before .before .before) .loop in
-    let t = (c .before .before .before .before .before .before) .settle in
-    let k = t .kept in (
-      omega (arith, (c .before .before .before .before .before .before .before .before .before .before) .loop-test .taken),
+    let q = c .before .before .before .before .before .before in
+    let t = q .before .before .before .before in
+    let l = t .before .loop in
+    let s = entry (t .before) in
+    let k = q .settle .kept in (
+      omega (arith, t .loop-test .taken),
       ready-notes _ _ (ready-ways _ (l .inv .1) (k .1 .1 .1 .1 .1 .0)) (k .1 .1 .1 .1 .1 .1 .1 .1 .1 .0) (k .1 .1 .1 .1 .1 .1 .1 .1 .1 .1 .0),
-      (λ ks p b d. rw add-one
-          (going-settled (s .args .n) ks (s .args .a .now) (s .args .b .now) (sym (p .kinds-full)) (s .pre .0 .table .paired ∙ sym (p .kinds-full)) (p .accepted) (s .args .tried .now)
-          (s .args .ways .now) (s .args .from) (l .ways) (l .i) (omega (arith, (c .before .before .before .before .before .before .before .before .before .before) .loop-test .taken, p .kinds-full)) (l .inv .2 ks p b d) (b (l .i)) (t .ensures .from ks (record {
-            kinds-full = p .kinds-full;
-            accepted = p .accepted;
-            guides = d;
-            begun = begun-either (netOf (s .args .n) ks (s .args .a .now) (s .args .b .now)) (s .args .tried .now) (l .ways) (l .i)
-                (row-below (s .args .n) ks (s .args .a .now) (s .args .b .now) (sym (p .kinds-full)) (s .pre .0 .table .paired ∙ sym (p .kinds-full)) (l .i) (omega (arith, (c .before .before .before .before .before .before .before .before .before .before) .loop-test .taken, p .kinds-full)))
-                (l .inv .2 ks p b d .begun);
-          })))),
+      (λ ks p b d. rw add-one (settled-on p (s .pre .0 .table .paired) b (s .args .guide .now) d (t .loop-test .taken) (l .inv .2 ks p b d) (q .settle .ensures))),
       k .1 .1 .1 .1 .1 .0 ∙ l .inv .3,
       k .1 .1 .1 .1 .1 .1 .1 .1 .1 .0 ∙ l .inv .4,
       k .1 .1 .1 .1 .1 .1 .1 .1 .1 .1 .0 ∙ l .inv .5,
     )
 
 same-length : tie.Need-same-length Inv-loop μ-loop
-same-length c = (c .before) .loop .inv .3
+same-length c = c .before .loop .inv .3
 
 same-length-2 : tie.Need-same-length-2 Inv-loop μ-loop
-same-length-2 c = (c .before) .loop .inv .4
+same-length-2 c = c .before .loop .inv .4
 
 same-length-3 : tie.Need-same-length-3 Inv-loop μ-loop
-same-length-3 c = (c .before) .loop .inv .5
+same-length-3 c = c .before .loop .inv .5
 
 returns : tie.Need-returns Inv-loop μ-loop
 returns c =
-    let s = c .before .before .before .before .before .before .before .before .before .before .before in
-    let l = (c .before) .loop in
+    let s = entry (c .before) in
+    let l = c .before .loop in
     record {
       from = λ ks p b d. going-complete (s .args .n) ks (s .args .a .now) (s .args .b .now) (sym (p .kinds-full)) (s .pre .0 .table .paired ∙ sym (p .kinds-full)) (s .args .tried .now)
           (s .args .ways .now) (s .args .from) (l .ways) (l .i) (omega (arith, l .inv .0, c .loop-test .left, p .kinds-full)) (l .inv .2 ks p b d);

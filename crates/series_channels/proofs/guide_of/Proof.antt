@@ -1,7 +1,6 @@
 -- `series_channels::guide_of` meets its contract.
 -- Assumes nothing.
 use native.Mathlib.Omega.{arith}
-use mathlib.Core.Path.{refl, sym, ap, _∙_}
 use Rattle.series_channels.proofs.guide_of.Statement.{statement}
 use Rattle.series_channels.proofs.guide_of.Tie as tie
 

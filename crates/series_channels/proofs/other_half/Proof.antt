@@ -1,7 +1,6 @@
 -- `series_channels::other_half` meets its contract.
 -- Assumes nothing.
 use native.Mathlib.Omega.{arith}
-use mathlib.Core.Path.{refl, sym, ap, _∙_}
 use Rattle.series_channels.proofs.other_half.Statement.{statement}
 use Rattle.series_channels.proofs.other_half.Tie as tie
 

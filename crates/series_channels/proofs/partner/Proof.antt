@@ -1,9 +1,8 @@
 -- `series_channels::partner` meets its contract. The loop's invariant is `Looked`: all half-edges in service so far are h or what was found.
 -- Assumes nothing.
-use Prim.Native.Nat.{_/_, _<_}
+use Prim.Native.Nat.{_<_}
 use native.Mathlib.Omega.{arith}
-use mathlib.Core.Path.{refl, subst, _∙_}
-use lib.ListN.{length}
+use mathlib.Core.Path.{refl}
 use Rattle.half_edges.specs.Ends.{halves, endOf}
 use Rattle.half_edges.specs.Chains.{none}
 use Rattle.half_edges.proofs.Halves.{end-below}

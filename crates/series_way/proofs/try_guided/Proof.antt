@@ -1,8 +1,7 @@
 -- `series_way::try_guided` meets its contract.
 -- Assumes nothing.
-use borrow.Author.Needs.{needs}
 use native.Mathlib.Omega.{arith}
-use mathlib.Core.Path.{refl, sym, _∙_}
+use mathlib.Core.Path.{sym, _∙_}
 use lib.ListN.{length-set}
 use Rattle.series_way.proofs.Guided.{taken-on, taken-off}
 use Rattle.series_way.proofs.try_guided.Statement.{statement}
