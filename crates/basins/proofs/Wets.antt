@@ -2,7 +2,7 @@
 -- Assumes nothing.
 use Prim.Native.Nat.{ℕ, zero, suc, _+_, _*_, _/_, _%_, _≤_, _<_}
 use native.Mathlib.Omega.{arith}
-use native.Mathlib.Decide.{ℕ-discrete, decLt}
+use native.Mathlib.Decide.{decLt}
 use mathlib.Core.Path.{_≡_, refl, sym, ap, _∙_}
 use mathlib.Core.Logic.{_⊎_, inl, inr}
 use mathlib.Core.Bool.{Bool, true, false}
@@ -20,7 +20,7 @@ use Rattle.tables.proofs.Laws.{row-length, table-at}
 use Rattle.half_edges.specs.Ends.{halves, endOf}
 use Rattle.half_edges.specs.Chains.{none, Last, nothing, last}
 use Rattle.half_edges.proofs.Halves.{end-even, end-odd}
-use Rattle.half_edges.proofs.Hands.{Current, current}
+use Rattle.half_edges.proofs.Hands.{Current, current, from-hand}
 use Rattle.basins.specs.Wet.{Tabled}
 
 -- the reach of half-edge k is in service
@@ -100,15 +100,15 @@ module _ {n : ℕ} {ks xs ys head next : List ℕ} (t : Tabled n ks xs ys head n
     -- or shut
     pub unserved-more : (h ≡ none → ⊥) → serving ks h ≡ false → Unserved ks xs ys v (getD next h 0)
     unserved-more some p =
-        record { x = h; within = omega (arith, k .below, u .within); chain = rw (k .stands) at (t .index .nexts h (omega (arith, k .below, u .within))); done = λ j a b s. go j a b s (ℕ-discrete j h) (decLt j (u .x)) }
+        record {
+          x = h;
+          within = omega (arith, k .below, u .within);
+          chain = rw (k .stands) at (t .index .nexts h (omega (arith, k .below, u .within)));
+          done = λ j a b s. from-hand k (λ i. i < halves xs → serving ks i ≡ false) (λ _. p) (λ i d e b. u .done i d b e) j a s b;
+        }
       where
         k : Current xs ys (u .x) v h
         k = in-hand some
-
-        go : (j : ℕ) → h ≤ j → j < halves xs → endOf xs ys j ≡ v → Dec (j ≡ h) → Dec (j < u .x) → serving ks j ≡ false
-        go j a b s (yes same) d = rw same p
-        go j a b s (no other) (yes d) = absurd (k .gap j (omega arith) d s)
-        go j a b s (no other) (no d) = u .done j (omega arith) b s
 
     -- none is left
     pub unserved-dry : h ≡ none → false ≡ isWet (netOf n ks xs ys) v

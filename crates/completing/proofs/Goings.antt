@@ -2,12 +2,11 @@
 -- Assumes nothing.
 use Prim.Native.Nat.{ℕ, suc, _<_}
 use native.Mathlib.Omega.{arith}
-use mathlib.Core.Path.{_≡_, refl, sym, ap, ap₂, subst, subst⁻¹, _∙_}
+use mathlib.Core.Path.{_≡_, refl, sym, ap₂, subst, subst⁻¹, _∙_}
 use mathlib.Core.Bool.{Bool, true, false}
 use mathlib.Core.Logic.{⊎-elim}
 use mathlib.Core.List.{List, []}
-use lib.ListN.{length, getD, set}
-use lib.Seq.{set-getD}
+use lib.ListN.{length, set}
 use Rattle.network.specs.Networks.{Network, Accepted}
 use Rattle.network.specs.Tables.{tableOf}
 use Rattle.network.specs.Orientations.{Arc, reached}
@@ -19,21 +18,15 @@ use Rattle.network.proofs.Bridges.{bridge-gated}
 use Rattle.tables.specs.Rows.{netOf}
 use Rattle.tables.proofs.Laws.{row-length, row-a}
 use Rattle.orientations.specs.Least.{isTried}
-use Rattle.orientations.specs.Partials.{Begun, Bridgeless}
+use Rattle.orientations.specs.Partials.{Bridgeless}
 use Rattle.orientations.proofs.Least.{bytes-ways}
-use Rattle.orientations.proofs.Goings.{Going, going-held, going-drawn, going-turned, going-end, bridge-cut, is-bridge}
+use Rattle.orientations.proofs.Goings.{Going, begun-either, going-held, going-drawn, going-turned, going-end, bridge-cut, is-bridge}
 use Rattle.orienting.specs.Tries.{leftOut, ledRound}
 use Rattle.orienting.proofs.Rows.{row-arcs, row-below, row-led, row-led-turned, row-gated}
 use Rattle.series.specs.Guides.{Guides}
 use Rattle.series_way.specs.Guided.{Guidable}
 use Rattle.deciding.specs.Gates.{OrientedGate, no-gate, drawn, turned, neither, Settled, as-it-was, as-drawn, as-turned, SettledFrom}
 use Rattle.completing.specs.Greedy.{Completable, Greedy, all-oriented, bridge-at, Completed}
-
--- a gate that is tried is usable either way where it stands next
-begun-either : (N : Network) (fs ws : List ℕ) (i : ℕ) → i < length (N .reaches) → Begun N fs ws i → isTried fs i ≡ true → Begun N fs (set ws i 2) i
-begun-either N fs ws i l b t =
-    let free : getD ws i 3 ≡ 2 = b .undecided i (omega arith) (omega (arith, b .tries .row-full)) t in
-    subst⁻¹ (λ (v : List ℕ). Begun N fs v i) (ap (λ (x : ℕ). set ws i x) (sym free) ∙ set-getD ws i 3) b
 
 module _ (n : ℕ) (ks xs ys : List ℕ) (ea : length xs ≡ length ks) (eb : length ys ≡ length ks) where
   abbrev N : Network
@@ -105,4 +98,4 @@ settled-on {n} {ks} {fs} {xs} {ys} {ws₀} {from} p eb clear guide d {ws} {ws′
 
     guidable : Guidable n guide ks fs xs ys ws i
     guidable =
-        record { kinds-full = p .kinds-full; accepted = p .accepted; guides = d; begun = begun-either (netOf n ks xs ys) fs ws i (row-below n ks xs ys ea eb′ i l′) (w .begun) }
+        record { kinds-full = p .kinds-full; accepted = p .accepted; guides = d; begun = begun-either (netOf n ks xs ys) (p .accepted) fs ws i (row-below n ks xs ys ea eb′ i l′) (w .begun) }

@@ -38,8 +38,23 @@ pub starts : {N : Network} {fs ws : List ℕ} {i : ℕ} → Begun N fs ws i → 
 starts b = record { begun = b; onward = λ s m. m; clear = λ j l k. absurd (omega arith) }
 
 -- the shut reaches pass nothing
-shaped-out : (t : List Reach) (ws : List ℕ) → Shaped t ws → ShutOut t ws
+pub shaped-out : (t : List Reach) (ws : List ℕ) → Shaped t ws → ShutOut t ws
 shaped-out t ws shaped j l e = shaped j l (shut-plain ((getD t j noReach) .state) e) ∙ shut-way ((getD t j noReach) .state) e
+
+-- under a partial orientation the ways of all reaches in service are 0, 1 or 2
+pub begun-small : (N : Network) (fs ws : List ℕ) (i : ℕ) → Begun N fs ws i → (j : ℕ) → j < length (N .reaches) → inService ((reachAt N j) .state) ≡ true → getD ws j 3 ≤ 2
+begun-small N fs ws i b j l s = ⊎-elim gated plain (decide (isGated ((reachAt N j) .state)))
+  where
+    plain : isGated ((reachAt N j) .state) ≡ false → getD ws j 3 ≤ 2
+    plain n = rw (b .shaped j l n) (plain-small ((reachAt N j) .state) n s)
+
+    gated : isGated ((reachAt N j) .state) ≡ true → getD ws j 3 ≤ 2
+    gated y = go (decLt j i) (decide (isTried fs j))
+      where
+        go : Dec (j < i) → (isTried fs j ≡ true) ⊎ (isTried fs j ≡ false) → getD ws j 3 ≤ 2
+        go (yes k) d = omega (arith, b .decided j k y)
+        go (no k) (inl d) = omega (arith, b .undecided j (omega arith) (omega (arith, b .tries .row-full)) d)
+        go (no k) (inr d) = omega (arith, b .held j l y d)
 
 module _ (N : Network) (ok : Accepted N) (fs ws : List ℕ) (i : ℕ) (below : i < length (N .reaches)) (b : Begun N fs ws i) where
   room : i < length ws
@@ -70,8 +85,11 @@ module _ (N : Network) (ok : Accepted N) (fs ws : List ℕ) (i : ℕ) (below : i
     free = b .undecided i (omega arith) (omega (arith, b .tries .row-full)) t
 
     -- it is usable either way so far
+    pub begun-either : Begun N fs (set ws i 2) i
+    begun-either = subst⁻¹ (λ (v : List ℕ). Begun N fs v i) (ap (λ (x : ℕ). set ws i x) (sym free) ∙ set-getD ws i 3) b
+
     either : stronglyConnected (basinsOf N) (arcs (N .reaches) (set ws i 2)) ≡ true
-    either = subst⁻¹ (λ (v : List ℕ). stronglyConnected (basinsOf N) (arcs (N .reaches) v) ≡ true) (ap (λ (x : ℕ). set ws i x) (sym free) ∙ set-getD ws i 3) (b .connected)
+    either = begun-either .connected
 
     pub begun-oriented : (x : ℕ) → x ≤ 1 → stronglyConnected (basinsOf N) (arcs (N .reaches) (set ws i x)) ≡ true → Begun N fs (set ws i x) (suc i)
     begun-oriented x small str = record { tries = b .tries; full = length-set ws i x ∙ b .full; shaped = shaped; decided = decided; held = held; undecided = undecided; connected = str }
@@ -107,28 +125,13 @@ module _ (N : Network) (ok : Accepted N) (fs ws : List ℕ) (i : ℕ) (below : i
         out : ShutOut (N .reaches) (set ws i x)
         out = shaped-out (N .reaches) (set ws i x) (begun-oriented x small str .shaped)
 
-    -- the ways of all reaches in service are 0, 1 or 2
-    all-small : (j : ℕ) → j < length (N .reaches) → inService ((reachAt N j) .state) ≡ true → getD ws j 3 ≤ 2
-    all-small j l s = ⊎-elim gated plain (decide (isGated ((reachAt N j) .state)))
-      where
-        plain : isGated ((reachAt N j) .state) ≡ false → getD ws j 3 ≤ 2
-        plain n = rw (b .shaped j l n) (plain-small ((reachAt N j) .state) n s)
-
-        gated : isGated ((reachAt N j) .state) ≡ true → getD ws j 3 ≤ 2
-        gated y = go (decLt j i) (decide (isTried fs j))
-          where
-            go : Dec (j < i) → (isTried fs j ≡ true) ⊎ (isTried fs j ≡ false) → getD ws j 3 ≤ 2
-            go (yes k) d = omega (arith, b .decided j k y)
-            go (no k) (inl d) = omega (arith, b .undecided j (omega arith) (omega (arith, b .tries .row-full)) d)
-            go (no k) (inr d) = omega (arith, b .held j l y d)
-
     module _ (ba : reached (arcs (N .reaches) (set ws i 3)) ((reachAt N i) .b) ((reachAt N i) .a) ≡ false) (ab : reached (arcs (N .reaches) (set ws i 3)) ((reachAt N i) .a) ((reachAt N i) .b) ≡ false) where
       -- the reach alone crosses the side that A leads to
       alone-on : Alone N (reached (arcs (N .reaches) (set ws i 3)) ((reachAt N i) .a)) i
       alone-on =
           alone-same N ok (λ v. not (reached (arcs (N .reaches) (set ws i 3)) ((reachAt N i) .b) v)) (reached (arcs (N .reaches) (set ws i 3)) ((reachAt N i) .a)) i below
-          (stuck-other N ok ws i below (b .full) serves (shaped-out (N .reaches) ws (b .shaped)) all-small either ba ab)
-          (alone-rest N (reached (arcs (N .reaches) (set ws i 3)) ((reachAt N i) .b)) i (stuck-alone N ok ws i below (b .full) serves (shaped-out (N .reaches) ws (b .shaped)) all-small either ba ab))
+          (stuck-other N ok ws i below (b .full) serves (shaped-out (N .reaches) ws (b .shaped)) (begun-small N fs ws i b) either ba ab)
+          (alone-rest N (reached (arcs (N .reaches) (set ws i 3)) ((reachAt N i) .b)) i (stuck-alone N ok ws i below (b .full) serves (shaped-out (N .reaches) ws (b .shaped)) (begun-small N fs ws i b) either ba ab))
 
       pub bridge-cut : (side : ℕ → Bool) → ((v : ℕ) → v < N .basins → side v ≡ reached (arcs (N .reaches) (set ws i 3)) ((reachAt N i) .a) v) → crossesAlone N (keep side (basinsOf N)) i ≡ true
       bridge-cut side told =
@@ -137,7 +140,7 @@ module _ (N : Network) (ok : Accepted N) (fs ws : List ℕ) (i : ℕ) (below : i
           ((cut-of N ok i below (reached (arcs (N .reaches) (set ws i 3)) ((reachAt N i) .a)) alone-on) .alone)
 
       pub is-bridge : isBridge N i ≡ true
-      is-bridge = stuck-bridge N ok ws i below (b .full) serves (shaped-out (N .reaches) ws (b .shaped)) all-small either ba ab gate
+      is-bridge = stuck-bridge N ok ws i below (b .full) serves (shaped-out (N .reaches) ws (b .shaped)) (begun-small N fs ws i b) either ba ab gate
 
 -- ---- one step of the loop
 

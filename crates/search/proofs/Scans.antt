@@ -4,7 +4,7 @@ use Prim.Native.Nat.{ℕ, _≤_, _<_}
 use mathlib.Core.Path.{_≡_}
 use mathlib.Core.Bool.{true, false}
 use mathlib.Core.List.{List}
-use native.Mathlib.Decide.{ℕ-discrete, decLt}
+use native.Mathlib.Decide.{decLt}
 use native.Mathlib.Omega.{arith}
 use lib.ListN.{length}
 use Rattle.lists.proofs.Bools.{clash}
@@ -13,7 +13,7 @@ use Rattle.half_edges.specs.Chains.{none, Last, nothing, last}
 use Rattle.distances.specs.Distances.{unreached}
 use Rattle.search.specs.Searches.{Seen, Visited, Grown, more, Scanned}
 use Rattle.half_edges.proofs.Halves.{arc-half, half-arc}
-use Rattle.half_edges.proofs.Hands.{Current}
+use Rattle.half_edges.proofs.Hands.{Current, from-hand}
 use Rattle.search.proofs.Visits.{Grew, grew-trans, visited-grew, visited-seen}
 
 -- All half-edges at u from x on are done, and h is the last one below x.
@@ -33,12 +33,15 @@ module _ {xs ys ws : List ℕ} {u count : ℕ} {seen₀ queue₀ : List ℕ} {ta
       → Grown (Next (arcsOf xs ys ws) u) count seen₀ queue₀ tail seen′ queue′ end′ → Grew seen₀ queue₀ tail seen′ queue′ end′
       → Scanning xs ys ws u count seen₀ queue₀ tail seen′ queue′ end′ c
   turn {seen′} {h} {c} s k l now keeps g w =
-      record { x = h; within = omega arith; chain = rw (k .stands) at l; done = λ j a b e p. at j a b e p (ℕ-discrete j h) (decLt j (s .x)); grown = g; grew = w }
-    where
-      at : (j : ℕ) → h ≤ j → j < halves xs → endOf xs ys j ≡ u → leaves ws j ≡ true → Dec (j ≡ h) → Dec (j < s .x) → Seen seen′ (otherOf xs ys j)
-      at j a b e p (yes q) d = rw q (now (rw q at p))
-      at j a b e p (no q) (yes d) = absurd (k .gap j (omega arith) d e)
-      at j a b e p (no q) (no d) = keeps (otherOf xs ys j) (s .done j (omega arith) b e p)
+      record {
+        x = h;
+        within = omega arith;
+        chain = rw (k .stands) at l;
+        done = λ j a b e p.
+            from-hand k (λ i. i < halves xs → leaves ws i ≡ true → Seen seen′ (otherOf xs ys i)) (λ _ q. now q) (λ i d f b q. keeps (otherOf xs ys i) (s .done i d b f q)) j a e b p;
+        grown = g;
+        grew = w;
+      }
 
   -- the turn of a half-edge that does not pass
   pub turn-past : {seen queue : List ℕ} {end h c : ℕ} → (s : Scanning xs ys ws u count seen₀ queue₀ tail seen queue end h)

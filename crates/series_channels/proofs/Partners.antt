@@ -2,19 +2,19 @@
 -- Assumes nothing.
 use Prim.Native.Nat.{ℕ, _/_, _%_, _≤_, _<_}
 use native.Mathlib.Omega.{arith}
-use native.Mathlib.Decide.{ℕ-discrete, decLt}
+use native.Mathlib.Decide.{decLt}
 use mathlib.Core.Path.{_≡_, refl, sym, _∙_}
 use mathlib.Core.Logic.{_⊎_, inl, inr, ⊎-elim, _≢_}
 use mathlib.Core.List.{List}
 use lib.ListN.{getD}
 use Rattle.half_edges.specs.Ends.{halves, endOf}
 use Rattle.half_edges.specs.Chains.{none, Last, nothing, last}
-use Rattle.half_edges.proofs.Hands.{Current, current}
+use Rattle.half_edges.proofs.Hands.{Current, current, from-hand}
 use Rattle.basins.specs.Wet.{Tabled}
 use Rattle.series_channels.specs.Channels.{Partner, nobody, partner}
 
 -- What was found stands at v beside h, and is in service.
-pub record Found (ks xs ys : List ℕ) (v h found : ℕ) : Type 0 where
+pub record Beside (ks xs ys : List ℕ) (v h found : ℕ) : Type 0 where
   pub below : found < halves xs
   pub stands : endOf xs ys found ≡ v
   pub other : found ≢ h
@@ -26,7 +26,7 @@ pub record Looked (ks xs ys : List ℕ) (v h o found : ℕ) : Type 0 where
   pub within : x ≤ halves xs
   pub chain : Last xs ys x v o
   pub done : (k : ℕ) → x ≤ k → k < halves xs → endOf xs ys k ≡ v → getD ks (k / 2) 0 ≤ 2 → (k ≡ h) ⊎ (k ≡ found)
-  pub held : found < none → Found ks xs ys v h found
+  pub held : found < none → Beside ks xs ys v h found
 
 module _ {n : ℕ} {ks xs ys head next : List ℕ} (t : Tabled n ks xs ys head next) where
   pub looked-start : (v h : ℕ) → v < n → Looked ks xs ys v h (getD head v 0) none
@@ -50,12 +50,8 @@ module _ {n : ℕ} {ks xs ys head next : List ℕ} (t : Tabled n ks xs ys head n
       -- what holds of the one in hand and of those before holds of all so far
       so-far : {found′ : ℕ} → (getD ks (o / 2) 0 ≤ 2 → (o ≡ h) ⊎ (o ≡ found′)) → ((k : ℕ) → k < halves xs → (k ≡ h) ⊎ (k ≡ found) → (k ≡ h) ⊎ (k ≡ found′))
           → (k : ℕ) → o ≤ k → k < halves xs → endOf xs ys k ≡ v → getD ks (k / 2) 0 ≤ 2 → (k ≡ h) ⊎ (k ≡ found′)
-      so-far {found′} this before k a b s z = go (ℕ-discrete k o) (decLt k (u .x))
-        where
-          go : Dec (k ≡ o) → Dec (k < u .x) → (k ≡ h) ⊎ (k ≡ found′)
-          go (yes same) d = ⊎-elim (λ y. inl (same ∙ y)) (λ y. inr (same ∙ y)) (this (rw same at z))
-          go (no other) (yes d) = absurd (c .gap k (omega arith) d s)
-          go (no other) (no d) = before k b (u .done k (omega arith) b s z)
+      so-far {found′} this before k a b s z =
+          from-hand c (λ i. i < halves xs → getD ks (i / 2) 0 ≤ 2 → (i ≡ h) ⊎ (i ≡ found′)) (λ _ y. this y) (λ i d e y q. before i y (u .done i d y e q)) k a s b z
 
       -- it is h, or shut
       pub looked-on : (getD ks (o / 2) 0 ≤ 2 → o ≡ h) → Looked ks xs ys v h (getD next o 0) found

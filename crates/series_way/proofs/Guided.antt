@@ -5,22 +5,18 @@ use native.Mathlib.Omega.{arith}
 use native.Mathlib.Decide.{decLt}
 use mathlib.Core.Path.{_≡_, refl, sym, ap, subst, subst⁻¹, _∙_}
 use mathlib.Core.Bool.{Bool, true, false, cond, not, Bool·beq}
-use mathlib.Core.Logic.{_⊎_, inl, inr, ⊎-elim}
 use mathlib.Core.List.{List}
 use lib.ListN.{length, getD, set, List·getD-eq-default}
 use lib.Seq.{getD-set-other, set-set}
 use Rattle.lists.proofs.Lists.{getD-any}
-use Rattle.lists.proofs.Bools.{decide}
-use Rattle.network.specs.Networks.{Network, inService}
-use Rattle.network.specs.Settings.{isGated}
 use Rattle.network.specs.Orientations.{arcs, reached}
-use Rattle.network.specs.Networks.{basinsOf}
+use Rattle.network.specs.Networks.{Network, basinsOf}
 use Rattle.network.specs.Plans.{stronglyConnected}
 use Rattle.network.specs.Bridges.{reachAt}
-use Rattle.network.proofs.Ways.{plain-small, shut-plain, shut-way, ShutOut}
 use Rattle.tables.specs.Rows.{netOf}
 use Rattle.orientations.specs.Least.{isTried}
 use Rattle.orientations.specs.Partials.{Begun}
+use Rattle.orientations.proofs.Goings.{shaped-out, begun-small}
 use Rattle.orienting.specs.Tries.{leftOut, ledRound, Tried, oriented, undecided}
 use Rattle.orienting.proofs.Rows.{row-led, row-led-turned}
 use Rattle.series.specs.Pairs.{CutPair, guidedWay, toward}
@@ -41,22 +37,6 @@ way-guided h w true true l e = omega (arith, e)
 way-guided h w true false l e = omega (arith, e)
 way-guided h w false true l e = omega (arith, e)
 way-guided h w false false l e = omega (arith, e)
-
--- of a partial orientation: shut reaches pass nothing, and the ways of the others are 0, 1 or 2
-module _ (N : Network) (fs ws : List ℕ) (i : ℕ) (b : Begun N fs ws i) where
-  begun-out : ShutOut (N .reaches) ws
-  begun-out j l e = b .shaped j l (shut-plain ((reachAt N j) .state) e) ∙ shut-way ((reachAt N j) .state) e
-
-  begun-small : (j : ℕ) → j < length (N .reaches) → inService ((reachAt N j) .state) ≡ true → getD ws j 3 ≤ 2
-  begun-small j l s = ⊎-elim gated (λ n. rw (b .shaped j l n) (plain-small ((reachAt N j) .state) n s)) (decide (isGated ((reachAt N j) .state)))
-    where
-      gated : isGated ((reachAt N j) .state) ≡ true → getD ws j 3 ≤ 2
-      gated y = go (decLt j i) (decide (isTried fs j))
-        where
-          go : Dec (j < i) → (isTried fs j ≡ true) ⊎ (isTried fs j ≡ false) → getD ws j 3 ≤ 2
-          go (yes k) d = omega (arith, b .decided j k y)
-          go (no k) (inl d) = omega (arith, b .undecided j (omega arith) (omega (arith, b .tries .row-full)) d)
-          go (no k) (inr d) = omega (arith, b .held j l y d)
 
 module _ (n : ℕ) (ks xs ys : List ℕ) (ea : length xs ≡ length ks) (eb : length ys ≡ length ks) (fs guide ws : List ℕ) (i : ℕ) (l : i < length ks) (p : Guidable n guide ks fs xs ys ws i)
     (t : isTried fs i ≡ true) where
@@ -96,14 +76,14 @@ module _ (n : ℕ) (ks xs ys : List ℕ) (ea : length xs ≡ length ks) (eb : le
     drawn =
         sym (row-led n ks xs ys ea eb ws i l)
         ∙ subst (λ (v : List ℕ). reached (arcs (N .reaches) v) ((reachAt N i) .b) ((reachAt N i) .a) ≡ toward w) (set-set ws i 2 3)
-        (guided-drawn N (p .accepted) (set ws i 2) (b .full) (begun-out N fs (set ws i 2) i b) (begun-small N fs (set ws i 2) i b) (by .side) k (by .end-i) i (by .end-j) pair (rw same hung) either
+        (guided-drawn N (p .accepted) (set ws i 2) (b .full) (shaped-out (N .reaches) (set ws i 2) (b .shaped)) (begun-small N fs (set ws i 2) i b) (by .side) k (by .end-i) i (by .end-j) pair (rw same hung) either
         ∙ ap toward says)
 
     turned : ledRound (leftOut xs ys ws i) xs ys i 1 ≡ not (toward w)
     turned =
         sym (row-led-turned n ks xs ys ea eb ws i l)
         ∙ subst (λ (v : List ℕ). reached (arcs (N .reaches) v) ((reachAt N i) .a) ((reachAt N i) .b) ≡ not (toward w)) (set-set ws i 2 3)
-        (guided-turned N (p .accepted) (set ws i 2) (b .full) (begun-out N fs (set ws i 2) i b) (begun-small N fs (set ws i 2) i b) (by .side) k (by .end-i) i (by .end-j) pair (rw same hung) either
+        (guided-turned N (p .accepted) (set ws i 2) (b .full) (shaped-out (N .reaches) (set ws i 2) (b .shaped)) (begun-small N fs (set ws i 2) i b) (by .side) k (by .end-i) i (by .end-j) pair (rw same hung) either
         ∙ ap (λ v. not (toward v)) says)
 
   -- a way that is the one taken is open
