@@ -32,6 +32,6 @@ pub data TurnedBack (N : Network) (fs us : List ℕ) (to : ℕ) : List ℕ → �
       → ((j : ℕ) → r < j → j < to → NoPart N fs us j) → TurnedBack N fs us to ws r
   nowhere : {ws : List ℕ} {r : ℕ} → r ≡ length (N .reaches) → ((j : ℕ) → j < to → NoPart N fs us j) → TurnedBack N fs us to ws r
 
--- So it is in the table of all kinds ks of which fs tries gates, if everything reaches everything up to each reach below `to`.
+-- So it is in the table of all kinds ks of which fs tries gates and the row of guides is true, if everything reaches everything up to each reach below `to`.
 pub record TurnedBackFrom (n : ℕ) (guide fs xs ys us ws : List ℕ) (to : ℕ) (ws′ : List ℕ) (r : ℕ) : Type 0 where
   pub from : (ks : List ℕ) → Following n ks fs xs ys us ws to → StronglyConnectedBelow (netOf n ks xs ys) fs us to → Guides (netOf n ks xs ys) guide → TurnedBack (netOf n ks xs ys) fs us to ws′ r

@@ -39,7 +39,7 @@ pub fn follow(
 }
 
 // From ways that `under` has up to reach `to`, looks back for the last gate before it that is tried, drawn and can be turned without loss, and turns it. A gate
-// is not tried if `tried` has another kind in its place.
+// is not tried if `tried` has another kind in its place; one search for each that is tried and that no other reach guides.
 // Returns its number, or the number of reaches if there is none: the ways are then free. The gates after it that are tried are usable either way. What it
 // leaves in seen and in the queue is free.
 pub fn turn_back(

@@ -36,8 +36,8 @@ pub fn greedy(
     i
 }
 
-// The same as `greedy` where no reach is a bridge, of the gates that are tried: one search for each, and every one gets a way. A gate that has its way
-// already is not tried if `tried` has another kind in its place. What it leaves in seen and in the queue is free.
+// The same as `greedy` where no reach is a bridge, of the gates that are tried: one search for each that no other reach guides, and every one gets a way. A
+// gate that has its way already is not tried if `tried` has another kind in its place. What it leaves in seen and in the queue is free.
 pub fn complete(
     n: usize,
     guide: &[u16],

@@ -35,8 +35,8 @@ pub fn orient_gate(
     false
 }
 
-// Orients reach i, if it is a gate, as drawn where that loses nothing, else turned: for a gate that is no bridge, one of the two loses nothing. What it
-// leaves in seen and in the queue is free.
+// Orients reach i, if it is a gate, as drawn where that loses nothing, else turned: for a gate that is no bridge, one of the two loses nothing. By its
+// guide, if the row has one that is hung, else by a search. What it leaves in seen and in the queue is free.
 pub fn settle(
     n: usize,
     guide: &[u16],

@@ -58,7 +58,7 @@ fn put_line(l: Lister, g: usize, out: &mut [u8]) -> usize
 }
 
 // The state after the line of a plan: by a step where the working memory stands at the plan in hand, which it then does again, and else by asking: the
-// working memory is then free, as it was. Gates that are found bound are tried no more.
+// working memory is then free, as it was. Gates that are found bound are tried no more, and gates that another reach guides without a search.
 fn line_after(
     l: Lister,
     left: usize,
@@ -235,7 +235,7 @@ fn print_lines(
     }
 }
 
-// The same with lent working memory, which is prepared if the plan in hand is one. What it leaves there is free.
+// The same with lent working memory, which is prepared if the plan in hand is one: the ways, the index and the channels. What it leaves there is free.
 fn fill_in(
     l: Lister,
     kinds: &[u8],

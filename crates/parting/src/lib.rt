@@ -30,8 +30,8 @@ pub fn orient_as(
     orienting::try_way(n, a, b, ways, head, next, i, under[i], seen, queue)
 }
 
-// Turns reach i if it is a gate that `under` has as drawn and that loses nothing; otherwise a gate is usable either way. Says whether it was turned. What
-// it leaves in seen and in the queue is free.
+// Turns reach i if it is a gate that `under` has as drawn and that loses nothing; otherwise a gate is usable either way. Says whether it was turned. By its
+// guide, if the row has one that is hung, else by a search. What it leaves in seen and in the queue is free.
 pub fn part_at(
     n: usize,
     guide: &[u16],

@@ -46,7 +46,7 @@ pub data StepTaken (N : Network) (fs us : List ℕ) (to : ℕ) : List ℕ → �
       → Completed N (set (upTo fs us r) r 1) ws → StepTaken N fs us to ws r
   no-step : {ws : List ℕ} {r : ℕ} → r ≡ length (N .reaches) → ((j : ℕ) → j < to → NoPart N fs us j) → StepTaken N fs us to ws r
 
--- So it is in the table of all kinds ks of which fs tries gates.
+-- So it is in the table of all kinds ks of which fs tries gates and the row of guides is true.
 pub record StepFrom (n : ℕ) (guide fs xs ys us ws : List ℕ) (to : ℕ) (ws′ : List ℕ) (r : ℕ) : Type 0 where
   pub from : (ks : List ℕ) → Partable n ks fs xs ys us ws to → Guides (netOf n ks xs ys) guide → StepTaken (netOf n ks xs ys) fs us to ws′ r
 

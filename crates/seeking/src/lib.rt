@@ -75,7 +75,7 @@ pub fn first_from(
 
 // One step: from ways that `under` has up to reach `to`, parts from them upwards at the last gate before it at which a plan can, and decides the
 // gates after it. Returns the number of that gate, or the number of reaches if there is none. There is a plan. A gate that has one way in all plans is not
-// tried if `tried` has another kind in its place: it keeps the way that it has.
+// tried if `tried` has another kind in its place: it keeps the way that it has. A gate that another reach guides, as the row has it, takes its way from that.
 pub fn step(
     n: usize,
     guide: &[u16],
@@ -117,7 +117,7 @@ pub fn step(
     at
 }
 
-// The next plan, if none is alike up to `to` and later: what the step came to.
+// The next plan, if none is alike up to `to` and later: what the step came to. Its row of guides is the empty one.
 pub fn part_from(
     n: usize,
     kinds: &[u8],

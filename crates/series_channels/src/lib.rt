@@ -10,7 +10,7 @@ ghost use Rattle.half_edges.specs.Chains.{none};
 ghost use Rattle.basins.specs.Wet.{Tabled};
 ghost use Rattle.series_channels.specs.Channels.{Partner, otherHalf, guideOf, GuideNoted, GuidingStill, FindableIf, GuidesFound};
 
-// The most half-edges of a basin that are looked at: beside two in service there may be shut ones. No promise rests on it.
+// Basins with fewer half-edges than this are looked through: beside two in service there may be shut ones. No promise rests on it.
 const LOOKED: usize = 8;
 
 // It pays to follow channels if so many of the last gates, of those that are looked at, end at a basin of one: a step from plan to plan begins with the
@@ -175,7 +175,7 @@ fn pass(
     }
 }
 
-// 1 if reach i is a gate with an end at a basin of a channel, else 0.
+// 1 if reach i has an end at a basin of a channel, else 0.
 fn in_channel(
     n: usize,
     kinds: &[u8],
@@ -222,7 +222,7 @@ fn worth(n: usize, kinds: &[u8], a: &[u16], b: &[u16], head: &[u16], next: &[u16
 
 // Says for each gate of a channel that was found which reach guides it: a flap of the channel, or else its lowest-numbered gate. Returns how many entries of
 // the row count: all, or none where it is not worth it.
-pub fn find(
+fn find(
     n: usize,
     kinds: &[u8],
     a: &[u16],

@@ -35,6 +35,6 @@ pub data Advanced (N : Network) (ks s : List ℕ) : List ℕ → ℕ → Type 0 
   at-last : {ws′ : List ℕ} {r : ℕ} → r ≡ length ks → nextAnswer N s ≡ refused LastPlan → Advanced N ks s ws′ r
 
 -- A step from the ways us, which are those of one plan, to the next of it: so it is in the table of all kinds ks of which fs tries gates, where what fs
--- does not try has one way in all plans.
+-- does not try has one way in all plans and the row of guides is true.
 pub record AdvancedFrom (n : ℕ) (guide fs xs ys us ws′ : List ℕ) (r : ℕ) : Type 0 where
   pub from : (ks s : List ℕ) → AtPlan n ks xs ys s us → Binds (netOf n ks xs ys) fs us → Guides (netOf n ks xs ys) guide → Advanced (netOf n ks xs ys) ks s ws′ r
