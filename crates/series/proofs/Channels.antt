@@ -37,7 +37,7 @@ end-apart v r e s false = neither-end v r e s .0
 end-apart v r e s true = neither-end v r e s .1
 
 -- A basin at which just two reaches end is a side by itself.
-pub pair-basin : (N : Network) (v i : ℕ) (x : Bool) (j : ℕ) (y : Bool) → TwoAt N v i x j y → CutPair N (λ b. eqb b v) i x j y
+pair-basin : (N : Network) (v i : ℕ) (x : Bool) (j : ℕ) (y : Bool) → TwoAt N v i x j y → CutPair N (λ b. eqb b v) i x j y
 pair-basin N v i x j y t =
     record {
       below-i = t .below-i;
@@ -49,7 +49,7 @@ pair-basin N v i x j y t =
     }
 
 -- One basin more: where a channel that came to reach j goes on to reach k.
-pub pair-more : (N : Network) (S : ℕ → Bool) (i : ℕ) (x : Bool) (j : ℕ) (y : Bool) (v k : ℕ) (z : Bool) → CutPair N S i x j y → TwoAt N v j (not y) k z → i ≢ k → CutPair N (λ b. S b || eqb b v) i x k z
+pair-more : (N : Network) (S : ℕ → Bool) (i : ℕ) (x : Bool) (j : ℕ) (y : Bool) (v k : ℕ) (z : Bool) → CutPair N S i x j y → TwoAt N v j (not y) k z → i ≢ k → CutPair N (λ b. S b || eqb b v) i x k z
 pair-more N S i x j y v k z p t far =
     record {
       below-i = p .below-i;

@@ -34,7 +34,7 @@ module _ {n : ℕ} {ks xs ys head next : List ℕ} (t : Tabled n ks xs ys head n
 
   module _ {v h o found : ℕ} (u : Looked ks xs ys v h o found) where
     -- the half-edge in hand
-    pub looked-at : o < none → Current xs ys (u .x) v o
+    looked-at : o < none → Current xs ys (u .x) v o
     looked-at few = current (λ e. absurd (omega (arith, e))) (u .chain)
 
     pub looked-below : o < none → o < halves xs

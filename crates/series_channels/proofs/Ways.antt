@@ -51,11 +51,7 @@ module _ {n : ℕ} {ks xs ys head next : List ℕ} (c : Tabled n ks xs ys head n
   in-table : (i : ℕ) → i < length ks → i < length (N .reaches)
   in-table i l = omega (arith, row-length ks xs ys ea eb)
 
-  -- the ends of reach i
-  end-at : (i : ℕ) (x : Bool) → i < length ks → reachEnd (reachAt N i) x ≡ cond x (getD ys i 0) (getD xs i 0)
-  end-at i true l = row-b ks xs ys ea eb i l
-  end-at i false l = row-a ks xs ys ea eb i l
-
+  -- a half-edge stands at that end of its reach
   here : (h : ℕ) → h < H.halves xs → reachEnd (reachAt N (h / 2)) (odd h) ≡ H.endOf xs ys h
   here h l = go (ℕ-discrete (h % 2) 0)
     where
@@ -130,7 +126,7 @@ module _ {n : ℕ} {ks xs ys head next : List ℕ} (c : Tabled n ks xs ys head n
   not-not false = refl
 
   -- one basin more
-  pub comes-to : (start h r : ℕ) → h < H.halves xs → getD ks (h / 2) 0 ≤ 2 → Came N start h → Partner ks xs ys h r → r < unguided → r / 2 ≢ start / 2
+  comes-to : (start h r : ℕ) → h < H.halves xs → getD ks (h / 2) 0 ≤ 2 → Came N start h → Partner ks xs ys h r → r < unguided → r / 2 ≢ start / 2
       → Channel N (start / 2) (odd start) (r / 2) (odd r) × (r < H.halves xs) × (getD ks (r / 2) 0 ≤ 2)
   comes-to start h r l s w (nobody z) few far = absurd (omega arith)
   comes-to start h r l s (at-start e) (partner rl same apart s′ only) few far =
@@ -139,7 +135,7 @@ module _ {n : ℕ} {ks xs ys head next : List ℕ} (c : Tabled n ks xs ys head n
       (goes-on d (subst⁻¹ (λ (x : Bool). TwoAt N (H.endOf xs ys h) (h / 2) x (r / 2) (odd r)) (not-not (odd h)) (two-at h r l s rl same apart s′ only)) (λ e. far (sym e)), rl, s′)
 
   -- and the half-edge at its far end
-  pub goes-from : (start r : ℕ) → r < H.halves xs → getD ks (r / 2) 0 ≤ 2 → Channel N (start / 2) (odd start) (r / 2) (odd r) → Came N start (otherHalf r) × (otherHalf r < H.halves xs) × (getD ks (otherHalf r / 2) 0 ≤ 2)
+  goes-from : (start r : ℕ) → r < H.halves xs → getD ks (r / 2) 0 ≤ 2 → Channel N (start / 2) (odd start) (r / 2) (odd r) → Came N start (otherHalf r) × (otherHalf r < H.halves xs) × (getD ks (otherHalf r / 2) 0 ≤ 2)
   goes-from start r rl s d =
       let o = half-back r rl in (
         along (subst⁻¹ (λ (i : ℕ). Channel N (start / 2) (odd start) i (not (odd (otherHalf r)))) (o .1)
@@ -160,7 +156,7 @@ module _ {n : ℕ} {ks xs ys head next : List ℕ} (c : Tabled n ks xs ys head n
       go (no p) (yes q) = rw (ne-eqb (start % 2) 0 p, eq-eqb (o % 2) 0 q) (omega (arith, p))
       go (no p) (no q) = rw (ne-eqb (start % 2) 0 p, ne-eqb (o % 2) 0 q) (omega (arith, p, q))
 
-  pub guided-by : (start o : ℕ) → Channel N (start / 2) (odd start) (o / 2) (odd o) → GuidedBy N (guideOf start o) (o / 2)
+  guided-by : (start o : ℕ) → Channel N (start / 2) (odd start) (o / 2) (odd o) → GuidedBy N (guideOf start o) (o / 2)
   guided-by start o d =
       let p = channel-pair N (start / 2) (odd start) (o / 2) (odd o) d in
       record {
@@ -171,7 +167,7 @@ module _ {n : ℕ} {ks xs ys head next : List ℕ} (c : Tabled n ks xs ys head n
         parity = parity start o;
       }
 
-  pub guides-set : (guide : List ℕ) (k v : ℕ) → Guides N guide → GuidedBy N v k → Guides N (set guide k v)
+  guides-set : (guide : List ℕ) (k v : ℕ) → Guides N guide → GuidedBy N v k → Guides N (set guide k v)
   guides-set guide k v all by j l few = go (ℕ-discrete j k)
     where
       jl : j < length guide
@@ -184,7 +180,7 @@ module _ {n : ℕ} {ks xs ys head next : List ℕ} (c : Tabled n ks xs ys head n
           subst⁻¹ (λ (x : ℕ). GuidedBy N x j) same (all j jl (subst (λ (x : ℕ). x < unguided) same few))
 
 -- what is noted at a reach to which the channel came is true
-pub guide-noted-on : {n : ℕ} {ks xs ys head next : List ℕ} → Tabled n ks xs ys head next → (start o : ℕ) (guide guide′ : List ℕ) → ((m : ℕ) → Channel (netOf m ks xs ys) (start / 2) (odd start) (o / 2) (odd o))
+guide-noted-on : {n : ℕ} {ks xs ys head next : List ℕ} → Tabled n ks xs ys head next → (start o : ℕ) (guide guide′ : List ℕ) → ((m : ℕ) → Channel (netOf m ks xs ys) (start / 2) (odd start) (o / 2) (odd o))
     → GuideNoted guide start o guide′ → Guiding ks xs ys guide → Guiding ks xs ys guide′
 guide-noted-on {ks = ks} {xs} {ys} c start o guide guide′ d (noted e) all m = subst⁻¹ (λ (l : List ℕ). Guides (netOf m ks xs ys) l) e (guides-set c m guide (o / 2) (guideOf start o) (all m) (guided-by c m start o (d m)))
 guide-noted-on {ks = ks} {xs} {ys} c start o guide guide′ d (unchanged e) all m = subst⁻¹ (λ (l : List ℕ). Guides (netOf m ks xs ys) l) e (all m)
