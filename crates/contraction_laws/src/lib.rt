@@ -4,8 +4,6 @@ use bound_gates::bound_gates_rows;
 use contraction::ContractAnswer;
 use contraction::contract_rows;
 use packing::MAX_ROWS;
-use packing::Packed;
-use packing::empty;
 use planner_rows::first_plan;
 use planner_rows::next_plan;
 use replies::Answer;
@@ -22,8 +20,23 @@ pub struct ContractedRows {
     b: [u16; MAX_ROWS],
 }
 
-// Contracts a network. What stood in the rows does not matter.
-fn contracted(basins: u16, kinds: &[u8], a: &[u16], b: &[u16], rows: Packed) -> ContractedRows
+// Rows with room for every network, of which nothing is said: what stands in them does not matter.
+struct NewRows {
+    kinds: [u8; MAX_ROWS],
+    a: [u16; MAX_ROWS],
+    b: [u16; MAX_ROWS],
+}
+
+fn empty() -> NewRows {
+    NewRows {
+        kinds: [0; MAX_ROWS],
+        a: [0; MAX_ROWS],
+        b: [0; MAX_ROWS],
+    }
+}
+
+// Contracts a network.
+fn contracted(basins: u16, kinds: &[u8], a: &[u16], b: &[u16], rows: NewRows) -> ContractedRows
     ensures { λ r. ⌜ CameOut (netOf basins (now (kinds .entry)) (now (a .entry)) (now (b .entry))) r ⌝ }
 {
     let mut kinds2 = rows.kinds;
@@ -50,7 +63,7 @@ pub fn first_of_contracted(
     ensures { λ r. ⌜ ReplyOfContracted (λ N. firstReply N (length (now (plan .entry))) (length (now (marks .entry))))
         (netOf basins (now (kinds .entry)) (now (a .entry)) (now (b .entry))) (now (plan .entry)) (now (marks .entry)) r (now (plan .exit)) (now (marks .exit)) ⌝ }
 {
-    let c = contracted(basins, kinds, a, b, empty(0));
+    let c = contracted(basins, kinds, a, b, empty());
     let kinds2 = c.kinds;
     let a2 = c.a;
     let b2 = c.b;
@@ -77,7 +90,7 @@ pub fn next_of_contracted(
     ensures { λ r. ⌜ ReplyOfContracted (λ N. nextReply N (now (s .entry)) (length (now (plan .entry))) (length (now (marks .entry))))
         (netOf basins (now (kinds .entry)) (now (a .entry)) (now (b .entry))) (now (plan .entry)) (now (marks .entry)) r (now (plan .exit)) (now (marks .exit)) ⌝ }
 {
-    let c = contracted(basins, kinds, a, b, empty(0));
+    let c = contracted(basins, kinds, a, b, empty());
     let kinds2 = c.kinds;
     let a2 = c.a;
     let b2 = c.b;
@@ -103,7 +116,7 @@ pub fn bound_of_contracted(
     ensures { λ r. ⌜ BoundOfContracted (netOf basins (now (kinds .entry)) (now (a .entry)) (now (b .entry))) (now (bytes .entry)) (now (marks .entry)) r
         (now (bytes .exit)) (now (marks .exit)) ⌝ }
 {
-    let c = contracted(basins, kinds, a, b, empty(0));
+    let c = contracted(basins, kinds, a, b, empty());
     let kinds2 = c.kinds;
     let a2 = c.a;
     let b2 = c.b;
@@ -121,7 +134,7 @@ pub fn bound_of_contracted(
 pub fn contract_again(basins: u16, kinds: &[u8], a: &[u16], b: &[u16]) -> ContractedRows
     ensures { λ r. ⌜ ContractedTwice (netOf basins (now (kinds .entry)) (now (a .entry)) (now (b .entry))) r ⌝ }
 {
-    let c = contracted(basins, kinds, a, b, empty(0));
+    let c = contracted(basins, kinds, a, b, empty());
     let kinds2 = c.kinds;
     let a2 = c.a;
     let b2 = c.b;
@@ -131,6 +144,6 @@ pub fn contract_again(basins: u16, kinds: &[u8], a: &[u16], b: &[u16]) -> Contra
         ContractAnswer::Contracted {
             basins: n,
             reaches: m,
-        } => contracted(n, &kinds2[..m], &a2[..m], &b2[..m], empty(0)),
+        } => contracted(n, &kinds2[..m], &a2[..m], &b2[..m], empty()),
     }
 }

@@ -1,24 +1,17 @@
 // The lent reach table, a slice of records, taken apart into rows of numbers.
 // The borrow checker does not cover a slice of structs. So two functions have the slice in hand and are proved by a walk of their code, by
-// hand: `pack` and `unpack`. They go over the table once, in place, and leave one record to `numbers_of` and `reach_of`, which are covered.
+// hand: `pack_into` and `unpack_from`. They go over the table once, in place, and leave one record to `numbers_of` and `reach_of`, which are covered.
 use network::Kind;
 use network::MAX_REACHES;
 use network::Reach;
 use network::State;
+use tables::least;
 ghost use mathlib.Core.Path.{_≡_};
 ghost use Rattle.network.specs.Tables.{stateOf, stateNumber};
-ghost use Rattle.packing.specs.Rows.{heldOf, emptyOf, numbersOf, packedOf, storedOf, unpackedInto};
+ghost use Rattle.packing.specs.Rows.{heldOf, numbersOf, fittingOf, PackedInto, fillingOf, UnpackedFrom};
 
 // How many reaches the rows have room for: one more than a network may have, so that rows show that a table is over-full.
 pub const MAX_ROWS: usize = MAX_REACHES + 1;
-
-// The front of a reach table as rows of numbers: the kinds, ends A and ends B of its first n reaches, and zeros after them.
-pub struct Packed {
-    pub n: usize,
-    pub kinds: [u8; MAX_ROWS],
-    pub a: [u16; MAX_ROWS],
-    pub b: [u16; MAX_ROWS],
-}
 
 // The number of a state in a row.
 fn number(s: State) -> u8
@@ -45,18 +38,6 @@ pub fn held(n: usize) -> usize
     if n < MAX_ROWS { n } else { MAX_ROWS }
 }
 
-// Rows of zeros for n reaches.
-pub fn empty(n: usize) -> Packed
-    ensures { λ r. ⌜ r ≡ emptyOf n ⌝ }
-{
-    Packed {
-        n: n,
-        kinds: [0; MAX_ROWS],
-        a: [0; MAX_ROWS],
-        b: [0; MAX_ROWS],
-    }
-}
-
 // What stands of a reach in the three rows.
 struct Numbers {
     kind: u8,
@@ -76,21 +57,27 @@ fn numbers_of(r: Reach) -> Numbers
     }
 }
 
-// The lent table as rows: its first reaches, as many as there is room for.
-pub fn pack(t: &[Reach]) -> Packed
-    ensures { λ r. ⌜ r ≡ packedOf (now (t .entry)) ⌝ }
+// How many of n reaches go into rows with room for x, y and z.
+fn fitting(n: usize, x: usize, y: usize, z: usize) -> usize
+    ensures { λ r. ⌜ r ≡ fittingOf n x y z ⌝ }
 {
-    let n = held(t.len());
-    let mut p = empty(n);
+    least(z, least(y, least(x, held(n))))
+}
+
+// The lent table goes into the first numbers of lent rows, as many reaches as there is room for; says how many. The rows keep all other numbers.
+pub fn pack_into(t: &[Reach], kinds: &mut [u8], a: &mut [u16], b: &mut [u16]) -> usize
+    ensures { λ r. ⌜ PackedInto (now (t .entry)) (now (kinds .entry)) (now (a .entry)) (now (b .entry)) r (now (kinds .exit)) (now (a .exit)) (now (b .exit)) ⌝ }
+{
+    let n = fitting(t.len(), kinds.len(), a.len(), b.len());
     let mut i = 0;
     while i < n {
         let x = numbers_of(t[i]);
-        p.kinds[i] = x.kind;
-        p.a[i] = x.a;
-        p.b[i] = x.b;
+        kinds[i] = x.kind;
+        a[i] = x.a;
+        b[i] = x.b;
         i = i + 1;
     }
-    p
+    n
 }
 
 // The state that a number of a row stands for.
@@ -123,22 +110,21 @@ fn reach_of(kind: u8, a: u16, b: u16) -> Reach
     Reach { state: s, a, b }
 }
 
-// How many of n reaches go into a table with this room: those that the rows hold, or none where there is no room for n.
-fn stored(n: usize, room: usize) -> usize
-    ensures { λ r. ⌜ r ≡ storedOf n room ⌝ }
+// How many of n reaches go into a table with this room, out of rows that hold x, y and z numbers.
+fn filling(n: usize, x: usize, y: usize, z: usize, room: usize) -> usize
+    ensures { λ r. ⌜ r ≡ fillingOf n x y z room ⌝ }
 {
-    if n <= room { held(n) } else { 0 }
+    least(room, least(z, least(y, least(x, n))))
 }
 
-// The rows go into the first records of the lent table, which keeps all others. A table that is too short keeps them all.
-pub fn unpack(t: &mut [Reach], p: Packed)
-    ensures { λ _. ⌜ now (t .exit) ≡ unpackedInto p (now (t .entry)) ⌝ }
+// The first n reaches of lent rows go into the first records of the lent table, as many as there are and as there is room for. The table keeps all other records.
+pub fn unpack_from(n: usize, kinds: &[u8], a: &[u16], b: &[u16], t: &mut [Reach])
+    ensures { λ _. ⌜ UnpackedFrom n (now (kinds .entry)) (now (a .entry)) (now (b .entry)) (now (t .entry)) (now (t .exit)) ⌝ }
 {
-    let n = p.n;
-    let end = stored(n, t.len());
+    let end = filling(n, kinds.len(), a.len(), b.len(), t.len());
     let mut i = 0;
     while i < end {
-        t[i] = reach_of(p.kinds[i], p.a[i], p.b[i]);
+        t[i] = reach_of(kinds[i], a[i], b[i]);
         i = i + 1;
     }
 }

@@ -1,14 +1,31 @@
 -- `contraction_laws::contracted` meets its contract: the rows have room for every network.
 -- Assumes nothing.
 use native.Mathlib.Omega.{arith}
+use mathlib.Core.Path.{_≡_, sym, _∙_}
+use mathlib.Core.List.{List}
+use lib.ListN.{length, length-map}
+use mir.Val.{Val}
+use denote.Laws.{Is}
 use Rattle.tables.specs.Rows.{netOf}
-use Rattle.packing.proofs.Records.{Sized, sized}
+use Rattle.packing.specs.Rows.{maxRows}
+use Rattle.contraction_laws.specs.declared.NewRows.{NewRows}
+use Rattle.contraction_laws.proofs.NewRows as P
 use Rattle.contraction_laws.proofs.Contractions.{came-out}
 use borrow.Author.Needs.{needs}
 use Rattle.contraction_laws.proofs.contracted.Statement.{statement}
 use Rattle.contraction_laws.proofs.contracted.Tie as tie
 
 -- the length of the rows
+record Sized (p : NewRows) : Type 0 where
+  kinds-long : length (p .kinds) ≡ maxRows
+  a-long : length (p .a) ≡ maxRows
+  b-long : length (p .b) ≡ maxRows
+
+sized : (p : NewRows) (vs : List Val) → Is P.the-row p vs → Sized p
+sized p vs is =
+    let f = is .1 .1 in
+    record { kinds-long = sym (length-map (p .kinds) (λ x. x)) ∙ f .0 .1 .0 .1; a-long = sym (length-map (p .a) (λ x. x)) ∙ f .1 .0 .1 .0 .1; b-long = sym (length-map (p .b) (λ x. x)) ∙ f .1 .1 .0 .1 .0 .1 }
+
 long : (s : tie.Start) → Sized (s .args .rows)
 long s = sized _ _ (s .good .1 .1 .1 .1 .0)
 
