@@ -1,8 +1,8 @@
 -- The search as a whole: its loop's invariant, how it begins, a turn, and what holds at the end.
 -- Assumes nothing.
 use Prim.Native.Nat.{ℕ, zero, suc, _+_, _≤_, _<_}
-use mathlib.Core.Path.{_≡_, refl, sym, ap, subst, _∙_}
-use mathlib.Core.Bool.{Bool, true, false}
+use mathlib.Core.Path.{_≡_, refl, sym, ap, _∙_}
+use mathlib.Core.Bool.{Bool, false}
 use lib.Dec.{ltb}
 use mathlib.Mathlib.Data.Bool.Basic.{bool-eq-false}
 use mathlib.Core.Logic.{_⊎_, inl, inr, ⊎-elim}
@@ -14,14 +14,13 @@ use lib.ListN.{length, getD, set, drop, replicate, length-append, length-drop, l
 use lib.Seq.{getD-set-same, getD-set-other}
 use Rattle.network.specs.Orientations.{Arc, Walk, stay, step, reached}
 use Rattle.lists.specs.Lists.{range}
-use Rattle.lists.proofs.Bools.{clash}
 use Rattle.lists.proofs.Ranges.{length-range, range-has}
 use Rattle.lists.proofs.Searches.{attained-below}
 use Rattle.distances.specs.Distances.{unreached, WalkOf, none-crossed, crossing, fewest, noted}
 use Rattle.distances.proofs.Distances.{walk-of-more, fewest-most, fewest-least, fewest-walk, counted-exactly}
-use Rattle.network.proofs.Walks.{walk-trans, walk-arc, walk-reached, reached-walk}
+use Rattle.network.proofs.Walks.{walk-trans, walk-arc, reached-walk}
 use Rattle.half_edges.specs.Ends.{Next}
-use Rattle.search.specs.Searches.{Seen, Unseen, Visited, first, again, Grown, stay as none-more, more, Scanned, Noted, Meets, meeting, apart}
+use Rattle.search.specs.Searches.{Seen, Unseen, Visited, first, again, Grown, stay as none-more, more, Scanned, Noted}
 use Rattle.search.proofs.Counts.{unseen-le, unseen-set}
 use Rattle.search.proofs.Visits.{Grew, set-news, visited-grew, visited-seen, grown-grew, CountsGrew, grown-counts}
 use Rattle.search.specs.Fronts.{Waits, Sound, Closed, Searching, Counting}
@@ -71,9 +70,6 @@ module _ {n start : ℕ} (seen₀ : List ℕ) {queue filled : List ℕ} where
 
 -- a fresh row is as if it were cleared
 module _ (m : ℕ) (d : List ℕ) (fresh : d ≡ replicate m unreached) where
-  pub fresh-length : length d ≡ m
-  fresh-length = rw (fresh, length-replicate)
-
   pub fresh-cleared : (n : ℕ) → n ≤ m → d ≡ replicate n unreached ++ drop n d
   fresh-cleared n l = rw fresh (split n m unreached l)
     where
@@ -312,42 +308,7 @@ noted-reached {A} {n} {start} seen f b few m v l =
     ap (λ (x : ℕ). ltb x unreached) (m v l)
     ∙ counted-exactly A (range 0 n) (λ u w e. range-has 0 n (omega arith) (omega (arith, f u w e))) start v (range-has 0 n (omega arith) (omega arith)) (omega (arith, length-range 0 n))
 
--- ---- two searches, from both ends
-
--- what the first visit changes, and what a turn changes
-module _ {n start : ℕ} where
-  pub begins-grew : (seen₀ : List ℕ) {queue₀ seen queue : List ℕ} {tail : ℕ} → n ≤ length seen₀ → length seen₀ ≤ length queue₀ → start < n
-      → Visited start 0 (replicate n unreached ++ drop n seen₀) queue₀ 0 seen queue tail → Grew (replicate n unreached ++ drop n seen₀) queue₀ 0 seen queue tail
-  begins-grew seen₀ long room b v =
-      let same = cleared-length n seen₀ long in
-      visited-grew (omega arith) (omega arith) (omega (arith, same, unseen-le (replicate n unreached ++ drop n seen₀))) v
-
-pub scans-grew : {A : List Arc} {n start : ℕ} {seen queue seen′ queue′ : List ℕ} {at tail tail′ count : ℕ} → ((u w : ℕ) → Next A u w → w < n) → count < unreached
-    → Searching A n start seen queue at tail → Scanned A (getD queue at 0) count seen queue tail seen′ queue′ tail′ → Grew seen queue tail seen′ queue′ tail′
-scans-grew {queue} {at} f few s c = grown-grew (λ w m. omega (arith, f (getD queue at 0) w m, s .sound .long)) few (s .sound .room) (c .grown)
-
--- where what is newly queued is not seen by the other search, what is newly seen is not
-pub newly-apart : {seen₀ queue₀ seen queue other : List ℕ} {f tail : ℕ} {r : Bool} → Grew seen₀ queue₀ f seen queue tail → Meets queue f tail other r → r ≡ false
-    → (v : ℕ) → Unseen seen₀ v → Seen seen v → Unseen other v
-newly-apart g (meeting _ _ _ _ e) n v z x = clash e n
-newly-apart {other} g (apart h _) n v z x =
-    ⊎-elim (λ y. absurd (omega (arith, y, z))) (λ w. subst (λ (u : ℕ). Unseen other u) (w .here) (h (w .place) (w .from) (w .below))) (g .news v x)
-
--- and what the other search sees stays unseen
-pub unmet : {seen₀ queue₀ seen queue other : List ℕ} {f tail : ℕ} {r : Bool} → Grew seen₀ queue₀ f seen queue tail → Meets queue f tail other r → r ≡ false
-    → (v : ℕ) → Unseen seen₀ v → Seen other v → Unseen seen v
-unmet {seen} g m n v z y = at (decLt (getD seen v 0) unreached)
-  where
-    at : Dec (Seen seen v) → Unseen seen v
-    at (yes x) = absurd (omega (arith, newly-apart g m n v z x, y))
-    at (no x) = omega arith
-
--- a basin in the queue of the one is seen by the other: the ends are joined through it
-pub joins : {A B : List Arc} {n start goal tail uptail f : ℕ} {seen queue upseen upqueue : List ℕ} {r : Bool} → ((u v : ℕ) → reached B u v ≡ reached A v u)
-    → Sound A n start seen queue tail → Sound B n goal upseen upqueue uptail → Meets queue f tail upseen r → r ≡ true → reached A start goal ≡ true
-joins {A} {goal} {queue} against s t (meeting k _ b x _) e =
-    walk-reached (walk-trans (s .walks k b) (reached-walk A (getD queue k 0) goal (sym (against goal (getD queue k 0)) ∙ walk-reached (t .walked (getD queue k 0) (s .basins k b) x))))
-joins against s t (apart _ n) e = clash e n
+-- ---- one of two searches, from both ends
 
 -- the queue is empty, and the goal is not seen: it is not reached
 pub shut : {A : List Arc} {n start at tail : ℕ} {seen queue : List ℕ} (goal : ℕ) → ((u w : ℕ) → Next A u w → w < n) → start < n → goal < n → tail ≤ at

@@ -2,7 +2,7 @@
 -- Assumes nothing.
 use Prim.Native.Nat.{ℕ, suc, _+_, _≤_, _<_}
 use mathlib.Core.Path.{_≡_}
-use mathlib.Core.Bool.{Bool, true, false, cond}
+use mathlib.Core.Bool.{cond}
 use mathlib.Core.List.{List, [], _∷_}
 use lib.ListN.{length, getD, set}
 use lib.Dec.{ltb}
@@ -66,12 +66,3 @@ pub record Searchable (n : ℕ) (xs ys ws head next : List ℕ) (start : ℕ) (s
 -- reached." What seen holds past the n basins is free, and so is the queue.
 abbrev pub Noted : List Arc → ℕ → ℕ → List ℕ → Type 0
 Noted A n start seen = (v : ℕ) → v < n → getD seen v 0 ≡ fewest A start v
-
--- What stands in a queue at the places below t is a basin below n.
-abbrev pub Queued : List ℕ → ℕ → ℕ → Type 0
-Queued queue t n = (k : ℕ) → k < t → getD queue k 0 < n
-
--- Whether a basin that stands in a queue at a place from f on and below t is seen.
-pub data Meets (queue : List ℕ) (f t : ℕ) (seen : List ℕ) : Bool → Type 0 where
-  meeting : {r : Bool} (k : ℕ) → f ≤ k → k < t → Seen seen (getD queue k 0) → r ≡ true → Meets queue f t seen r
-  apart : {r : Bool} → ((k : ℕ) → f ≤ k → k < t → Unseen seen (getD queue k 0)) → r ≡ false → Meets queue f t seen r

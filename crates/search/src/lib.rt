@@ -11,7 +11,7 @@ use distances::UNREACHED;
 use half_edges::NONE;
 
 // Whether the reach of half-edge h passes away from the basin at which h stands or, against the arrows, towards it.
-fn passes(ways: &[u8], h: u16, against: bool) -> bool
+pub fn passes(ways: &[u8], h: u16, against: bool) -> bool
     requires { ⌜ h / 2 < length (now ways) ⌝ }
     ensures { λ r. ⌜ r ≡ leaves (sided against (now (ways .entry))) h ⌝ }
 {
@@ -23,7 +23,7 @@ fn passes(ways: &[u8], h: u16, against: bool) -> bool
 }
 
 // The basin at the far end of the reach of half-edge h.
-fn far(a: &[u16], b: &[u16], h: u16) -> u16
+pub fn far(a: &[u16], b: &[u16], h: u16) -> u16
     requires { ⌜ h / 2 < length (now a) ⌝ }
     requires { ⌜ h / 2 < length (now b) ⌝ }
     ensures { λ r. ⌜ r ≡ otherOf (now (a .entry)) (now (b .entry)) h ⌝ }

@@ -26,7 +26,7 @@ leads-requires : tie.Need-leads-requires
 leads-requires c κs =
     let s = c .before .before .before .before .before .before .before .before .before .before .before .before .before in
     let ready = ready-ways _ (s .pre .0) (length-set (s .args .ways .now) (s .args .i) 3) in
-    (searchable _ ready (s .pre .0 .table .ends-b (s .args .i) (s .pre .1)), (s .pre .0 .table .ends-a (s .args .i) (s .pre .1), s .pre .0 .few-basins))
+    (searchable _ ready (s .pre .0 .table .ends-b (s .args .i) (s .pre .1)), s .pre .0 .table .ends-a (s .args .i) (s .pre .1))
 
 keep-if-requires : tie.Need-keep-if-requires
 keep-if-requires c κs = let s = c .before .before .before .before .before .before .before .before .before .before .before .before .before .before .before .before .before .before .before in simp length-set (omega (arith, s .pre .1, s .pre .0 .ways-full))
@@ -59,7 +59,7 @@ leads-requires-2 : tie.Need-leads-requires-2
 leads-requires-2 c κs =
     let s = c .before .before .before .before .before .before .before .before .before .before .before .before .before in
     let ready = ready-ways _ (s .pre .0) (length-set (s .args .ways .now) (s .args .i) 3) in
-    (searchable _ ready (s .pre .0 .table .ends-a (s .args .i) (s .pre .1)), (s .pre .0 .table .ends-b (s .args .i) (s .pre .1), s .pre .0 .few-basins))
+    (searchable _ ready (s .pre .0 .table .ends-a (s .args .i) (s .pre .1)), s .pre .0 .table .ends-b (s .args .i) (s .pre .1))
 
 keep-if-requires-2 : tie.Need-keep-if-requires-2
 keep-if-requires-2 c κs = let s = c .before .before .before .before .before .before .before .before .before .before .before .before .before .before .before .before .before .before .before in simp length-set (omega (arith, s .pre .1, s .pre .0 .ways-full))
