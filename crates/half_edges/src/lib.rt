@@ -1,6 +1,7 @@
 // The half-edges of a reach table: reach i gives half-edge 2 i at its end A, and 2 i + 1 at its end B.
 // An index links the half-edges of each basin, so that a search takes time in proportion to basins plus reaches.
 // The functions with a `requires` are for the crates above, which have checked it.
+use network::MAX_REACHES;
 ghost use mathlib.Core.Path.{_≡_};
 ghost use mathlib.Core.List.{_++_};
 ghost use Prim.Native.Nat.{_≤_, _<_};
@@ -8,7 +9,7 @@ ghost use lib.ListN.{length, getD, set, replicate, drop};
 ghost use Rattle.half_edges.specs.Chains.{Index, Indexable};
 
 // The half-edges of the largest table.
-pub const HALF_EDGES: usize = 2048;
+pub const HALF_EDGES: usize = 2 * MAX_REACHES;
 
 // What stands where there is no half-edge.
 pub const NONE: u16 = 65535;

@@ -2,6 +2,8 @@
 -- Assumes nothing.
 use Prim.Native.Nat.{ℕ, zero, suc}
 use mathlib.Core.List.{List, [], _∷_, _++_}
+use Rattle.network.specs.Networks.{maxBasins, maxReaches}
+use Rattle.file_records.specs.Records.{twoBytes}
 
 -- the bytes, so many times
 abbrev pub times : ℕ → List ℕ → List ℕ
@@ -10,8 +12,8 @@ times (suc n) f = f ++ times n f
 
 abbrev pub files : List (List ℕ × ℕ)
 files =
-    -- the head: nothing, part of it, no basin, 256 and 257 basins
-    ([], 4) ∷ (1 ∷ 0 ∷ [], 4) ∷ (1 ∷ 0 ∷ 0 ∷ [], 1) ∷ (1 ∷ 0 ∷ 1 ∷ 9 ∷ [], 0) ∷ (1 ∷ 1 ∷ 1 ∷ 9 ∷ [], 1)
+    -- the head: nothing, part of it, no basin, as many as a network may have, one more
+    ([], 4) ∷ (1 ∷ 0 ∷ [], 4) ∷ (1 ∷ 0 ∷ 0 ∷ [], 1) ∷ ((1 ∷ []) ++ (twoBytes maxBasins ++ (9 ∷ [])), 0) ∷ ((1 ∷ []) ++ (twoBytes (suc maxBasins) ++ (9 ∷ [])), 1)
     -- kinds that may not come, each as the last byte: a reach before the head, a second head, a plan sheet's head, unknown kinds
     ∷ (2 ∷ [], 5) ∷ (1 ∷ 2 ∷ 0 ∷ 1 ∷ [], 5) ∷ (1 ∷ 2 ∷ 0 ∷ 16 ∷ [], 5) ∷ (1 ∷ 2 ∷ 0 ∷ 6 ∷ [], 5) ∷ (1 ∷ 2 ∷ 0 ∷ 200 ∷ [], 5)
     -- the end is due, part of a body is missing, a byte follows the end
@@ -25,12 +27,12 @@ files =
     ∷ (1 ∷ 2 ∷ 0 ∷ 5 ∷ 2 ∷ 0 ∷ 1 ∷ 0 ∷ 2 ∷ 9 ∷ [], 3)
     -- case 3
     ∷ (0x01 ∷ 0x02 ∷ 0x00 ∷ 0x02 ∷ 0x00 ∷ 0x00 ∷ 0x01 ∷ 0x00 ∷ 0x02 ∷ 0x00 ∷ 0x00 ∷ 0x01 ∷ 0x00 ∷ 0x09 ∷ [], 0)
-    -- 1,024 reaches are taken; the next is 5, 4 or 2 by its kind, its body, and its count before its ends
-    ∷ ((1 ∷ 1 ∷ 0 ∷ []) ++ (times 1024 (4 ∷ 0 ∷ 0 ∷ 0 ∷ 0 ∷ []) ++ (9 ∷ [])), 0)
-    ∷ ((1 ∷ 1 ∷ 0 ∷ []) ++ (times 1024 (4 ∷ 0 ∷ 0 ∷ 0 ∷ 0 ∷ []) ++ (1 ∷ [])), 5)
-    ∷ ((1 ∷ 1 ∷ 0 ∷ []) ++ (times 1024 (4 ∷ 0 ∷ 0 ∷ 0 ∷ 0 ∷ []) ++ (4 ∷ 7 ∷ 0 ∷ 0 ∷ [])), 4)
-    ∷ ((1 ∷ 1 ∷ 0 ∷ []) ++ (times 1024 (4 ∷ 0 ∷ 0 ∷ 0 ∷ 0 ∷ []) ++ (4 ∷ 7 ∷ 0 ∷ 0 ∷ 0 ∷ 9 ∷ [])), 2)
+    -- as many reaches as a network may have are taken; the next is 5, 4 or 2 by its kind, its body, and its count before its ends
+    ∷ ((1 ∷ 1 ∷ 0 ∷ []) ++ (times maxReaches (4 ∷ 0 ∷ 0 ∷ 0 ∷ 0 ∷ []) ++ (9 ∷ [])), 0)
+    ∷ ((1 ∷ 1 ∷ 0 ∷ []) ++ (times maxReaches (4 ∷ 0 ∷ 0 ∷ 0 ∷ 0 ∷ []) ++ (1 ∷ [])), 5)
+    ∷ ((1 ∷ 1 ∷ 0 ∷ []) ++ (times maxReaches (4 ∷ 0 ∷ 0 ∷ 0 ∷ 0 ∷ []) ++ (4 ∷ 7 ∷ 0 ∷ 0 ∷ [])), 4)
+    ∷ ((1 ∷ 1 ∷ 0 ∷ []) ++ (times maxReaches (4 ∷ 0 ∷ 0 ∷ 0 ∷ 0 ∷ []) ++ (4 ∷ 7 ∷ 0 ∷ 0 ∷ 0 ∷ 9 ∷ [])), 2)
     -- so it is if it is shut, with its inner kind before its count
-    ∷ ((1 ∷ 1 ∷ 0 ∷ []) ++ (times 1024 (4 ∷ 0 ∷ 0 ∷ 0 ∷ 0 ∷ []) ++ (5 ∷ 7 ∷ 0 ∷ 0 ∷ 0 ∷ 9 ∷ [])), 5)
-    ∷ ((1 ∷ 1 ∷ 0 ∷ []) ++ (times 1024 (4 ∷ 0 ∷ 0 ∷ 0 ∷ 0 ∷ []) ++ (5 ∷ 7 ∷ 0 ∷ 0 ∷ 0 ∷ 3 ∷ [])), 2)
+    ∷ ((1 ∷ 1 ∷ 0 ∷ []) ++ (times maxReaches (4 ∷ 0 ∷ 0 ∷ 0 ∷ 0 ∷ []) ++ (5 ∷ 7 ∷ 0 ∷ 0 ∷ 0 ∷ 9 ∷ [])), 5)
+    ∷ ((1 ∷ 1 ∷ 0 ∷ []) ++ (times maxReaches (4 ∷ 0 ∷ 0 ∷ 0 ∷ 0 ∷ []) ++ (5 ∷ 7 ∷ 0 ∷ 0 ∷ 0 ∷ 3 ∷ [])), 2)
     ∷ []

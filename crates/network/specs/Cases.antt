@@ -1,7 +1,7 @@
 -- The marked cases 1 to 11 of document 01 in one table, cases with shut reaches in another, cases with dry basins in a third, and the bytes of bound gates in a
 -- fourth. proofs/Cases.antt computes them from the definitions.
 -- Assumes nothing.
-use Prim.Native.Nat.{ℕ}
+use Prim.Native.Nat.{ℕ, _-_}
 use mathlib.Core.Path.{_≡_}
 use mathlib.Core.List.{List, [], _∷_}
 use lib.ListN.{replicate}
@@ -28,7 +28,7 @@ T a b = record { state = InService TwoWay; a = a; b = b }
 
 -- marks whose first byte is x, the others 0
 abbrev pub firstByte : ℕ → List ℕ
-firstByte x = x ∷ replicate 31 0
+firstByte x = x ∷ replicate (markBytes - 1) 0
 
 -- A setting and what next replies to it.
 pub record After : Type 0 where

@@ -7,6 +7,7 @@ use mathlib.Core.List.{List, [], _∷_, _++_, append-assoc}
 use lib.ListN.{length, take, drop, set, length-append}
 use lib.Seq.{sets, length-sets, length-take-le}
 use Rattle.network.specs.declared.Refusal.the-variants.{ShortBuffer}
+use Rattle.network.specs.Networks.{maxReaches}
 use Rattle.network.specs.Tables.{tableOf}
 use Rattle.network.specs.Settings.{gatesFrom}
 use Rattle.tables.specs.Rows.{gatesIn}
@@ -54,7 +55,7 @@ module _ (ks s : List ℕ) (fit : Records ks s) where
   abbrev sheet : List ℕ
   sheet = planSheet (gatesRow 0 ks) s
 
-  pub sheet-few : length s ≤ 1024
+  pub sheet-few : length s ≤ maxReaches
   sheet-few = omega (arith, fit .few, fit .full, gates-few 0 ks)
 
   size : length sheet ≡ 3 * length s + 4

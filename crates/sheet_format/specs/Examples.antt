@@ -1,8 +1,8 @@
 -- Sheets on both edges, and the reply sheets of the marked cases. proofs/Examples.antt computes them from the definitions.
 -- Assumes nothing.
-use Prim.Native.Nat.{ℕ}
+use Prim.Native.Nat.{ℕ, suc}
 use mathlib.Core.List.{List, [], _∷_, _++_}
-use Rattle.network.specs.Networks.{Network, net}
+use Rattle.network.specs.Networks.{Network, net, maxBasins}
 use Rattle.network.specs.Services.{shutReach}
 use Rattle.network.specs.Cases.{G, F, T, firstByte, case3}
 
@@ -23,7 +23,7 @@ sheets =
     ∷ (case3, 16 ∷ 2 ∷ 0 ∷ 17 ∷ 0 ∷ 0 ∷ 17 ∷ 1 ∷ 0 ∷ 9 ∷ [], 8)
     ∷ (case3, 16 ∷ 2 ∷ 0 ∷ 18 ∷ 0 ∷ 0 ∷ 18 ∷ 1 ∷ 0 ∷ 9 ∷ [], 8)
     -- the table comes before the sheet
-    ∷ (net 0 [], [], 1) ∷ (net 257 [], [], 1) ∷ (net 2 (G 0 2 ∷ []), [], 3)
+    ∷ (net 0 [], [], 1) ∷ (net (suc maxBasins) [], [], 1) ∷ (net 2 (G 0 2 ∷ []), [], 3)
     -- the head: nothing, part of it, another kind, a wrong number
     ∷ (case3, [], 4) ∷ (case3, 16 ∷ 2 ∷ [], 4) ∷ (case3, 17 ∷ [], 5) ∷ (case3, 20 ∷ [], 5) ∷ (case3, 16 ∷ 3 ∷ 0 ∷ [], 8)
     -- a record: none, part of it, another kind, a wrong reach, one twice, one too many, one too few

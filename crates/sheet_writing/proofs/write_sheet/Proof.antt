@@ -5,12 +5,13 @@ use native.Mathlib.Omega.{arith}
 use mathlib.Core.Path.{_≡_}
 use lib.ListN.{length, drop, length-set, length-take, length-drop}
 use borrow.Author.Needs.{needs}
+use Rattle.network.specs.Networks.{maxReaches}
 use Rattle.sheet_format.proofs.Puts.{sheet-few, sheet-short, head-long, sheet-long, sheet-done}
 use Rattle.sheet_writing.proofs.write_sheet.Statement.{statement}
 use Rattle.sheet_writing.proofs.write_sheet.Tie as tie
 
 -- the setting is short
-few : (s : tie.Start) → length (s .args .setting .now) ≤ 1024
+few : (s : tie.Start) → length (s .args .setting .now) ≤ maxReaches
 few s = sheet-few (s .args .kinds .now) (s .args .setting .now) (s .pre)
 
 -- the head keeps the buffer's length, and there is room after it
