@@ -152,7 +152,7 @@ returns c =
     let t = c .before .before .before .before .before .before in
     let s = entry (t .before) in
     let w = c .before .before .far .ensures in
-    spread-met (t .before .loop .inv) (here t) (s .pre .table .paired) (wide s) (sym (c .before .before .before .before .passes .ensures) ∙ not-false _ (c .before .before .before .if1 .left)) w (leads-in t _ w) (s .pre .seen-length) (c .if2 .taken) refl
+    spread-met (t .before .loop .inv) (here t) (s .pre .table .paired) (wide s) (sym (c .before .before .before .before .passes .ensures) ∙ not-false _ (c .before .before .before .if1 .left)) w (leads-in t _ w) (s .pre .seen-length) (omega (arith, c .if2 .taken)) refl
 
 visit-requires : tie.Need-visit-requires Inv-loop μ-loop
 visit-requires c κs =
@@ -171,7 +171,7 @@ loop-again-2 c =
     let far = c .before .before .before .before .before .before .before .before .before .far .ensures in
     let if2 = c .before .before .before .before .before .before .before .if2 .left in
     let passes = sym (c .before .before .before .before .before .before .before .before .before .before .before .passes .ensures) ∙ not-false _ (c .before .before .before .before .before .before .before .before .before .before .if1 .left) in
-    spread-through (t .before .loop .inv) (leads-in t _ far) (s .pre .low) (s .pre .other) (s .pre .room) if2 (here t) (onward t) (s .pre .table .paired) (wide s) passes far (c .before .before .before .before .visit .ensures)
+    spread-through (t .before .loop .inv) (leads-in t _ far) (s .pre .low) (s .pre .other) (s .pre .room) (λ e. omega (arith, if2, e)) (here t) (onward t) (s .pre .table .paired) (wide s) passes far (c .before .before .before .before .visit .ensures)
 
 same-length-3 : tie.Need-same-length-3 Inv-loop μ-loop
 same-length-3 c = c .before .loop .inv .seen-length ∙ sym (entry (c .before) .pre .seen-length)

@@ -66,7 +66,7 @@ returns : tie.Need-returns Inv-loop μ-loop
 returns c =
     let l = c .before .before in
     let s = entry l in
-    both-shut (swapped (l .loop .inv)) (up-in s) (s .pre .goals) (s .pre .starts) (λ e. s .pre .apart (sym e)) (c .if1 .taken) ∙ against s (s .args .goal) (s .args .start)
+    both-shut (swapped (l .loop .inv)) (up-in s) (s .pre .goals) (s .pre .starts) (λ e. s .pre .apart (sym e)) (omega (arith, c .if1 .taken)) ∙ against s (s .args .goal) (s .args .start)
 
 sub-if2 : tie.Need-sub-if2 Inv-loop μ-loop
 sub-if2 c = omega (arith, c .before .before .loop .inv .mine .placed)
