@@ -61,7 +61,7 @@ module _ (c : ℕ) where
 
 -- ---- what it queued
 
-pub place-below : (up : Bool) (n k : ℕ) → k < n → placeOf up n k < n
+place-below : (up : Bool) (n k : ℕ) → k < n → placeOf up n k < n
 place-below false n k l = l
 place-below true n k l = omega arith
 

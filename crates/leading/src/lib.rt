@@ -17,6 +17,7 @@ use half_edges::NONE;
 fn place(n: usize, k: usize, up: bool) -> usize
     requires { ⌜ k < n ⌝ }
     ensures { λ r. ⌜ r ≡ placeOf up n k ⌝ }
+    ensures { λ r. ⌜ r < n ⌝ }
 {
     if up { n - 1 - k } else { k }
 }

@@ -14,10 +14,10 @@ sub-result-2 : tie.Need-sub-result-2
 sub-result-2 c = omega arith
 
 returns : tie.Need-returns
-returns c = ap (λ (b : Bool). placeOf b (c .before .args .n) (c .before .args .k)) (sym (c .if1 .taken))
+returns c = (ap (λ (b : Bool). placeOf b (c .before .args .n) (c .before .args .k)) (sym (c .if1 .taken)), omega arith)
 
 returns-2 : tie.Need-returns-2
-returns-2 c = ap (λ (b : Bool). placeOf b (c .before .args .n) (c .before .args .k)) (sym (c .if1 .left))
+returns-2 c = (ap (λ (b : Bool). placeOf b (c .before .args .n) (c .before .args .k)) (sym (c .if1 .left)), omega arith)
 
 pub place-spec : {M : Type 1} → statement M
 place-spec = tie.close (tie.spec sub-result sub-result-2 returns returns-2)

@@ -15,7 +15,7 @@ use Rattle.search.specs.Searches.{stay}
 use Rattle.search.proofs.Sides.{length-sided}
 use Rattle.search.proofs.Visits.{grew-none}
 use Rattle.leading.specs.Leads.{ownSeen, placeOf, lane}
-use Rattle.leading.proofs.Lanes.{place-below, lane-read}
+use Rattle.leading.proofs.Lanes.{lane-read}
 use Rattle.leading.proofs.Spreads.{Spreading, spread-past, spread-met, spread-through, spread-on}
 use Rattle.leading.proofs.scan.Statement.{statement}
 use Rattle.leading.proofs.scan.Tie as tie
@@ -37,9 +37,6 @@ Placed s p = p ≡ placeOf (s .args .up) (s .args .n) (s .args .k)
 
 low : (s : tie.Start Inv-loop μ-loop) → s .args .k < s .args .n
 low s = omega (arith, s .pre .waiting, s .pre .room)
-
-here-below : (s : tie.Start Inv-loop μ-loop) (p : ℕ) → Placed s p → p < length (s .args .queue .now)
-here-below s p e = omega (arith, e, place-below (s .args .up) (s .args .n) (s .args .k) (low s), s .pre .queue-length)
 
 basin-at : (s : tie.Start Inv-loop μ-loop) (p : ℕ) → Placed s p → getD (s .args .queue .now) p 0 ≡ getD (lane (s .args .up) (s .args .queue .now)) (s .args .k) 0
 basin-at s p e = lane-read (s .args .up) (s .args .queue .now) (s .args .n) (s .args .k) p (s .pre .queue-length) (low s) e
@@ -70,19 +67,19 @@ place-requires : tie.Need-place-requires Inv-loop μ-loop
 place-requires c κs = low (c .before .before .before .before .before .before .before)
 
 mul-h : tie.Need-mul-h Inv-loop μ-loop
-mul-h c = let s = c .before .before .before .before .before .before .before .before in omega (arith, here-below s _ (c .place .ensures), s .good)
+mul-h c = let s = c .before .before .before .before .before .before .before .before in omega (arith, c .place .ensures .1, s .pre .queue-length, s .good)
 
 slice-read-h : tie.Need-slice-read-h Inv-loop μ-loop
-slice-read-h c = here-below (c .before .before .before .before .before .before .before .before .before) _ (c .before .place .ensures)
+slice-read-h c = let s = c .before .before .before .before .before .before .before .before .before in omega (arith, c .before .place .ensures .1, s .pre .queue-length)
 
 cast-h : tie.Need-cast-h Inv-loop μ-loop
-cast-h c = let s = c .before .before .before .before .before .before .before .before .before in omega (arith, basin-at s _ (c .before .place .ensures), s .pre .basin)
+cast-h c = let s = c .before .before .before .before .before .before .before .before .before in omega (arith, basin-at s _ (c .before .place .ensures .0), s .pre .basin)
 
 mul-h-2 : tie.Need-mul-h-2 Inv-loop μ-loop
-mul-h-2 c = let s = c .before .before .before .before .before .before .before .before .before in omega (arith, basin-at s _ (c .before .place .ensures), s .pre .basin)
+mul-h-2 c = let s = c .before .before .before .before .before .before .before .before .before in omega (arith, basin-at s _ (c .before .place .ensures .0), s .pre .basin)
 
 shared-slice-read-h : tie.Need-shared-slice-read-h Inv-loop μ-loop
-shared-slice-read-h c = let s = c .before .before .before .before .before .before .before .before .before .before in omega (arith, basin-at s _ (c .before .before .place .ensures), s .pre .basin, s .pre .index)
+shared-slice-read-h c = let s = c .before .before .before .before .before .before .before .before .before .before in omega (arith, basin-at s _ (c .before .before .place .ensures .0), s .pre .basin, s .pre .index)
 
 loop-holds : tie.Need-loop-holds Inv-loop μ-loop
 loop-holds c =
@@ -91,7 +88,7 @@ loop-holds c =
       scanning = record {
         x = halves (s .args .a .now);
         within = omega arith;
-        chain = subst (λ (v : ℕ). Last (s .args .a .now) (s .args .b .now) (halves (s .args .a .now)) (getD (lane (s .args .up) (s .args .queue .now)) (s .args .k) 0) (getD (s .args .head .now) v 0)) (sym (basin-at s _ (c .before .before .place .ensures))) (s .pre .index .heads (getD (lane (s .args .up) (s .args .queue .now)) (s .args .k) 0) (s .pre .basin));
+        chain = subst (λ (v : ℕ). Last (s .args .a .now) (s .args .b .now) (halves (s .args .a .now)) (getD (lane (s .args .up) (s .args .queue .now)) (s .args .k) 0) (getD (s .args .head .now) v 0)) (sym (basin-at s _ (c .before .before .place .ensures .0))) (s .pre .index .heads (getD (lane (s .args .up) (s .args .queue .now)) (s .args .k) 0) (s .pre .basin));
         done = λ k l m. absurd (omega arith);
         grown = stay;
         grew = grew-none (ownSeen (s .args .c) (s .args .seen .now)) (lane (s .args .up) (s .args .queue .now)) (s .args .tail) (s .pre .lane-room);

@@ -5,18 +5,13 @@ use borrow.Author.Needs.{needs}
 use native.Mathlib.Omega.{arith}
 use Rattle.search.specs.Searches.{Unseen, unseen}
 use Rattle.search.proofs.Counts.{unseen-set}
-use Rattle.leading.specs.Leads.{placeOf, first, again}
-use Rattle.leading.proofs.Lanes.{place-below}
+use Rattle.leading.specs.Leads.{first, again}
 use Rattle.leading.proofs.visit.Statement.{statement}
 use Rattle.leading.proofs.visit.Tie as tie
 
 -- a basin that is not seen leaves a place
 room : (s : tie.Start) → Unseen (s .args .seen .now) (s .args .w) → s .args .tail < s .args .n
 room s e = omega (arith, s .pre .1 .1 .1, unseen-set (s .args .seen .now) (s .args .w) (s .args .c) (s .pre .0) (s .pre .1 .0) e)
-
--- which is one of the queue
-below : (s : tie.Start) → Unseen (s .args .seen .now) (s .args .w) → placeOf (s .args .up) (s .args .n) (s .args .tail) < s .args .n
-below s e = place-below (s .args .up) (s .args .n) (s .args .tail) (room s e)
 
 mul-if1 : tie.Need-mul-if1
 mul-if1 c = search needs
@@ -34,10 +29,10 @@ place-requires : tie.Need-place-requires
 place-requires c κs = room (c .before .before .before .before) (c .if1 .taken)
 
 mul-queue : tie.Need-mul-queue
-mul-queue c = let s = c .before .before .before .before .before in omega (arith, c .place .ensures, below s (c .before .if1 .taken), s .pre .1 .1 .0, s .good)
+mul-queue c = let s = c .before .before .before .before .before in omega (arith, c .place .ensures .1, s .pre .1 .1 .0, s .good)
 
 slice-write-queue : tie.Need-slice-write-queue
-slice-write-queue c = let s = c .before .before .before .before .before in omega (arith, c .place .ensures, below s (c .before .if1 .taken), s .pre .1 .1 .0)
+slice-write-queue c = let s = c .before .before .before .before .before in omega (arith, c .place .ensures .1, s .pre .1 .1 .0)
 
 add-result : tie.Need-add-result
 add-result c = let s = c .before .before .before .before .before in omega (arith, room s (c .before .if1 .taken))
@@ -49,7 +44,7 @@ same-length-2 : tie.Need-same-length-2
 same-length-2 c = search needs
 
 returns : tie.Need-returns
-returns c = rw (c .place .ensures) (first (c .before .if1 .taken))
+returns c = rw (c .place .ensures .0) (first (c .before .if1 .taken))
 
 returns-2 : tie.Need-returns-2
 returns-2 c = again (omega arith)
