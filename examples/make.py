@@ -8,6 +8,11 @@ Each run writes the same bytes. examples/README.md says what each network is and
 
 import os
 
+# The limits: the basins and reaches that a network may have, and the bytes of a file that the lister reads.
+BASINS = 256
+REACHES = 1024
+READ = 8000
+
 # Name: basins, reaches. G gated, F flap, T two-way; g, f, t the same, shut for works. "G 0-1" has A = 0 and B = 1.
 NETWORKS = {
     # The marked cases of document 01, and its case 13.
@@ -135,7 +140,7 @@ def dug_ahead():
 
 
 def limits():
-    """256 basins and 1,024 gates, ends from a fixed sequence; every fourth is one of a ring, so that no reach is lone."""
+    """As many basins and gates as a network may have, ends from a fixed sequence; one gate of each basin's share is one of a ring, so that no reach is lone."""
     x = 1
 
     def drawn(below):
@@ -144,12 +149,12 @@ def limits():
         return x // 65536 % below
 
     result = []
-    for v in range(256):
-        ring = (v, (v + 1) % 256)
+    for v in range(BASINS):
+        ring = (v, (v + 1) % BASINS)
         result.append(("G", *ring) if drawn(2) == 0 else ("G", *reversed(ring)))
-        for _ in range(3):
-            result.append(("G", drawn(256), drawn(256)))
-    return 256, result
+        for _ in range(REACHES // BASINS - 1):
+            result.append(("G", drawn(BASINS), drawn(BASINS)))
+    return BASINS, result
 
 
 def network_file(basins, table):

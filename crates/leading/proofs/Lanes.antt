@@ -77,7 +77,7 @@ place-other true n j k l e = omega arith
 pub lane-length : (up : Bool) (queue : List ℕ) → length (lane up queue) ≡ length queue
 lane-length up queue = length-map (range 0 (length queue)) (λ k. getD queue (placeOf up (length queue) k) 0) ∙ length-range 0 (length queue)
 
-pub lane-at : (up : Bool) (queue : List ℕ) (k : ℕ) → k < length queue → getD (lane up queue) k 0 ≡ getD queue (placeOf up (length queue) k) 0
+lane-at : (up : Bool) (queue : List ℕ) (k : ℕ) → k < length queue → getD (lane up queue) k 0 ≡ getD queue (placeOf up (length queue) k) 0
 lane-at up queue k l = map-range-at (λ j. getD queue (placeOf up (length queue) j) 0) 0 0 (length queue) k l ∙ ap (λ j. getD queue (placeOf up (length queue) j) 0) (omega arith)
 
 module _ (up : Bool) (queue : List ℕ) (k w : ℕ) (l : k < length queue) where

@@ -54,7 +54,7 @@ module _ {A : List Arc} {n start : ℕ} where
 
 -- after the notes are cleared, nothing is seen
 module _ (n : ℕ) (d : List ℕ) (long : n ≤ length d) where
-  pub cleared-length : length (replicate n unreached ++ drop n d) ≡ length d
+  cleared-length : length (replicate n unreached ++ drop n d) ≡ length d
   cleared-length = simp (length-append, length-replicate, length-drop) (omega arith)
 
   pub cleared : (v : ℕ) → v < n → getD (replicate n unreached ++ drop n d) v 0 ≡ unreached
