@@ -13,6 +13,7 @@ use lines::put_more;
 use lines::put_plan;
 use lines::put_refused;
 use listing_state::Filled;
+use listing_state::Line;
 use listing_state::Lister;
 use network::MAX_BASINS;
 use network::MAX_REACHES;
@@ -29,28 +30,31 @@ ghost use Rattle.finder.specs.Rooms.{Space};
 ghost use Rattle.lines.specs.Puts.{Put};
 ghost use Rattle.series_channels.specs.Channels.{Guiding};
 ghost use Rattle.listing.specs.Keeping.{Kept};
-ghost use Rattle.listing_state.specs.Pending.{lineOf, stateNet, Filling};
-ghost use Rattle.tables.specs.Rows.{gatesHeld};
+ghost use Rattle.listing_state.specs.Pending.{holding, lineOf, Filling};
+ghost use Rattle.tables.specs.Rows.{netOf, gatesHeld};
 ghost use Rattle.listing_state.specs.Parts.{LineAfter, Turned};
 
-// A state of the lister; and, of its working memory, the first reach of those that were looked at for bound gates (no promise rests on it).
+// A line; and, of the working memory, the first reach of those that were looked at for bound gates (no promise rests on it).
 struct Turn {
-    lister: Lister,
+    line: Line,
     known: usize,
 }
 
-// Puts what is left of a state's line, as much as the buffer holds. The plan in hand has g bytes.
-fn put_line(l: Lister, g: usize, out: &mut [u8]) -> usize
-    requires { ⌜ g ≤ maxReaches ⌝ }
-    ensures { λ r. ⌜ Put (drop (l .at) (lineOf (l .due) (take g (l .setting)))) (now (out .entry)) (now (out .exit)) r ⌝ }
+// The line after so many bytes were put into the buffer.
+struct Laid {
+    line: Line,
+    count: usize,
+}
+
+// Puts what is left of a line, as much as the buffer holds. The plan in hand has g bytes.
+fn put_line(l: Line, setting: &[u8], g: usize, out: &mut [u8]) -> usize
+    requires { ⌜ g ≤ length (now setting) ⌝ }
+    ensures { λ r. ⌜ Put (drop (l .at) (lineOf (l .due) (take g (now (setting .entry))))) (now (out .entry)) (now (out .exit)) r ⌝ }
 {
     let at = l.at;
     let due = l.due;
     match due {
-        Due::Plan(_) => {
-            let setting = l.setting;
-            put_plan(&setting[..g], at, out)
-        }
+        Due::Plan(_) => put_plan(&setting[..g], at, out),
         Due::More => put_more(at, out),
         Due::End => put_end(at, out),
         Due::Refused(n) => put_refused(n, at, out),
@@ -60,7 +64,8 @@ fn put_line(l: Lister, g: usize, out: &mut [u8]) -> usize
 // The state after the line of a plan: by a step where the working memory stands at the plan in hand, which it then does again, and else by asking: the
 // working memory is then free, as it was. Gates that are found bound are tried no more, and gates that another reach guides without a search.
 fn line_after(
-    l: Lister,
+    l: Line,
+    setting: &mut [u8],
     left: usize,
     g: usize,
     standing: bool,
@@ -77,12 +82,14 @@ fn line_after(
     seen: &mut [u16; MAX_BASINS],
     queue: &mut [u16; MAX_BASINS],
 ) -> Turn
-    requires { ⌜ g ≡ gatesHeld (stateNet l (now kinds) (now a) (now b)) ⌝ }
-    requires { ⌜ Kept (l .basins) (now kinds) (now tried) (now a) (now b) (Due.Plan left) (take g (l .setting)) (now under) (now ways) (now head) (now next)
+    requires { ⌜ g ≡ gatesHeld (netOf (l .basins) (now kinds) (now a) (now b)) ⌝ }
+    requires { ⌜ Kept (l .basins) (now kinds) (now tried) (now a) (now b) (Due.Plan left) (take g (now setting)) (now under) (now ways) (now head) (now next)
         (now seen) (now queue) standing ⌝ }
+    requires { ⌜ length (now setting) ≡ maxReaches ⌝ }
     requires { ⌜ Guiding (now kinds) (now a) (now b) (now guide) ⌝ }
-    ensures { λ r. ⌜ LineAfter (stateNet l (now (kinds .entry)) (now (a .entry)) (now (b .entry))) l left (r .lister) ⌝ }
-    ensures { λ r. ⌜ Kept (l .basins) (now (kinds .entry)) (now (tried .exit)) (now (a .entry)) (now (b .entry)) (r .lister .due) (take g (r .lister .setting))
+    ensures { λ r. ⌜ LineAfter (netOf (l .basins) (now (kinds .entry)) (now (a .entry)) (now (b .entry))) (holding l (now (setting .entry))) left
+        (holding (r .line) (now (setting .exit))) ⌝ }
+    ensures { λ r. ⌜ Kept (l .basins) (now (kinds .entry)) (now (tried .exit)) (now (a .entry)) (now (b .entry)) (r .line .due) (take g (now (setting .exit)))
         (now (under .exit)) (now (ways .exit)) (now (head .entry)) (now (next .entry)) (now (seen .exit)) (now (queue .exit)) standing ⌝ }
 {
     if standing {
@@ -105,20 +112,18 @@ fn line_after(
             seen,
             queue,
         );
-        let lister = after_step(l, left, g, r, kinds, ways);
-        return Turn {
-            lister,
-            known: noted,
-        };
+        let line = after_step(l, setting, left, g, r, kinds, ways);
+        return Turn { line, known: noted };
     }
-    let lister = asked(l, left, g, kinds, a, b);
-    Turn { lister, known }
+    let line = asked(l, setting, left, g, kinds, a, b);
+    Turn { line, known }
 }
 
 // The state with something left of its line, if anything is left: where the line of a plan is printed, the state after it. What it leaves in working memory
 // is as `line_after` says.
 fn turned(
-    l: Lister,
+    l: Line,
+    setting: &mut [u8],
     g: usize,
     standing: bool,
     known: usize,
@@ -134,21 +139,24 @@ fn turned(
     seen: &mut [u16; MAX_BASINS],
     queue: &mut [u16; MAX_BASINS],
 ) -> Turn
-    requires { ⌜ g ≡ gatesHeld (stateNet l (now kinds) (now a) (now b)) ⌝ }
-    requires { ⌜ Kept (l .basins) (now kinds) (now tried) (now a) (now b) (l .due) (take g (l .setting)) (now under) (now ways) (now head) (now next)
+    requires { ⌜ g ≡ gatesHeld (netOf (l .basins) (now kinds) (now a) (now b)) ⌝ }
+    requires { ⌜ Kept (l .basins) (now kinds) (now tried) (now a) (now b) (l .due) (take g (now setting)) (now under) (now ways) (now head) (now next)
         (now seen) (now queue) standing ⌝ }
+    requires { ⌜ length (now setting) ≡ maxReaches ⌝ }
     requires { ⌜ Guiding (now kinds) (now a) (now b) (now guide) ⌝ }
-    ensures { λ r. ⌜ Turned (stateNet l (now (kinds .entry)) (now (a .entry)) (now (b .entry))) l (r .lister) ⌝ }
-    ensures { λ r. ⌜ Kept (l .basins) (now (kinds .entry)) (now (tried .exit)) (now (a .entry)) (now (b .entry)) (r .lister .due) (take g (r .lister .setting))
+    ensures { λ r. ⌜ Turned (netOf (l .basins) (now (kinds .entry)) (now (a .entry)) (now (b .entry))) (holding l (now (setting .entry)))
+        (holding (r .line) (now (setting .exit))) ⌝ }
+    ensures { λ r. ⌜ Kept (l .basins) (now (kinds .entry)) (now (tried .exit)) (now (a .entry)) (now (b .entry)) (r .line .due) (take g (now (setting .exit)))
         (now (under .exit)) (now (ways .exit)) (now (head .entry)) (now (next .entry)) (now (seen .exit)) (now (queue .exit)) standing ⌝ }
 {
     let due = l.due;
     match due {
         Due::Plan(left) => if l.at < plan_length(g) {
-            Turn { lister: l, known }
+            Turn { line: l, known }
         } else {
             line_after(
                 l,
+                setting,
                 left,
                 g,
                 standing,
@@ -166,15 +174,16 @@ fn turned(
                 queue,
             )
         },
-        Due::More => Turn { lister: l, known },
-        Due::End => Turn { lister: l, known },
-        Due::Refused(_) => Turn { lister: l, known },
+        Due::More => Turn { line: l, known },
+        Due::End => Turn { line: l, known },
+        Due::Refused(_) => Turn { line: l, known },
     }
 }
 
 // Fills a buffer line by line, in working memory that stands at the plan in hand, if it does. What it leaves there is free.
 fn print_lines(
-    l: Lister,
+    l: Line,
+    setting: &mut [u8],
     g: usize,
     standing: bool,
     guide: &[u16],
@@ -189,19 +198,22 @@ fn print_lines(
     next: &[u16; HALF_EDGES],
     seen: &mut [u16; MAX_BASINS],
     queue: &mut [u16; MAX_BASINS],
-) -> Filled
-    requires { ⌜ g ≡ gatesHeld (stateNet l (now kinds) (now a) (now b)) ⌝ }
-    requires { ⌜ Kept (l .basins) (now kinds) (now tried) (now a) (now b) (l .due) (take g (l .setting)) (now under) (now ways) (now head) (now next)
+) -> Laid
+    requires { ⌜ g ≡ gatesHeld (netOf (l .basins) (now kinds) (now a) (now b)) ⌝ }
+    requires { ⌜ Kept (l .basins) (now kinds) (now tried) (now a) (now b) (l .due) (take g (now setting)) (now under) (now ways) (now head) (now next)
         (now seen) (now queue) standing ⌝ }
+    requires { ⌜ length (now setting) ≡ maxReaches ⌝ }
     requires { ⌜ Guiding (now kinds) (now a) (now b) (now guide) ⌝ }
-    ensures { λ r. ⌜ Filling l (now (kinds .entry)) (now (a .entry)) (now (b .entry)) (now (out .entry)) (now (out .exit)) r ⌝ }
+    ensures { λ r. ⌜ Filling (holding l (now (setting .entry))) (now (kinds .entry)) (now (a .entry)) (now (b .entry)) (now (out .entry)) (now (out .exit))
+        (record { lister = holding (r .line) (now (setting .exit)); count = r .count }) ⌝ }
 {
-    let mut state = l;
+    let mut line = l;
     let mut known = kinds.len();
     let mut n = 0;
     while n < out.len() {
         let turn = turned(
-            state,
+            line,
+            setting,
             g,
             standing,
             known,
@@ -217,27 +229,22 @@ fn print_lines(
             seen,
             queue,
         );
-        state = turn.lister;
+        line = turn.line;
         known = turn.known;
-        let k = put_line(state, g, &mut out[n..]);
+        let k = put_line(line, setting, g, &mut out[n..]);
         if k == 0 {
-            return Filled {
-                lister: state,
-                count: n,
-            };
+            return Laid { line, count: n };
         }
-        state.at += k;
+        line.at += k;
         n += k;
     }
-    Filled {
-        lister: state,
-        count: n,
-    }
+    Laid { line, count: n }
 }
 
 // The same with lent working memory, which is prepared if the plan in hand is one: the ways, the index and the channels. What it leaves there is free.
 fn fill_in(
-    l: Lister,
+    l: Line,
+    setting: &mut [u8],
     kinds: &[u8],
     a: &[u16],
     b: &[u16],
@@ -250,17 +257,18 @@ fn fill_in(
     next: &mut [u16; HALF_EDGES],
     seen: &mut [u16; MAX_BASINS],
     queue: &mut [u16; MAX_BASINS],
-) -> Filled
+) -> Laid
     requires { ⌜ Space (now ways) (now head) (now next) (now seen) (now queue) ⌝ }
+    requires { ⌜ length (now setting) ≡ maxReaches ⌝ }
     requires { ⌜ length (now guide) ≡ maxReaches ⌝ }
     requires { ⌜ length (now tried) ≡ maxReaches ⌝ }
     requires { ⌜ length (now under) ≡ maxReaches ⌝ }
-    ensures { λ r. ⌜ Filling l (now (kinds .entry)) (now (a .entry)) (now (b .entry)) (now (out .entry)) (now (out .exit)) r ⌝ }
+    ensures { λ r. ⌜ Filling (holding l (now (setting .entry))) (now (kinds .entry)) (now (a .entry)) (now (b .entry)) (now (out .entry)) (now (out .exit))
+        (record { lister = holding (r .line) (now (setting .exit)); count = r .count }) ⌝ }
 {
     let g = gates_held(kinds, a, b);
     let m = least(kinds.len(), MAX_REACHES);
     let basins = l.basins;
-    let setting = l.setting;
     let oriented = &mut ways[..m];
     let standing = prime(basins, kinds, a, b, &setting[..g], oriented, head, next);
     let all = &mut tried[..m];
@@ -268,6 +276,7 @@ fn fill_in(
     let k = find_if(standing, basins, kinds, a, b, head, next, guide);
     print_lines(
         l,
+        setting,
         g,
         standing,
         &guide[..k],
@@ -285,9 +294,18 @@ fn fill_in(
     )
 }
 
-// Puts the first bytes of what is still to be printed into the buffer, as many as it holds. The rows are the network's.
-pub fn fill(l: Lister, kinds: &[u8], a: &[u16], b: &[u16], out: &mut [u8]) -> Filled
-    ensures { λ r. ⌜ Filling l (now (kinds .entry)) (now (a .entry)) (now (b .entry)) (now (out .entry)) (now (out .exit)) r ⌝ }
+// The same, with working memory of its own.
+fn fill_lines(
+    l: Line,
+    setting: &mut [u8],
+    kinds: &[u8],
+    a: &[u16],
+    b: &[u16],
+    out: &mut [u8],
+) -> Laid
+    requires { ⌜ length (now setting) ≡ maxReaches ⌝ }
+    ensures { λ r. ⌜ Filling (holding l (now (setting .entry))) (now (kinds .entry)) (now (a .entry)) (now (b .entry)) (now (out .entry)) (now (out .exit))
+        (record { lister = holding (r .line) (now (setting .exit)); count = r .count }) ⌝ }
 {
     let mut guide = [0u16; MAX_REACHES];
     let mut tried = [0u8; MAX_REACHES];
@@ -299,6 +317,7 @@ pub fn fill(l: Lister, kinds: &[u8], a: &[u16], b: &[u16], out: &mut [u8]) -> Fi
     let mut queue = [0u16; MAX_BASINS];
     fill_in(
         l,
+        setting,
         kinds,
         a,
         b,
@@ -312,4 +331,30 @@ pub fn fill(l: Lister, kinds: &[u8], a: &[u16], b: &[u16], out: &mut [u8]) -> Fi
         &mut seen,
         &mut queue,
     )
+}
+
+// Puts the first bytes of what is still to be printed into the buffer, as many as it holds. The rows are the network's.
+pub fn fill(l: Lister, kinds: &[u8], a: &[u16], b: &[u16], out: &mut [u8]) -> Filled
+    ensures { λ r. ⌜ Filling l (now (kinds .entry)) (now (a .entry)) (now (b .entry)) (now (out .entry)) (now (out .exit)) r ⌝ }
+{
+    let due = l.due;
+    let line = Line {
+        basins: l.basins,
+        due,
+        at: l.at,
+    };
+    let mut setting = l.setting;
+    let laid = fill_lines(line, &mut setting, kinds, a, b, out);
+    let after = laid.line;
+    let due = after.due;
+    let lister = Lister {
+        basins: after.basins,
+        due,
+        at: after.at,
+        setting,
+    };
+    Filled {
+        lister,
+        count: laid.count,
+    }
 }

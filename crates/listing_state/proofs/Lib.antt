@@ -1,4 +1,3 @@
 -- The laws of the lister's state.
-pub mod Sizes
 pub mod States
 pub mod Starts

@@ -130,15 +130,16 @@ first-state n ks xs ys w marks size room due written =
     let N = netOf n ks xs ys in
     record { basins-kept = refl; lines = replied N w marks maxPlans size room due (firstReply N) (first-gives N maxReaches markBytes) written n }
 
-pub next-state : (l : Lister) (ks xs ys marks : List ℕ) (left : ℕ) {g : ℕ} {bytes marks′ : List ℕ} {r : Answer} {d : Due} → length (l .setting) ≡ maxReaches → length marks ≡ markBytes → d ≡ dueOf r left
-    → g ≡ gatesHeld (stateNet l ks xs ys) → Replied (nextReply (stateNet l ks xs ys) (take g (l .setting)) (length (l .setting)) (length marks)) (l .setting) marks bytes marks′ r
+pub next-state : (l : Lister) (ks xs ys marks : List ℕ) (left : ℕ) {g : ℕ} {old bytes marks′ : List ℕ} {r : Answer} {d : Due} → length (l .setting) ≡ maxReaches → length marks ≡ markBytes → d ≡ dueOf r left
+    → g ≡ gatesHeld (stateNet l ks xs ys) → old ≡ l .setting → Replied (nextReply (stateNet l ks xs ys) (take g old) (length (l .setting)) (length marks)) (l .setting) marks bytes marks′ r
     → LineAfter (stateNet l ks xs ys) l left (record { basins = l .basins; due = d; at = 0; setting = bytes })
-next-state l ks xs ys marks left {g} size room due held written =
+next-state l ks xs ys marks left {g} {old} size room due held same written =
     let N = stateNet l ks xs ys in
     record {
       basins-kept = refl;
       begun = refl;
       lines =
-          replied N (l .setting) marks left size room due (nextReply N (take g (l .setting))) (next-gives N maxReaches markBytes (take g (l .setting))) written (l .basins)
+          replied N (l .setting) marks left size room due (nextReply N (take g old)) (next-gives N maxReaches markBytes (take g old)) written (l .basins)
+          ∙ ap (λ (s : List ℕ). replyLines N left (nextReply N (take g s) maxReaches markBytes)) same
           ∙ ap (λ (k : ℕ). replyLines N left (nextReply N (take k (l .setting)) maxReaches markBytes)) held;
     }

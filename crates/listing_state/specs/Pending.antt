@@ -16,8 +16,13 @@ use Rattle.lines.specs.declared.Due.the-variants as D
 use Rattle.lines.specs.Listings.{maxBytes, line, planText, endText, moreText, refusedText, replyLines, readingLines}
 use Rattle.lines.specs.Puts.{Put}
 use Rattle.listing_state.specs.declared.Lister.{Lister}
+use Rattle.listing_state.specs.declared.Line.{Line}
 use Rattle.listing_state.specs.declared.Started.{Started}
 use Rattle.listing_state.specs.declared.Filled.{Filled}
+
+-- The state of a line and a plan in hand that is lent beside it.
+abbrev pub holding : Line → List ℕ → Lister
+holding l s = record { basins = l .basins; due = l .due; at = l .at; setting = s }
 
 -- The line that is being printed; s is the plan in hand.
 abbrev pub lineOf : Due → List ℕ → List ℕ

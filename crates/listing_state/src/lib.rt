@@ -25,6 +25,13 @@ pub struct Lister {
     pub setting: [u8; MAX_REACHES],
 }
 
+// The same without the plan in hand, which is lent beside it while lines are printed.
+pub struct Line {
+    pub basins: u16,
+    pub due: Due,
+    pub at: usize,
+}
+
 // The state in which nothing is printed, and the number of reaches in the rows.
 pub struct Started {
     pub lister: Lister,

@@ -1,11 +1,9 @@
 -- `listing::put_line` meets its contract, line by line.
 -- Assumes nothing.
-use native.Mathlib.Omega.{arith}
 use mathlib.Core.Path.{sym, ap}
 use lib.ListN.{take, drop}
 use lib.Seq.{length-take-le}
 use Rattle.listing_state.specs.Pending.{lineOf}
-use Rattle.listing_state.proofs.Sizes.{lister-size}
 use Rattle.lines.proofs.Puts.{put-same}
 use borrow.Author.Needs.{needs}
 use Rattle.listing.proofs.put_line.Statement.{statement}
@@ -14,11 +12,8 @@ use Rattle.listing.proofs.put_line.Tie as tie
 enum-told : tie.Need-enum-told
 enum-told c = search needs
 
-array-share-prefix-setting : tie.Need-array-share-prefix-setting
-array-share-prefix-setting c = let s = c .before .before .before .before in omega (arith, lister-size (s .args .l) (s .good .0))
-
 slice-aggregate-put-plan : tie.Need-slice-aggregate-put-plan
-slice-aggregate-put-plan c = let s = c .before .before .before .before .before in sym (length-take-le _ (s .args .l .setting) (omega (arith, lister-size (s .args .l) (s .good .0))))
+slice-aggregate-put-plan c = sym (length-take-le _ (c .before .before .before .before .before .args .setting .now) (c .before .before .before .before .before .pre))
 
 put-plan-requires : tie.Need-put-plan-requires
 put-plan-requires c κs = search needs
@@ -45,32 +40,31 @@ same-length : tie.Need-same-length
 same-length c = search needs
 
 returns : tie.Need-returns
-returns c = let s = c .before .before .before .before .before .before .before .before .before .args in put-same (ap (λ d. drop (s .l .at) (lineOf d (take (s .g) (s .l .setting)))) (sym (c .before .before .before .before .before .before .enum-told .given .1))) (c .before .before .put-plan .ensures)
+returns c = let s = c .before .before .before .before .before .before .before .before .before .args in put-same (ap (λ d. drop (s .l .at) (lineOf d (take (s .g) (s .setting .now)))) (sym (c .before .before .before .before .before .enum-told .given .1))) (c .before .before .put-plan .ensures)
 
 same-length-2 : tie.Need-same-length-2
 same-length-2 c = search needs
 
 returns-2 : tie.Need-returns-2
-returns-2 c = let s = c .before .before .before .before .before .before .before .args in put-same (ap (λ d. drop (s .l .at) (lineOf d (take (s .g) (s .l .setting)))) (sym (c .before .before .before .before .enum-told2 .given .1))) (c .before .before .put-more .ensures)
+returns-2 c = let s = c .before .before .before .before .before .before .before .before .args in put-same (ap (λ d. drop (s .l .at) (lineOf d (take (s .g) (s .setting .now)))) (sym (c .before .before .before .before .enum-told2 .given .1))) (c .before .before .put-more .ensures)
 
 same-length-3 : tie.Need-same-length-3
 same-length-3 c = search needs
 
 returns-3 : tie.Need-returns-3
-returns-3 c = let s = c .before .before .before .before .before .before .before .args in put-same (ap (λ d. drop (s .l .at) (lineOf d (take (s .g) (s .l .setting)))) (sym (c .before .before .before .before .enum-told3 .given .1))) (c .before .before .put-end .ensures)
+returns-3 c = let s = c .before .before .before .before .before .before .before .before .args in put-same (ap (λ d. drop (s .l .at) (lineOf d (take (s .g) (s .setting .now)))) (sym (c .before .before .before .before .enum-told3 .given .1))) (c .before .before .put-end .ensures)
 
 same-length-4 : tie.Need-same-length-4
 same-length-4 c = search needs
 
 returns-4 : tie.Need-returns-4
-returns-4 c = let s = c .before .before .before .before .before .before .before .before .args in put-same (ap (λ d. drop (s .l .at) (lineOf d (take (s .g) (s .l .setting)))) (sym (c .before .before .before .before .before .due .given .1))) (c .before .before .put-refused .ensures)
+returns-4 c = let s = c .before .before .before .before .before .before .before .before .before .args in put-same (ap (λ d. drop (s .l .at) (lineOf d (take (s .g) (s .setting .now)))) (sym (c .before .before .before .before .before .due .given .1))) (c .before .before .put-refused .ensures)
 
 pub put-line-spec : {M : Type 1} → statement M
 put-line-spec =
     tie.close
     (tie.spec
     enum-told
-    array-share-prefix-setting
     slice-aggregate-put-plan
     put-plan-requires
     enum-told-2
