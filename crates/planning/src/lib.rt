@@ -1,4 +1,4 @@
-// The first plan and the check of a setting of an accepted table whose rows are of one length, each in working memory of its own.
+// The first plan and the check of a setting of an accepted table whose rows are of one length.
 // These functions are for the planner's calls; what they require those have checked. What the `.._in` leave in working memory is free.
 use half_edges::HALF_EDGES;
 use network::MAX_BASINS;
@@ -16,7 +16,7 @@ ghost use Rattle.replies.specs.Answers.{Replied};
 ghost use Rattle.replies.specs.Reports.{Lent};
 
 // The first plan of an accepted table whose rows are of one length, or its finding, in lent working memory. The buffers are long enough.
-fn first_in(
+pub fn first_in(
     n: usize,
     kinds: &[u8],
     a: &[u16],
@@ -38,39 +38,6 @@ fn first_in(
     let oriented = &mut ways[..m];
     let found = finder::find_first(n, kinds, a, b, oriented, head, next, seen, queue);
     report(found, n, kinds, oriented, seen, plan, marks)
-}
-
-// The same, with working memory of its own.
-pub fn first_accepted(
-    n: usize,
-    kinds: &[u8],
-    a: &[u16],
-    b: &[u16],
-    plan: &mut [u8],
-    marks: &mut [u8],
-) -> Reply
-    requires { ⌜ Lent n (now kinds) (now a) (now b) (now plan) (now marks) ⌝ }
-    ensures { λ r. ⌜ Replied (firstAnswer (netOf n (now (kinds .entry)) (now (a .entry)) (now (b .entry)))) (now (plan .entry))
-        (now (marks .entry)) (now (plan .exit)) (now (marks .exit)) (Answer.Given r) ⌝ }
-{
-    let mut ways = [0u8; MAX_REACHES];
-    let mut head = [0u16; MAX_BASINS];
-    let mut next = [0u16; HALF_EDGES];
-    let mut seen = [0u16; MAX_BASINS];
-    let mut queue = [0u16; MAX_BASINS];
-    first_in(
-        n,
-        kinds,
-        a,
-        b,
-        plan,
-        marks,
-        &mut ways,
-        &mut head,
-        &mut next,
-        &mut seen,
-        &mut queue,
-    )
 }
 
 // The check of a setting of an accepted table whose rows are of one length, in lent working memory.

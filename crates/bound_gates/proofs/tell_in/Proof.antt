@@ -10,25 +10,28 @@ use Rattle.bound_gates.proofs.tell_in.Statement.{statement}
 use Rattle.bound_gates.proofs.tell_in.Tie as tie
 
 slice-relend-prefix-oriented : tie.Need-slice-relend-prefix-oriented
-slice-relend-prefix-oriented c = let s = c .before .before .before .before .before in omega (arith, level-few (planned-level (s .pre .0)), s .pre .1 .ways-space)
+slice-relend-prefix-oriented c = let s = c .before .before .before .before .before .before .before .before .before in omega (arith, level-few (planned-level (s .pre .0)), s .pre .1 .ways-space)
 
 slice-aggregate-oriented : tie.Need-slice-aggregate-oriented
-slice-aggregate-oriented c = let s = c .before .before .before .before .before .before in sym (length-take-le _ (s .args .ways .now) (omega (arith, level-few (planned-level (s .pre .0)), s .pre .1 .ways-space)))
+slice-aggregate-oriented c = let s = c .before .before .before .before .before .before .before .before .before .before in sym (length-take-le _ (s .args .ways .now) (omega (arith, level-few (planned-level (s .pre .0)), s .pre .1 .ways-space)))
 
-slice-reshare-prefix-prepare : tie.Need-slice-reshare-prefix-prepare
-slice-reshare-prefix-prepare c = omega arith
+slice-reshare-prefix-orient : tie.Need-slice-reshare-prefix-orient
+slice-reshare-prefix-orient c = omega arith
 
-slice-aggregate-prepare : tie.Need-slice-aggregate-prepare
-slice-aggregate-prepare c = sym (length-take-le _ ((c .before .before .before .before .before .before .before) .args .bytes .now) (omega arith))
+slice-aggregate-orient : tie.Need-slice-aggregate-orient
+slice-aggregate-orient c = sym (length-take-le _ (c .before .before .before .before .before .before .before .before .before .before .before .args .bytes .now) (omega arith))
 
-prepare-requires : tie.Need-prepare-requires
-prepare-requires c κs = let s = c .before .before .before .before .before .before .before .before .before .before in let room = level-room (planned-level (s .pre .0)) (s .pre .1) in record { ways-room = room .ways-room; indexable = room-index room refl refl }
+orient-requires : tie.Need-orient-requires
+orient-requires c κs = let s = c .before .before .before .before .before .before .before .before .before .before .before .before in level-room (planned-level (s .pre .0)) (s .pre .1) .ways-room
+
+index-requires : tie.Need-index-requires
+index-requires c κs = let s = c .before .before .before .before .before .before .before .before .before .before .before .before .before .before .before .before .before in room-index (level-room (planned-level (s .pre .0)) (s .pre .1)) refl refl
 
 tell-bound-requires : tie.Need-tell-bound-requires
 tell-bound-requires c κs =
-    let s = c .before .before .before .before .before .before .before .before .before .before .before .before .before .before .before .before .before .before .before .before in
-    let p = c .before .before .before .before .before .before .before .before .before .prepare in
-    (room-ready (level-room (planned-level (s .pre .0)) (s .pre .1)) (p .kept .1 .1 .1 .1 .1 .0) (p .ensures .index) refl refl, record { planned = s .pre .0; unoriented = p .ensures .oriented })
+    let s = c .before .before .before .before .before .before .before .before .before .before .before .before .before .before .before .before .before .before .before .before .before .before .before .before .before .before .before in
+    let o = c .before .before .before .before .before .before .before .before .before .before .before .before .before .before .orient in
+    (room-ready (level-room (planned-level (s .pre .0)) (s .pre .1)) (o .kept .1 .1 .0) (c .before .before .before .before .before .before .before .before .before .index .ensures) refl refl, record { planned = s .pre .0; unoriented = o .ensures })
 
 same-length : tie.Need-same-length
 same-length c = search needs
@@ -36,8 +39,20 @@ same-length c = search needs
 same-length-2 : tie.Need-same-length-2
 same-length-2 c = search needs
 
+same-length-3 : tie.Need-same-length-3
+same-length-3 c = search needs
+
+same-length-4 : tie.Need-same-length-4
+same-length-4 c = search needs
+
+same-length-5 : tie.Need-same-length-5
+same-length-5 c = search needs
+
+same-length-6 : tie.Need-same-length-6
+same-length-6 c = search needs
+
 returns : tie.Need-returns
-returns c = c .before .before .before .before .tell-bound .ensures
+returns c = c .before .before .before .before .before .before .before .before .tell-bound .ensures
 
 pub tell-in-spec : {M : Type 1} → statement M
 tell-in-spec =
@@ -45,10 +60,15 @@ tell-in-spec =
     (tie.spec
     slice-relend-prefix-oriented
     slice-aggregate-oriented
-    slice-reshare-prefix-prepare
-    slice-aggregate-prepare
-    prepare-requires
+    slice-reshare-prefix-orient
+    slice-aggregate-orient
+    orient-requires
+    index-requires
     tell-bound-requires
     same-length
     same-length-2
+    same-length-3
+    same-length-4
+    same-length-5
+    same-length-6
     returns)
