@@ -1,62 +1,21 @@
 // The planner over a reach table lent as rows of numbers: the check of a setting, the first plan, the next plan and the findings.
 // Each call refuses bad input by number and has no `requires`; what it replies and every byte of lent memory afterwards is in its `ensures`.
-// `first_plan_in` is for the crates above: it requires working memory, which they lend.
 use half_edges::HALF_EDGES;
 use network::MAX_BASINS;
 use network::MAX_REACHES;
 use planning::check_accepted;
-use planning::first_in;
+use planning::first_plan_in;
 use planning_next::next_accepted;
 use refusals::check_refusal;
-use refusals::first_refusal;
 use refusals::next_refusal;
 use replies::Answer;
 use replies::CheckAnswer;
 use replies::yes_or;
 use tables::TableAnswer;
 ghost use Rattle.tables.specs.Rows.{netOf};
-ghost use Rattle.finder.specs.Rooms.{Space};
 ghost use Rattle.replies.specs.Answers.{CheckCall, FirstCall, NextCall};
 
-// The first plan of a network, or the finding that shows why there is none, in lent working memory. What it leaves there is free.
-pub fn first_plan_in(
-    basins: u16,
-    kinds: &[u8],
-    a: &[u16],
-    b: &[u16],
-    plan: &mut [u8],
-    marks: &mut [u8],
-    ways: &mut [u8],
-    head: &mut [u16; MAX_BASINS],
-    next: &mut [u16; HALF_EDGES],
-    seen: &mut [u16; MAX_BASINS],
-    queue: &mut [u16; MAX_BASINS],
-) -> Answer
-    requires { ⌜ Space (now ways) (now head) (now next) (now seen) (now queue) ⌝ }
-    ensures { λ r. ⌜ FirstCall (netOf basins (now (kinds .entry)) (now (a .entry)) (now (b .entry))) (now (plan .entry)) (now (marks .entry)) r
-        (now (plan .exit)) (now (marks .exit)) ⌝ }
-{
-    if let TableAnswer::Refused(r) = first_refusal(basins, kinds, a, b, plan.len(), marks.len()) {
-        return Answer::Refused(r);
-    }
-    let n = basins as usize;
-    let m = tables::row_count(kinds, a, b);
-    Answer::Given(first_in(
-        n,
-        &kinds[..m],
-        &a[..m],
-        &b[..m],
-        plan,
-        marks,
-        ways,
-        head,
-        next,
-        seen,
-        queue,
-    ))
-}
-
-// The same, with working memory of its own. Refuses: 1, 2, 3, 7.
+// The first plan of a network, or the finding that shows why there is none. Refuses: 1, 2, 3, 7.
 pub fn first_plan(
     basins: u16,
     kinds: &[u8],

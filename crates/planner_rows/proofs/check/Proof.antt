@@ -11,7 +11,7 @@ use Rattle.tables.proofs.Faults.{answer-refused, answer-accepted}
 use Rattle.tables.proofs.Cuts.{cut-kinds, cut-a, cut-b, cut-net}
 use Rattle.refusals.proofs.Dues.{fitting}
 use Rattle.seeking.proofs.Levels.{cut-level}
-use Rattle.planner_rows.proofs.Calls.{check-given}
+use Rattle.planning.proofs.Calls.{check-given}
 use Rattle.replies.proofs.Refusals.{check-refused}
 use Rattle.planner_rows.proofs.check.Statement.{statement}
 use Rattle.planner_rows.proofs.check.Tie as tie

@@ -10,7 +10,7 @@ use Rattle.network.specs.Replies.{firstOf, checkFault, roomFault}
 use Rattle.tables.specs.Rows.{netOf}
 use Rattle.tables.proofs.Faults.{answer-refused, answer-accepted}
 use Rattle.tables.proofs.Cuts.{cut-kinds, cut-a, cut-b, cut-net}
-use Rattle.planner_rows.proofs.Calls.{cut-lent, cut-is-setting, next-given}
+use Rattle.planning.proofs.Calls.{cut-lent, cut-is-setting, next-given}
 use Rattle.network.proofs.Replies.{first-of-none}
 use Rattle.refusals.proofs.Dues.{fitting}
 use Rattle.replies.proofs.Refusals.{refused-written, next-by}

@@ -1,4 +1,4 @@
--- `planner_rows::first_plan_in` meets its contract: what is refused, and then the reply to the rows cut to the table's length.
+-- `planning::first_plan_in` meets its contract: what is refused, and then the reply to the rows cut to the table's length.
 -- Assumes nothing.
 use mathlib.Core.Path.{_≡_, sym, _∙_}
 use mathlib.Core.Option.{none}
@@ -10,11 +10,11 @@ use Rattle.network.specs.Replies.{firstOf, roomFault}
 use Rattle.tables.specs.Rows.{netOf}
 use Rattle.tables.proofs.Faults.{answer-refused, answer-accepted}
 use Rattle.tables.proofs.Cuts.{cut-kinds, cut-a, cut-b, cut-net}
-use Rattle.planner_rows.proofs.Calls.{cut-lent, first-given}
+use Rattle.planning.proofs.Calls.{cut-lent, first-given}
 use Rattle.network.proofs.Replies.{first-of-none}
 use Rattle.replies.proofs.Refusals.{refused-written, first-by}
-use Rattle.planner_rows.proofs.first_plan_in.Statement.{statement}
-use Rattle.planner_rows.proofs.first_plan_in.Tie as tie
+use Rattle.planning.proofs.first_plan_in.Statement.{statement}
+use Rattle.planning.proofs.first_plan_in.Tie as tie
 
 -- the network that is lent
 abbrev net : tie.Start → Network

@@ -1,4 +1,4 @@
--- The public calls: rows cut to one length, and what the reply is where nothing is refused.
+-- The calls over rows: rows cut to one length, and what the reply is where nothing is refused.
 -- Assumes nothing.
 use Prim.Native.Nat.{ℕ}
 use native.Mathlib.Omega.{arith}

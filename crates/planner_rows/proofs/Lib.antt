@@ -1,2 +1,0 @@
--- The laws of the planner.
-pub mod Calls
