@@ -44,6 +44,7 @@ pub use Rattle.packing.proofs.Locals.{copied, known}
 pub use Rattle.packing.proofs.Records.{reachVals, reach-tells, reach-made}
 pub use Rattle.packing.proofs.Relays.{refl, ℕ, _<_, _^_, List, [], _∷_, URA, w16, Val, vint, SProp, ent, id⊢, Lft, Share, ftrue, flft, Memory, Routine, Heap, Tables, WpFn, Atoms, fmOf, Fun, factI, givenOf, tables, Given, ‵, _⊛_, _$_, _∵_, !, qed, by, move, join, look-in, stop, from, load, addr, agg, and-then, no-more, assigns, land, returns, enter, allots, takes-in, within, copies, fills, lends, frees-all, uint-vals, uint-tells, u8, u16, owns, RefT, now, slice-vals, ShrSlice, MutSlice, Room, shr-slice-tells, mut-slice-tells, length, named, Fml, Bound, Contract, Triple, entered, cited, Reach, Promise, meets, ending, calls-known, val}
 unfoldable pub use Rattle.packing.proofs.Relays.{tablesOf}
+pub use Rattle.test_records.specs.Rooms.{tableRoom}
 use Rattle.packing.proofs.Locals.{Cell, full, inside, cells, Named, here, locals}
 
 -- All locals but number j, and with one put in at j.
@@ -194,7 +195,7 @@ module _ {M : Type 1} {𝓤 : URA M} {H : Heap 𝓤} {A : Atoms 𝓤} {K : Type 
 abbrev pub array : ℕ → List Reach → Val → Fml
 array m xs v = Array R.the-row m .own xs (v ∷ [])
 
-pub table-room : Room R.the-row 1030
+pub table-room : Room R.the-row tableRoom
 table-room = omega arith
 
 pub table-typed : {M : Type 1} (𝓤 : URA M) (H : Heap 𝓤) (A : Atoms 𝓤) (W : Given 𝓤 H A) (m : ℕ) (xs : List Reach) {v : Val} → Holds m xs v → T (hasTy (tableTy m) v) × WT v

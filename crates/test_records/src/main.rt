@@ -5,9 +5,12 @@ mod sums;
 mod table;
 
 use contraction::ContractAnswer;
+use network::MAX_BASINS;
 use network::MAX_REACHES;
 use network::Reach;
 use relays::ROOM;
+use sums::BYTES;
+use sums::MARKS;
 use sums::mix;
 use sums::sum;
 use table::Twice;
@@ -19,6 +22,13 @@ use table::within;
 use table::within_words;
 use walker::Walker;
 ghost use Prim.Native.Nat.{_≤_};
+ghost use Rattle.test_records.specs.Rooms.{tableRoom};
+
+// The most basins that a network may have.
+const BASINS: u16 = MAX_BASINS as u16;
+
+// The least size of a large table: a little less than a network may have.
+const MANY: usize = MAX_REACHES - 2;
 
 // The calls.
 const TABLE: u8 = 0;
@@ -88,7 +98,7 @@ fn over_records(
     out: &mut [u8],
     marks: &mut [u8],
 ) -> u64
-    requires { ⌜ n ≤ 1030 ⌝ }
+    requires { ⌜ n ≤ tableRoom ⌝ }
 {
     match call {
         TABLE => sums::of_table(relays::table_check(n, basins, reaches)),
@@ -120,8 +130,8 @@ fn rows(
     s: &[u8],
     p: usize,
 ) -> u64 {
-    let mut out = [OLD; 6200];
-    let mut marks = [OLD; 40];
+    let mut out = [OLD; BYTES];
+    let mut marks = [OLD; MARKS];
     let k = within(&out, p);
     let x = over_rows(
         call,
@@ -147,10 +157,10 @@ fn records(
     s: &[u8],
     p: usize,
 ) -> u64
-    requires { ⌜ n ≤ 1030 ⌝ }
+    requires { ⌜ n ≤ tableRoom ⌝ }
 {
-    let mut out = [OLD; 6200];
-    let mut marks = [OLD; 40];
+    let mut out = [OLD; BYTES];
+    let mut marks = [OLD; MARKS];
     let k = within(&out, p);
     let x = over_records(
         call,
@@ -173,7 +183,7 @@ struct Pair {
 
 // A call on the first n reaches of a table.
 fn both(call: u8, n: usize, basins: u16, t: Twice, s: &[u8], p: usize) -> Pair
-    requires { ⌜ n ≤ 1030 ⌝ }
+    requires { ⌜ n ≤ tableRoom ⌝ }
 {
     let kinds = t.kinds;
     let a = t.a;
@@ -199,19 +209,25 @@ fn both(call: u8, n: usize, basins: u16, t: Twice, s: &[u8], p: usize) -> Pair
 // A file is read into a table, and all of the table is written.
 fn reread_rows(kinds: &mut [u8], a: &mut [u16], b: &mut [u16], walker: Walker, s: &[u8]) -> u64 {
     let x = sums::of_read(netfile_rows::read_network(s, kinds, a, b));
-    mix(x, rows(WRITE_NETWORK, 256, kinds, a, b, walker, s, 6200))
+    mix(
+        x,
+        rows(WRITE_NETWORK, BASINS, kinds, a, b, walker, s, BYTES),
+    )
 }
 
 fn reread_records(n: usize, reaches: [Reach; ROOM], walker: Walker, s: &[u8]) -> u64
-    requires { ⌜ n ≤ 1030 ⌝ }
+    requires { ⌜ n ≤ tableRoom ⌝ }
 {
     let x = sums::of_read(relays::read_network(n, s, reaches));
     let after = relays::read_table(n, s, reaches);
-    mix(x, records(WRITE_NETWORK, n, 256, after, walker, s, 6200))
+    mix(
+        x,
+        records(WRITE_NETWORK, n, BASINS, after, walker, s, BYTES),
+    )
 }
 
 fn reread(n: usize, t: Twice, s: &[u8]) -> Pair
-    requires { ⌜ n ≤ 1030 ⌝ }
+    requires { ⌜ n ≤ tableRoom ⌝ }
 {
     let mut kinds = t.kinds;
     let mut a = t.a;
@@ -277,13 +293,13 @@ fn contracted_rows(c: Contracted, walker: Walker) -> u64 {
     let s = walker.setting;
     let written = rows(
         WRITE_NETWORK,
-        256,
+        BASINS,
         front(&kinds, MAX_REACHES),
         front_words(&a, MAX_REACHES),
         front_words(&b, MAX_REACHES),
         walker,
         &s,
-        6200,
+        BYTES,
     );
     mix(sums::of_contracted(answer), written)
 }
@@ -296,21 +312,21 @@ fn contracted_records(
     out: [Reach; ROOM],
     walker: Walker,
 ) -> u64
-    requires { ⌜ n ≤ 1030 ⌝ }
-    requires { ⌜ k ≤ 1030 ⌝ }
+    requires { ⌜ n ≤ tableRoom ⌝ }
+    requires { ⌜ k ≤ tableRoom ⌝ }
 {
     let x = sums::of_contracted(relays::contract(n, k, basins, reaches, out));
     let after = relays::contracted(n, k, basins, reaches, out);
     let s = walker.setting;
     mix(
         x,
-        records(WRITE_NETWORK, MAX_REACHES, 256, after, walker, &s, 6200),
+        records(WRITE_NETWORK, MAX_REACHES, BASINS, after, walker, &s, BYTES),
     )
 }
 
 fn contract(n: usize, k: usize, basins: u16, t: Twice, into: Twice) -> Pair
-    requires { ⌜ n ≤ 1030 ⌝ }
-    requires { ⌜ k ≤ 1030 ⌝ }
+    requires { ⌜ n ≤ tableRoom ⌝ }
+    requires { ⌜ k ≤ tableRoom ⌝ }
 {
     let kinds = t.kinds;
     let a = t.a;
@@ -336,7 +352,7 @@ fn contract(n: usize, k: usize, basins: u16, t: Twice, into: Twice) -> Pair
 // A buffer, of which the first n bytes count.
 struct Bytes {
     n: usize,
-    bytes: [u8; 6200],
+    bytes: [u8; BYTES],
 }
 
 // What a call over rows writes, of a table and a setting. Of a file its length counts, for some seeds a byte less.
@@ -346,8 +362,8 @@ fn written(call: u8, n: usize, basins: u16, t: Twice, s: &[u8], seed: u64) -> By
     let b = t.b;
     let bits = t.bits;
     let walker = Walker { setting: bits };
-    let mut bytes = [0u8; 6200];
-    let mut marks = [0u8; 40];
+    let mut bytes = [0u8; BYTES];
+    let mut marks = [0u8; MARKS];
     let x = over_rows(
         call,
         basins,
@@ -397,7 +413,7 @@ fn compare_records<'a>(
     first: &'a [u8],
     second: &'a [u8],
 ) -> u64
-    requires { ⌜ n ≤ 1030 ⌝ }
+    requires { ⌜ n ≤ tableRoom ⌝ }
 {
     let order = relays::compare_order(n, basins, reaches, first, second);
     sum(
@@ -407,7 +423,7 @@ fn compare_records<'a>(
 }
 
 fn compare(n: usize, basins: u16, t: Twice, f: Bytes, g: Bytes) -> Pair
-    requires { ⌜ n ≤ 1030 ⌝ }
+    requires { ⌜ n ≤ tableRoom ⌝ }
 {
     let kinds = t.kinds;
     let a = t.a;
@@ -433,7 +449,7 @@ fn compare(n: usize, basins: u16, t: Twice, f: Bytes, g: Bytes) -> Pair
 // How many reaches the table of a seed has: a few, or about as many as a network may have.
 fn size(seed: u64) -> usize {
     if seed % 32 == 31 {
-        (1022 + seed / 32 % 8) as usize
+        MANY + (seed / 32 % 8) as usize
     } else {
         (seed % 9) as usize
     }
@@ -449,7 +465,7 @@ fn basins_of(seed: u64, ends: u64) -> u16 {
 
 // The room of an output: mostly enough.
 fn room(seed: u64) -> usize {
-    if seed % 8 == 3 { 2 } else { 6200 }
+    if seed % 8 == 3 { 2 } else { BYTES }
 }
 
 // The room for a contracted table of n reaches: mostly enough, and up to three more.
@@ -466,7 +482,7 @@ fn new_room(seed: u64, n: usize) -> usize {
 
 // A call that is lent the setting of a table.
 fn on_setting(call: u8, n: usize, basins: u16, t: Twice, p: usize) -> Pair
-    requires { ⌜ n ≤ 1030 ⌝ }
+    requires { ⌜ n ≤ tableRoom ⌝ }
 {
     let kinds = t.kinds;
     let bits = t.bits;
@@ -476,7 +492,7 @@ fn on_setting(call: u8, n: usize, basins: u16, t: Twice, p: usize) -> Pair
 
 // A reader that is lent a file.
 fn on_file(call: u8, n: usize, basins: u16, t: Twice, f: Bytes, p: usize) -> Pair
-    requires { ⌜ n ≤ 1030 ⌝ }
+    requires { ⌜ n ≤ tableRoom ⌝ }
 {
     let bytes = f.bytes;
     let s = front(&bytes, f.n);

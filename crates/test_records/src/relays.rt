@@ -4,6 +4,7 @@ use contraction::ContractAnswer;
 use distances::DiameterAnswer;
 use file_records::WriteAnswer;
 use netfile_format::ReadAnswer;
+use network::MAX_REACHES;
 use network::Reach;
 use replies::Answer;
 use replies::CheckAnswer;
@@ -14,24 +15,25 @@ use walker::Made;
 use walker::Stepped;
 use walker::Walker;
 ghost use Prim.Native.Nat.{_≤_};
+ghost use Rattle.test_records.specs.Rooms.{tableRoom};
 
 // The records that a table has room for: more than a network may have.
-pub const ROOM: usize = 1030;
+pub const ROOM: usize = MAX_REACHES + 6;
 
 pub fn table_check(n: usize, basins: u16, reaches: [Reach; ROOM]) -> TableAnswer
-    requires { ⌜ n ≤ 1030 ⌝ }
+    requires { ⌜ n ≤ tableRoom ⌝ }
 {
     planner::table_check(basins, &reaches[..n])
 }
 
 pub fn check(n: usize, basins: u16, reaches: [Reach; ROOM], setting: &[u8]) -> CheckAnswer
-    requires { ⌜ n ≤ 1030 ⌝ }
+    requires { ⌜ n ≤ tableRoom ⌝ }
 {
     planner::check(basins, &reaches[..n], setting)
 }
 
 pub fn diameter(n: usize, basins: u16, reaches: [Reach; ROOM], setting: &[u8]) -> DiameterAnswer
-    requires { ⌜ n ≤ 1030 ⌝ }
+    requires { ⌜ n ≤ tableRoom ⌝ }
 {
     diameter::diameter(basins, &reaches[..n], setting)
 }
@@ -43,7 +45,7 @@ pub fn first_plan(
     plan: &mut [u8],
     marks: &mut [u8],
 ) -> Answer
-    requires { ⌜ n ≤ 1030 ⌝ }
+    requires { ⌜ n ≤ tableRoom ⌝ }
 {
     planner::first_plan(basins, &reaches[..n], plan, marks)
 }
@@ -55,7 +57,7 @@ pub fn bound_gates(
     bytes: &mut [u8],
     marks: &mut [u8],
 ) -> Answer
-    requires { ⌜ n ≤ 1030 ⌝ }
+    requires { ⌜ n ≤ tableRoom ⌝ }
 {
     bound_gates::bound_gates(basins, &reaches[..n], bytes, marks)
 }
@@ -68,13 +70,13 @@ pub fn next_plan(
     plan: &mut [u8],
     marks: &mut [u8],
 ) -> Answer
-    requires { ⌜ n ≤ 1030 ⌝ }
+    requires { ⌜ n ≤ tableRoom ⌝ }
 {
     planner::next_plan(basins, &reaches[..n], setting, plan, marks)
 }
 
 pub fn make(n: usize, basins: u16, reaches: [Reach; ROOM], setting: &[u8]) -> Made
-    requires { ⌜ n ≤ 1030 ⌝ }
+    requires { ⌜ n ≤ tableRoom ⌝ }
 {
     Walker::make(basins, &reaches[..n], setting)
 }
@@ -87,13 +89,13 @@ pub fn step(
     plan: &mut [u8],
     marks: &mut [u8],
 ) -> Stepped
-    requires { ⌜ n ≤ 1030 ⌝ }
+    requires { ⌜ n ≤ tableRoom ⌝ }
 {
     walker.step(basins, &reaches[..n], plan, marks)
 }
 
 pub fn write_network(n: usize, basins: u16, reaches: [Reach; ROOM], out: &mut [u8]) -> WriteAnswer
-    requires { ⌜ n ≤ 1030 ⌝ }
+    requires { ⌜ n ≤ tableRoom ⌝ }
 {
     netfile::write_network(basins, &reaches[..n], out)
 }
@@ -105,7 +107,7 @@ pub fn read_sheet(
     sheet: &[u8],
     setting: &mut [u8],
 ) -> SheetAnswer
-    requires { ⌜ n ≤ 1030 ⌝ }
+    requires { ⌜ n ≤ tableRoom ⌝ }
 {
     sheet::read_sheet(basins, &reaches[..n], sheet, setting)
 }
@@ -117,26 +119,26 @@ pub fn write_sheet(
     setting: &[u8],
     out: &mut [u8],
 ) -> WriteAnswer
-    requires { ⌜ n ≤ 1030 ⌝ }
+    requires { ⌜ n ≤ tableRoom ⌝ }
 {
     sheet::write_sheet(basins, &reaches[..n], setting, out)
 }
 
 pub fn write_reply(n: usize, basins: u16, reaches: [Reach; ROOM], out: &mut [u8]) -> WriteAnswer
-    requires { ⌜ n ≤ 1030 ⌝ }
+    requires { ⌜ n ≤ tableRoom ⌝ }
 {
     sheet::write_reply(basins, &reaches[..n], out)
 }
 
 // Reading a file over records, in two: what is replied, and the table afterwards.
 pub fn read_network(n: usize, file: &[u8], mut reaches: [Reach; ROOM]) -> ReadAnswer
-    requires { ⌜ n ≤ 1030 ⌝ }
+    requires { ⌜ n ≤ tableRoom ⌝ }
 {
     netfile::read_network(file, &mut reaches[..n])
 }
 
 pub fn read_table(n: usize, file: &[u8], mut reaches: [Reach; ROOM]) -> [Reach; ROOM]
-    requires { ⌜ n ≤ 1030 ⌝ }
+    requires { ⌜ n ≤ tableRoom ⌝ }
 {
     netfile::read_network(file, &mut reaches[..n]);
     reaches
@@ -150,8 +152,8 @@ pub fn contract(
     reaches: [Reach; ROOM],
     mut out: [Reach; ROOM],
 ) -> ContractAnswer
-    requires { ⌜ n ≤ 1030 ⌝ }
-    requires { ⌜ k ≤ 1030 ⌝ }
+    requires { ⌜ n ≤ tableRoom ⌝ }
+    requires { ⌜ k ≤ tableRoom ⌝ }
 {
     contraction::contract(basins, &reaches[..n], &mut out[..k])
 }
@@ -163,8 +165,8 @@ pub fn contracted(
     reaches: [Reach; ROOM],
     mut out: [Reach; ROOM],
 ) -> [Reach; ROOM]
-    requires { ⌜ n ≤ 1030 ⌝ }
-    requires { ⌜ k ≤ 1030 ⌝ }
+    requires { ⌜ n ≤ tableRoom ⌝ }
+    requires { ⌜ k ≤ tableRoom ⌝ }
 {
     contraction::contract(basins, &reaches[..n], &mut out[..k]);
     out
@@ -178,7 +180,7 @@ pub fn compare_order<'a>(
     first: &'a [u8],
     second: &'a [u8],
 ) -> Order
-    requires { ⌜ n ≤ 1030 ⌝ }
+    requires { ⌜ n ≤ tableRoom ⌝ }
 {
     comparison::compare(basins, &reaches[..n], first, second).order
 }
@@ -190,7 +192,7 @@ pub fn compare_part<'a>(
     first: &'a [u8],
     second: &'a [u8],
 ) -> &'a [u8]
-    requires { ⌜ n ≤ 1030 ⌝ }
+    requires { ⌜ n ≤ tableRoom ⌝ }
 {
     comparison::compare(basins, &reaches[..n], first, second).part
 }

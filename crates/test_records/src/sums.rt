@@ -2,7 +2,9 @@
 use contraction::ContractAnswer;
 use distances::DiameterAnswer;
 use file_records::WriteAnswer;
+use marks::MARK_BYTES;
 use netfile_format::ReadAnswer;
+use network::MAX_REACHES;
 use network::Refusal;
 use replies::Answer;
 use replies::CheckAnswer;
@@ -14,6 +16,12 @@ use tables::TableAnswer;
 use walker::Made;
 use walker::MakeAnswer;
 use walker::Stepped;
+
+// The bytes of an output: more than a file or a sheet may have.
+pub const BYTES: usize = 6 * MAX_REACHES + 56;
+
+// The bytes for marks: more than marks have.
+pub const MARKS: usize = MARK_BYTES + 8;
 
 pub fn mix(x: u64, y: u64) -> u64 {
     (x % 16777213 * 257 + y % 65536 + 1) % 16777213
@@ -34,7 +42,7 @@ pub fn sum(x: u64, s: &[u8]) -> u64 {
 }
 
 // What a call replied, and its buffers.
-pub fn total(x: u64, out: &[u8; 6200], marks: &[u8; 40]) -> u64 {
+pub fn total(x: u64, out: &[u8; BYTES], marks: &[u8; MARKS]) -> u64 {
     sum(sum(x, out), marks)
 }
 

@@ -6,6 +6,7 @@ use network::Reach;
 use network::State;
 ghost use Prim.Native.Nat.{_≤_};
 ghost use Rattle.io.specs.Counts.{Counts};
+ghost use Rattle.test_records.specs.Rooms.{tableRoom};
 
 // The same reaches as rows and as records, and a row of bytes for settings.
 pub struct Twice {
@@ -80,7 +81,7 @@ pub fn table(seed: u64, n: usize, ends: u64) -> Twice {
 
 // A number of reaches that there is room for.
 pub fn bounded(n: usize) -> usize
-    ensures { λ r. ⌜ r ≤ 1030 ⌝ }
+    ensures { λ r. ⌜ r ≤ tableRoom ⌝ }
 {
     if n < ROOM { n } else { ROOM }
 }

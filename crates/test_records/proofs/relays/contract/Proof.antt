@@ -2,7 +2,7 @@
 -- Assumes nothing.
 use types.Kit.{split, drop}
 use denote.Enum.Laws as EL
-use Rattle.test_records.proofs.Lending.{ap, subst, refl, ℕ, _<_, _^_, List, [], _∷_, URA, w16, w64, Val, vint, SProp, ent, id⊢, fullShare, ftrue, Memory, Routine, Heap, Tables, WpFn, Atoms, fmOf, Fun, givenOf, tables, tablesOf, Given, ‵, _$_, _∵_, !, qed, by, move, look-in, stop, from, addr, agg, of-opd, and-then, no-more, assigns, land, returns, enter, allots, takes-in, within, copied, copies, known, fills, frees-all, uint-vals, uint-tells, u16, owns, RefT, Fml, sliceVal, array-vals, array-tells, Bound, Contract, Triple, entered, cited, Reach, reachVals, reach-tells, Promise, meets, ending, calls-known, val, front, Holds, array, table-typed, table-room, had-two, picked, hears-two, lends-table, lends-table-mut, tables-back, Array}
+use Rattle.test_records.proofs.Lending.{ap, subst, refl, ℕ, _<_, _^_, List, [], _∷_, URA, w16, w64, Val, vint, SProp, ent, id⊢, fullShare, ftrue, Memory, Routine, Heap, Tables, WpFn, Atoms, fmOf, Fun, givenOf, tables, tablesOf, Given, ‵, _$_, _∵_, !, qed, by, move, look-in, stop, from, addr, agg, of-opd, and-then, no-more, assigns, land, returns, enter, allots, takes-in, within, copied, copies, known, fills, frees-all, uint-vals, uint-tells, u16, owns, RefT, Fml, sliceVal, array-vals, array-tells, Bound, Contract, Triple, entered, cited, Reach, reachVals, reach-tells, Promise, meets, ending, calls-known, val, front, Holds, array, table-typed, table-room, had-two, picked, hears-two, lends-table, lends-table-mut, tables-back, Array, tableRoom}
 use Rattle.packing.proofs.Relays.{table}
 use Rattle.network.proofs.Reach as R
 use Rattle.contraction.proofs.ContractAnswer as S
@@ -23,7 +23,7 @@ module _ {M : Type 1} (𝓤 : URA M) (H : Heap 𝓤) (A : Atoms 𝓤) (mem : Mem
   Core = Promise 𝓤 H A core.ended (core.clauses 𝓤 H A mem run)
 
   module _ (W : Given 𝓤 H A) (𝓣 : Tables 𝓤 H) (core-met : Triple 𝓤 (𝓣 .C core-def.name) Core) (n k basins : ℕ) (xs ys : List Reach) (v w : Val)
-      (n-fits : n < 2 ^ 64) (k-fits : k < 2 ^ 64) (fits : basins < 2 ^ 16) (is : Holds 1030 xs v) (os : Holds 1030 ys w) where
+      (n-fits : n < 2 ^ 64) (k-fits : k < 2 ^ 64) (fits : basins < 2 ^ 16) (is : Holds tableRoom xs v) (os : Holds tableRoom ys w) where
     -- what the contract binds, and what the call's binds where t and o are lent
     abbrev x : Bound 𝓤 H A f.signature
     x = (tt, tt, tt, (n, (k, (basins, (xs, (ys, tt))))), (vint w64 n ∷ [], (vint w64 k ∷ [], (vint w16 basins ∷ [], (v ∷ [], (w ∷ [], tt))))))
@@ -36,12 +36,12 @@ module _ {M : Type 1} (𝓤 : URA M) (H : Heap 𝓤) (A : Atoms 𝓤) (mem : Mem
     before = u16 .own basins (vint w16 basins ∷ []) ∷ []
 
     abbrev after : Fml
-    after = owns (Array R.the-row 1030 ∷ []) (ys, tt) (w ∷ [], tt)
+    after = owns (Array R.the-row tableRoom ∷ []) (ys, tt) (w ∷ [], tt)
 
     walk : ent 𝓤 (Own .pre (x, tt)) (WpFn 𝓤 H (𝓣 .C) (𝓣 .Λ) code.function (vint w64 n ∷ vint w64 k ∷ vint w16 basins ∷ v ∷ w ∷ []) (Own .post (x, tt)))
     walk =
-        qed W (had-two (‵ ftrue) 1030 n k before (array 1030 xs v) after ∷ []) ∵ enter ! (𝓣 .C) (𝓣 .Λ) code.function (vint w64 n ∷ vint w64 k ∷ vint w16 basins ∷ v ∷ w ∷ []) _ $ allots ! _ (λ bs. takes-in ! ((tt, record { fits = n-fits }), ((tt, record { fits = k-fits }), ((tt, record { fits = fits }), (table-typed 𝓤 H A W 1030 xs is, (table-typed 𝓤 H A W 1030 ys os, tt))))) $
-        hears-two ! xs ys (is .1 .0 .1) (os .1 .0 .1) (λ e e₂. assigns ! (of-opd ! (copied ! 4 refl)) (from ! (stop !)) (fills ! 6 refl (table-typed 𝓤 H A W 1030 xs is)) $ assigns ! (of-opd ! (copied ! 5 refl)) (from ! (stop !)) (fills ! 7 refl (table-typed 𝓤 H A W 1030 ys os)) $
+        qed W (had-two (‵ ftrue) tableRoom n k before (array tableRoom xs v) after ∷ []) ∵ enter ! (𝓣 .C) (𝓣 .Λ) code.function (vint w64 n ∷ vint w64 k ∷ vint w16 basins ∷ v ∷ w ∷ []) _ $ allots ! _ (λ bs. takes-in ! ((tt, record { fits = n-fits }), ((tt, record { fits = k-fits }), ((tt, record { fits = fits }), (table-typed 𝓤 H A W tableRoom xs is, (table-typed 𝓤 H A W tableRoom ys os, tt))))) $
+        hears-two ! xs ys (is .1 .0 .1) (os .1 .0 .1) (λ e e₂. assigns ! (of-opd ! (copied ! 4 refl)) (from ! (stop !)) (fills ! 6 refl (table-typed 𝓤 H A W tableRoom xs is)) $ assigns ! (of-opd ! (copied ! 5 refl)) (from ! (stop !)) (fills ! 7 refl (table-typed 𝓤 H A W tableRoom ys os)) $
         assigns ! (addr ! (from ! (stop !))) (from ! (stop !)) (fills ! 8 refl (tt, tt)) $ assigns ! (known ! (ap (λ l. sliceVal (bs .1 .1 .1 .1 .1 .1 .0, 0) l) e) (agg ! (copies ! (8 ∷ 1 ∷ []) refl))) (from ! (stop !)) (fills ! 9 refl (tt, (tt, (record { fits = subst (λ l. l < 2 ^ 64) e n-fits }, tt)))) $
         assigns ! (addr ! (from ! (stop !))) (from ! (stop !)) (fills ! 10 refl (tt, tt)) $ assigns ! (known ! (ap (λ l. sliceVal (bs .1 .1 .1 .1 .1 .1 .1 .0, 0) l) e₂) (agg ! (copies ! (10 ∷ 2 ∷ []) refl))) (from ! (stop !)) (fills ! 11 refl (tt, (tt, (record { fits = subst (λ l. l < 2 ^ 64) e₂ k-fits }, tt)))) $
         lends-table ! tt 6 before after xs n refl is table-room (λ α γ. move ! (1 ∷ []) $ split ! $ move ! (1 ∷ []) $ drop ! $ move ! (1 ∷ 0 ∷ []) $
@@ -57,7 +57,7 @@ contract-spec 𝓤 H 𝓜 𝓖 𝓡 =
     entered 𝓤 H (Own 𝓤 H (𝓖 .A) (𝓜 .mem) (𝓡 .run)) (tables 𝓤 H 𝓜 𝓡 code.env .C) (tables 𝓤 H 𝓜 𝓡 code.env .Λ) #name code.function (code.unfolded 𝓤 H 𝓜 𝓡)
     (meets 𝓤 H (𝓖 .A) f.ended (f.clauses 𝓤 H (𝓖 .A) (𝓜 .mem) (𝓡 .run)) (WpFn 𝓤 H (tables 𝓤 H 𝓜 𝓡 code.env .C) (tables 𝓤 H 𝓜 𝓡 code.env .Λ) code.function)
     (λ κs. (uint-vals w64, (uint-vals w64, (uint-vals w16, (array-vals reachVals, (array-vals reachVals, tt))))))
-    (λ κs. (uint-tells w64, (uint-tells w64, (uint-tells w16, (array-tells R.the-row reachVals reach-tells 1030, (array-tells R.the-row reachVals reach-tells 1030, tt))))))
+    (λ κs. (uint-tells w64, (uint-tells w64, (uint-tells w16, (array-tells R.the-row reachVals reach-tells tableRoom, (array-tells R.the-row reachVals reach-tells tableRoom, tt))))))
     (λ κs qs bounds a g are. walk 𝓤 H (𝓖 .A) (𝓜 .mem) (𝓡 .run) (givenOf 𝓤 H 𝓜 𝓖) (tablesOf 𝓤 H 𝓜 (tables 𝓤 H 𝓜 𝓡 code.env))
     (cited 𝓤 H (Core 𝓤 H (𝓖 .A) (𝓜 .mem) (𝓡 .run)) 𝓜 𝓡 code.env core-def.name core-def.routine code.calls-contraction·contract (core-thm.met 𝓤 H 𝓜 𝓖 𝓡))
     (a .0) (a .1 .0) (a .1 .1 .0) (a .1 .1 .1 .0) (a .1 .1 .1 .1 .0) _ _ (are .0 .1) (are .1 .0 .1) (are .1 .1 .0 .1) (are .1 .1 .1 .0) (are .1 .1 .1 .1 .0)))

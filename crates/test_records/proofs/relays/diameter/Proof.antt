@@ -1,7 +1,7 @@
 -- `relays::diameter` is safe: a walk of its MIR, by hand. The first records of the table are lent to `diameter::diameter`.
 -- Assumes nothing.
 use denote.Enum.Laws as EL
-use Rattle.test_records.proofs.Lending.{ap, subst, refl, ℕ, _<_, _^_, List, [], _∷_, URA, w16, w64, Val, vint, SProp, ent, id⊢, Lft, Share, flft, fullShare, ftrue, Memory, Routine, Heap, Tables, WpFn, Atoms, fmOf, Fun, givenOf, tables, tablesOf, Given, ‵, _⊛_, _$_, _∵_, !, qed, by, look-in, stop, from, addr, agg, of-opd, and-then, no-more, assigns, land, returns, enter, allots, takes-in, within, copied, copies, known, fills, frees-all, uint-vals, uint-tells, u8, now, Room, length, u16, owns, RefT, slice-vals, named, ShrSlice, shr-slice-tells, Fml, sliceVal, array-vals, array-tells, Bound, Contract, Triple, entered, cited, Reach, reachVals, reach-tells, Promise, meets, ending, calls-known, val, front, Holds, array, table-typed, table-room, had, picked, hears, lends-table, table-back}
+use Rattle.test_records.proofs.Lending.{ap, subst, refl, ℕ, _<_, _^_, List, [], _∷_, URA, w16, w64, Val, vint, SProp, ent, id⊢, Lft, Share, flft, fullShare, ftrue, Memory, Routine, Heap, Tables, WpFn, Atoms, fmOf, Fun, givenOf, tables, tablesOf, Given, ‵, _⊛_, _$_, _∵_, !, qed, by, look-in, stop, from, addr, agg, of-opd, and-then, no-more, assigns, land, returns, enter, allots, takes-in, within, copied, copies, known, fills, frees-all, uint-vals, uint-tells, u8, now, Room, length, u16, owns, RefT, slice-vals, named, ShrSlice, shr-slice-tells, Fml, sliceVal, array-vals, array-tells, Bound, Contract, Triple, entered, cited, Reach, reachVals, reach-tells, Promise, meets, ending, calls-known, val, front, Holds, array, table-typed, table-room, had, picked, hears, lends-table, table-back, tableRoom}
 use Rattle.network.proofs.Reach as R
 use Rattle.distances.proofs.DiameterAnswer as S
 use Rattle.distances.proofs.DiameterAnswer.Laws as S′
@@ -21,7 +21,7 @@ module _ {M : Type 1} (𝓤 : URA M) (H : Heap 𝓤) (A : Atoms 𝓤) (mem : Mem
   Core = Promise 𝓤 H A core.ended (core.clauses 𝓤 H A mem run)
 
   module _ (W : Given 𝓤 H A) (𝓣 : Tables 𝓤 H) (core-met : Triple 𝓤 (𝓣 .C core-def.name) Core) (κs : Lft) (qs : Share) (n basins : ℕ) (xs : List Reach) (v : Val) (setting : RefT (List ℕ))
-      (n-fits : n < 2 ^ 64) (fits : basins < 2 ^ 16) (is : Holds 1030 xs v) (setting-room : Room u8 (length (now setting))) where
+      (n-fits : n < 2 ^ 64) (fits : basins < 2 ^ 16) (is : Holds tableRoom xs v) (setting-room : Room u8 (length (now setting))) where
     -- what the contract binds, and what the call's binds where t is lent
     abbrev x : Bound 𝓤 H A f.signature
     x = ((κs, tt), (qs, tt), tt, (n, (basins, (xs, (setting, tt)))), (vint w64 n ∷ [], (vint w16 basins ∷ [], (v ∷ [], (val setting ∷ [], tt)))))
@@ -38,8 +38,8 @@ module _ {M : Type 1} (𝓤 : URA M) (H : Heap 𝓤) (A : Atoms 𝓤) (mem : Mem
 
     walk : ent 𝓤 (Own .pre (x, tt)) (WpFn 𝓤 H (𝓣 .C) (𝓣 .Λ) code.function (vint w64 n ∷ vint w16 basins ∷ v ∷ val setting ∷ []) (Own .post (x, tt)))
     walk =
-        qed W (had (‵ (flft κs qs) ⊛ ‵ ftrue) 1030 n before (array 1030 xs v) after ∷ []) ∵ enter ! (𝓣 .C) (𝓣 .Λ) code.function (vint w64 n ∷ vint w16 basins ∷ v ∷ val setting ∷ []) _ $ allots ! _ (λ bs. takes-in ! ((tt, record { fits = n-fits }), ((tt, record { fits = fits }), (table-typed 𝓤 H A W 1030 xs is, ((tt, (tt, (record { fits = setting-room .0 }, tt))), tt)))) $
-        hears ! xs (is .1 .0 .1) (λ e. assigns ! (of-opd ! (copied ! 3 refl)) (from ! (stop !)) (fills ! 5 refl (table-typed 𝓤 H A W 1030 xs is)) $ assigns ! (addr ! (from ! (stop !))) (from ! (stop !)) (fills ! 6 refl (tt, tt)) $
+        qed W (had (‵ (flft κs qs) ⊛ ‵ ftrue) tableRoom n before (array tableRoom xs v) after ∷ []) ∵ enter ! (𝓣 .C) (𝓣 .Λ) code.function (vint w64 n ∷ vint w16 basins ∷ v ∷ val setting ∷ []) _ $ allots ! _ (λ bs. takes-in ! ((tt, record { fits = n-fits }), ((tt, record { fits = fits }), (table-typed 𝓤 H A W tableRoom xs is, ((tt, (tt, (record { fits = setting-room .0 }, tt))), tt)))) $
+        hears ! xs (is .1 .0 .1) (λ e. assigns ! (of-opd ! (copied ! 3 refl)) (from ! (stop !)) (fills ! 5 refl (table-typed 𝓤 H A W tableRoom xs is)) $ assigns ! (addr ! (from ! (stop !))) (from ! (stop !)) (fills ! 6 refl (tt, tt)) $
         assigns ! (known ! (ap (λ k. sliceVal (bs .1 .1 .1 .1 .1 .0, 0) k) e) (agg ! (copies ! (6 ∷ 1 ∷ []) refl))) (from ! (stop !)) (fills ! 7 refl (tt, (tt, (record { fits = subst (λ k. k < 2 ^ 64) e n-fits }, tt)))) $
         lends-table ! tt 5 before after xs n refl is table-room (λ α γ.
         -- [the other locals; what the call asks; what is owed]
@@ -53,7 +53,7 @@ diameter-spec 𝓤 H 𝓜 𝓖 𝓡 =
     entered 𝓤 H (Own 𝓤 H (𝓖 .A) (𝓜 .mem) (𝓡 .run)) (tables 𝓤 H 𝓜 𝓡 code.env .C) (tables 𝓤 H 𝓜 𝓡 code.env .Λ) #name code.function (code.unfolded 𝓤 H 𝓜 𝓡)
     (meets 𝓤 H (𝓖 .A) f.ended (f.clauses 𝓤 H (𝓖 .A) (𝓜 .mem) (𝓡 .run)) (WpFn 𝓤 H (tables 𝓤 H 𝓜 𝓡 code.env .C) (tables 𝓤 H 𝓜 𝓡 code.env .Λ) code.function)
     (λ κs. (uint-vals w64, (uint-vals w16, (array-vals reachVals, (slice-vals, tt)))))
-    (λ κs. (uint-tells w64, (uint-tells w16, (array-tells R.the-row reachVals reach-tells 1030, (shr-slice-tells (named 0) (κs .0) u8, tt)))))
+    (λ κs. (uint-tells w64, (uint-tells w16, (array-tells R.the-row reachVals reach-tells tableRoom, (shr-slice-tells (named 0) (κs .0) u8, tt)))))
     (λ κs qs bounds a g are. walk 𝓤 H (𝓖 .A) (𝓜 .mem) (𝓡 .run) (givenOf 𝓤 H 𝓜 𝓖) (tablesOf 𝓤 H 𝓜 (tables 𝓤 H 𝓜 𝓡 code.env))
     (cited 𝓤 H (Core 𝓤 H (𝓖 .A) (𝓜 .mem) (𝓡 .run)) 𝓜 𝓡 code.env core-def.name core-def.routine code.calls-diameter·diameter (core-thm.met 𝓤 H 𝓜 𝓖 𝓡))
     (κs .0) (qs .0) (a .0) (a .1 .0) (a .1 .1 .0) _ (a .1 .1 .1 .0) (are .0 .1) (are .1 .0 .1) (are .1 .1 .0) (are .1 .1 .1 .0 .0 .1)))

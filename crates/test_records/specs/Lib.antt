@@ -1,0 +1,2 @@
+-- How large a table the program tries.
+pub mod Rooms
