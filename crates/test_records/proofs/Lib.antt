@@ -1,2 +1,3 @@
 -- What the walks of the relays share.
 pub mod Lending
+pub mod Relaying
