@@ -35,7 +35,6 @@ use Rattle.packing.proofs.Lending.{Outs, three, OutsIn, sliced, at, resultOf, p
 use Rattle.packing.proofs.Relays.{table, asked}
 use Rattle.packing.proofs.Unpacking.{reachTy}
 use Rattle.test_records.proofs.Lending.{ap, subst, ℕ, _<_, _^_, List, URA, Val, SProp, ent, Lft, Heap, Tables, WpFn, Atoms, fmOf, factI, tables, tablesOf, Given, ‵, _⊛_, _$_, _∵_, !, qed, by, move, look-in, stop, from, load, addr, agg, of-opd, and-then, no-more, assigns, land, returns, enter, allots, within, known, fills, frees-all, RefT, length, sliceVal, Fml, fsep, ftrue, Bound, Triple, entered, cited, Reach, Promise, meets, ending, calls-known, Routine, front, Holds, array, table-room, had, hears, lends-table, table-back, tableTy}
-
 -- (what a relay's own file takes from elsewhere, so that it has one `use` line for it)
 pub use mir.Syntax.{named, w16}
 pub use contract.Lifetimes.{toks}
@@ -288,6 +287,9 @@ module _ {M : Type 1} (𝓤 : URA M) (H : Heap 𝓤) (𝓜 : Model 𝓤 H) (𝓖
 abbrev pub array-tells : Tells (Array R.the-row tableRoom) (Is (Array R.the-row tableRoom)) (array-vals reachVals)
 array-tells = tells-array R.the-row reachVals reach-tells tableRoom
 
--- the number of records
+-- the table, and the number of records, are of their locals' types
+pub table-fits : {M : Type 1} (𝓤 : URA M) (H : Heap 𝓤) (𝓜 : Model 𝓤 H) (𝓖 : GhostRules 𝓤 H) (rec : List Reach) {v : Val} → Holds tableRoom rec v → Holding (hasTy (tableTy tableRoom) v) × WT v
+table-fits 𝓤 H 𝓜 𝓖 rec is = table-typed 𝓤 H (𝓖 .A) (givenOf 𝓤 H 𝓜 𝓖) tableRoom rec is
+
 pub count-fits : {n : ℕ} → n < 2 ^ 64 → Holding (hasTy (tyInt w64) (vint w64 n)) × WT (vint w64 n)
 count-fits h = (tt, record { fits = h })

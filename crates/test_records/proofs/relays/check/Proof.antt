@@ -1,7 +1,7 @@
 -- `relays::check` is safe: the first records of the table are lent to `planner::check` (`proofs/Relaying.antt`).
 -- Assumes nothing.
 use denote.Enum.Laws as EL
-use Rattle.test_records.proofs.Relaying.{refl, [], _∷_, named, w16, w64, vint, id⊢, toks, fullShare, givenOf, raw, uint-vals, uint-tells, u8, slice-vals, shr-slice-tells, array-vals, array-tells, reachVals, mine, none, relays, val, table-typed, tableRoom, count-fits, basins-fit, slice-fits}
+use Rattle.test_records.proofs.Relaying.{refl, [], _∷_, named, w16, w64, vint, id⊢, toks, fullShare, givenOf, raw, uint-vals, uint-tells, u8, slice-vals, shr-slice-tells, array-vals, array-tells, reachVals, mine, none, relays, val, table-fits, count-fits, basins-fit, slice-fits}
 use Rattle.replies.proofs.CheckAnswer as S
 use Rattle.replies.proofs.CheckAnswer.Laws as S′
 use Rattle.planner.proofs.check as core
@@ -33,6 +33,6 @@ check-spec 𝓤 H 𝓜 𝓖 𝓡 =
       result = λ l r. r;
       kept = λ l ws. (tt, ws);
       typed = λ l u r is. EL.lawful S.the-type S′.the-laws 𝓤 H (𝓖 .A) (givenOf 𝓤 H 𝓜 𝓖) tt .typed r _ is .0;
-      seats = λ b₀ bs rs qs. record { fitting = (count-fits (are .0 .1), (basins-fit (are .1 .0 .1), (table-typed 𝓤 H (𝓖 .A) (givenOf 𝓤 H 𝓜 𝓖) tableRoom (a .1 .1 .0) (are .1 .1 .0), (slice-fits (are .1 .1 .1 .0 .0 .1 .0), tt)))); count-in = refl; table-in = refl; outs-in = tt; before-in = refl; after-in = refl; handed = λ l. refl };
+      seats = λ b₀ bs rs qs. record { fitting = (count-fits (are .0 .1), (basins-fit (are .1 .0 .1), (table-fits 𝓤 H 𝓜 𝓖 (a .1 .1 .0) (are .1 .1 .0), (slice-fits (are .1 .1 .1 .0 .0 .1 .0), tt)))); count-in = refl; table-in = refl; outs-in = tt; before-in = refl; after-in = refl; handed = λ l. refl };
       computes = record { enters = id⊢ 𝓤 _; asks = λ l. id⊢ 𝓤 _; lives = λ l. id⊢ 𝓤 _; gives = λ l u r ws. id⊢ 𝓤 _; promises = λ l r ws. id⊢ 𝓤 _; locals-are = refl; body-is = refl };
     })
