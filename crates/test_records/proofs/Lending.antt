@@ -1,24 +1,24 @@
 -- A walk lends the first records of a local array, for a lifetime that begins before a call and ends after it.
 use mathlib.Core.Path.{_≡_, sym, _∙_}
-use Prim.Native.Nat.{zero, suc, _≤_}
-use mathlib.Core.Option.{Option, none, some as just, Option·some-injective}
-use mathlib.Core.List.{_++_}
+use Prim.Native.Nat.{zero, _≤_}
+use mathlib.Core.Option.{some as just}
+use mathlib.Core.List.{_++_, map}
 use native.Mathlib.Omega.{arith}
 use lib.Dec.{T}
-use lib.ListN.{take, drop as skip, take-append-drop, getElem?}
-use mir.Syntax.{Ty, tyArray, copy, place}
+use lib.ListN.{length-map, take, drop as skip, take-append-drop, getElem?}
+use mir.Syntax.{Ty, tyArray}
 use mir.Val.{WT, hasTy}
-use base.Logic.{sep, ex, guard, guardI, guardE}
+use base.Logic.{sep, ex, guard}
 use base.Fml.{GName, fat, fdies, flent}
-use prog.Wp.{Env, spotOf}
 use ghost.Atoms.{sem}
 use types.Kit.{Item, given, learn, use3, show, check, some, later, mean, Goal, Soaks, Seq, Step, step, drop, use1, use2, split, pick, fsplit, fjoin, fpick, fpack, feqL, feqI, rewrite, await, frame, done}
-use types.Run.{Opd}
 use types.Tokens.{lft-new, lft-end, lent-back}
 use types.SemTy.{Arr, cells as elements}
 use types.Share.{arr-parts}
 use denote.Memory.{mem, shares, partAt, cellAt, partOf}
-use denote.Array.{arrayVal, array-lawful}
+use denote.Array.{each, arrayVal, array-lawful}
+use denote.Shadow.{shadow}
+use denote.Struct.Declared.{field}
 use denote.ArrayMemory.{array-apart, array-whole}
 use denote.Laws.{Is, shows}
 use denote.Lend.{Held, lends-slice, slice-back, lends-shr-slice}
@@ -43,29 +43,13 @@ pub use types.Run.{of-opd}
 pub use denote.Array.{Array, array-vals, array-tells, array-makes}
 pub use denote.Slice.{sliceVal}
 pub use Rattle.packing.proofs.Locals.{copied, known}
+pub use Rattle.packing.proofs.Lends.{picked}
 pub use Rattle.packing.proofs.Records.{reachVals, reach-tells, reach-made}
 pub use Rattle.packing.proofs.Relays.{refl, ℕ, _<_, _^_, List, [], _∷_, URA, w16, Val, vint, SProp, ent, id⊢, Lft, Share, ftrue, flft, Memory, Routine, Heap, Tables, WpFn, Atoms, fmOf, Fun, factI, givenOf, tables, Given, ‵, _⊛_, _$_, _∵_, !, qed, by, move, join, look-in, stop, from, load, addr, agg, and-then, no-more, assigns, land, returns, enter, allots, takes-in, within, copies, fills, lends, frees-all, uint-vals, uint-tells, u8, u16, owns, RefT, now, slice-vals, ShrSlice, MutSlice, Room, shr-slice-tells, mut-slice-tells, length, named, Fml, Bound, Contract, Triple, entered, cited, Reach, Promise, meets, ending, calls-known, val}
 unfoldable pub use Rattle.packing.proofs.Relays.{tablesOf}
 pub use Rattle.test_records.specs.Rooms.{tableRoom}
-use Rattle.packing.proofs.Locals.{Cell, full, inside, cells, Named, here, locals}
-
--- All locals but number j, and with one put in at j.
-abbrev pub without : ℕ → List Cell → List Cell
-without j [] = []
-without zero (c ∷ cs) = cs
-without (suc j) (c ∷ cs) = c ∷ without j cs
-
-abbrev pub insert : ℕ → Cell → List Cell → List Cell
-insert zero c cs = c ∷ cs
-insert (suc j) c [] = c ∷ []
-insert (suc j) c (d ∷ cs) = d ∷ insert j c cs
-
-abbrev Present : Option Cell → Type 0
-Present none = ⊥
-Present (just c) = Unit {0}
-
-abbrev alone : Cell → Fml
-alone c = fsep (inside (c .0) (c .1) (c .2)) (fdies (c .0) (c .1))
+use Rattle.packing.proofs.Locals.{Cell, full, cells, locals, opened, shut}
+use Rattle.packing.proofs.Lends.{without, insert, alone, taken, put}
 
 -- the type of a local table, the elements from o on, and where those after the first n lie
 abbrev pub tableTy : ℕ → Ty
@@ -82,26 +66,6 @@ abbrev past : List Reach → ℕ
 past ys = at zero (mem R.the-row .size) (length ys)
 
 module _ {M : Type 1} (𝓤 : URA M) (H : Heap 𝓤) (A : Atoms 𝓤) (W : Given 𝓤 H A) where
-  taken : (cs : List Cell) (j : ℕ) (c : Cell) → getElem? cs j ≡ just c → ent 𝓤 (sem 𝓤 H A (cells cs)) (sep 𝓤 (sem 𝓤 H A (alone c)) (sem 𝓤 H A (cells (without j cs))))
-  unfolding cells
-  taken [] j c e = absurd (subst Present (sym e) tt)
-  taken (d ∷ cs) zero c e = subst (λ x. ent 𝓤 (sem 𝓤 H A (cells (d ∷ cs))) (sep 𝓤 (sem 𝓤 H A (alone x)) (sem 𝓤 H A (cells cs)))) (Option·some-injective d c e) (id⊢ 𝓤 _)
-  taken (d ∷ cs) (suc j) c e =
-      qed W (‵ (cells (d ∷ cs)) ∷ []) ∵ fsplit ! $ move ! (1 ∷ []) $ use1 W (‵ (alone c) ⊛ ‵ (cells (without j cs))) (taken cs j c e) $ split ! $ frame ! $ move ! (1 ∷ 0 ∷ []) $ fjoin ! $ done !
-
-  put : (cs : List Cell) (j : ℕ) (c : Cell) → ent 𝓤 (sep 𝓤 (sem 𝓤 H A (alone c)) (sem 𝓤 H A (cells cs))) (sem 𝓤 H A (cells (insert j c cs)))
-  unfolding cells
-  put cs zero c = id⊢ 𝓤 _
-  put [] (suc j) c = id⊢ 𝓤 _
-  put (d ∷ cs) (suc j) c =
-      qed W (‵ (alone c) ∷ ‵ (cells (d ∷ cs)) ∷ []) ∵ move ! (1 ∷ []) $ fsplit ! $ move ! (2 ∷ 1 ∷ []) $ use2 W (‵ (cells (insert j c cs))) (put cs j c) $ move ! (1 ∷ 0 ∷ []) $ fjoin ! $ done !
-
-  opened : (cs : List Cell) → ent 𝓤 (mean 𝓤 H A (locals cs)) (sem 𝓤 H A (cells cs))
-  opened cs = guardE 𝓤 (Named cs) (sem 𝓤 H A (cells cs)) (λ _. id⊢ 𝓤 (sem 𝓤 H A (cells cs)))
-
-  shut : (cs : List Cell) → ent 𝓤 (sem 𝓤 H A (cells cs)) (mean 𝓤 H A (locals cs))
-  shut cs = guardI 𝓤 (Named cs) (sem 𝓤 H A (cells cs)) here
-
   -- an array in a local is its elements side by side, and these are room for an array
   apart : (m : ℕ) (xs : List Reach) (v : Val) (b : ℕ) → Is (Array R.the-row m) xs (v ∷ []) → ent 𝓤 (H .at fullShare (tableTy m) b zero v) (sem 𝓤 H A (records xs b zero))
   unfolding partOf
@@ -203,6 +167,16 @@ table-room = omega arith
 pub table-typed : {M : Type 1} (𝓤 : URA M) (H : Heap 𝓤) (A : Atoms 𝓤) (W : Given 𝓤 H A) (m : ℕ) (xs : List Reach) {v : Val} → Holds m xs v → T (hasTy (tableTy m) v) × WT v
 table-typed 𝓤 H A W m xs is = array-lawful 𝓤 H A W R.the-row (LL.lawful R.the-type R′.the-laws 𝓤 H A W) m .typed xs _ is .0
 
+-- a table as a struct's field has it
+each-field : (xs : List Reach) (us : List Val) → shadow (each Reach (R.the-row .own) xs us) → shadow (each (field R.the-type .row .Denot) (field R.the-type .row .own) (map (field R.the-type .into) xs) us)
+each-field [] [] h = h
+each-field [] (u ∷ us) h = h
+each-field (x ∷ xs) [] h = h
+each-field (x ∷ xs) (u ∷ us) h = (h .0, each-field xs us (h .1))
+
+pub as-field : {m : ℕ} (xs : List Reach) {v : Val} → Holds m xs v → Is (Array (field R.the-type .row) m) (map (field R.the-type .into) xs) (v ∷ [])
+as-field xs is = (is .0, ((is .1 .0 .0, length-map xs (field R.the-type .into) ∙ is .1 .0 .1), each-field xs (is .0) (is .1 .1)))
+
 -- what a relay has on entry: what a call asks, with the array in place of the table, and the number, which is in range
 abbrev pub had : {M : Type 1} {𝓤 : URA M} → Item 𝓤 → ℕ → ℕ → List Fml → Fml → Fml → Item 𝓤
 had {M} {𝓤} tokens m n before it after = (tokens ⊛ ‵ (fsep (usize .own n (vint w64 n ∷ [])) (params before it after))) ⊛ raw (fact 𝓤 (n ≤ m))
@@ -216,11 +190,6 @@ had-two {M} {𝓤} tokens m n k before it after =
 replaced : {M : Type 1} (𝓤 : URA M) (H : Heap 𝓤) (A : Atoms 𝓤) (W : Given 𝓤 H A) (before : List Fml) (it new after : Fml) → ent 𝓤 (sep 𝓤 (sem 𝓤 H A (params before it after)) (sem 𝓤 H A new)) (sem 𝓤 H A (params before new after))
 replaced 𝓤 H A W [] it new after = qed W (‵ (fsep it after) ∷ ‵ new ∷ []) ∵ fsplit ! $ drop ! $ move ! (1 ∷ 0 ∷ []) $ fjoin ! $ done !
 replaced 𝓤 H A W (p ∷ before) it new after = qed W (‵ (fsep p (params before it after)) ∷ ‵ new ∷ []) ∵ fsplit ! $ move ! (1 ∷ 2 ∷ []) $ use2 W (‵ (params before new after)) (replaced 𝓤 H A W before it new after) $ move ! (1 ∷ 0 ∷ []) $ fjoin ! $ done !
-
-module _ {M : Type 1} {𝓤 : URA M} {H : Heap 𝓤} {A : Atoms 𝓤} {K : Type 0} {W : Given 𝓤 H A} {Γ : List (Item 𝓤)} where
-  -- an operand that copies a local, which stands at k among those that are there
-  pub picked : K → (k : ℕ) {j : ℕ} {cs : List Cell} {E : Env 𝓤 H} {v : Val} → getElem? cs k ≡ just (spotOf 𝓤 H E j .0, spotOf 𝓤 H E j .1, full v) → Opd K W (locals cs ∷ Γ) E (copy (place j [])) v
-  picked t k e = load t (from t (stop t)) (look-in t 0 (within t k e))
 
 module _ {M : Type 1} {𝓤 : URA M} {H : Heap 𝓤} {A : Atoms 𝓤} {K : Type 0} {W : Given 𝓤 H A} {Γ : List (Item 𝓤)} {G : Goal 𝓤 H} where
   -- the number is in range, so as many records are lent

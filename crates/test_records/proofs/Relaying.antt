@@ -31,7 +31,7 @@ use Rattle.network.proofs.Reach as R
 use Rattle.packing.proofs.Records.{reach-tells}
 use Rattle.packing.proofs.Locals.{Cell, Content, Blocks, room as empty, full, locals, blocks, fresh, holding, passed, Fitting}
 use Rattle.packing.proofs.Stacks.{seat, stacks, stores-in, sits, frees-part, passed-blocks, From, numberOf, cellOf, heldOf, these, opds-are, passes-on}
-use Rattle.packing.proofs.Lending.{Outs, three, OutsIn, sliced, at, resultOf, paramsOf, firstOf, restOf, owned}
+use Rattle.packing.proofs.Lending.{Outs, three, OutsIn, outLocals, outHeld, held-blocks, operands, sliced, at, resultOf, paramsOf, firstOf, restOf, owned}
 use Rattle.packing.proofs.Relays.{table, asked}
 use Rattle.packing.proofs.Unpacking.{reachTy}
 use Rattle.test_records.proofs.Lending.{ap, subst, ℕ, _<_, _^_, List, URA, Val, SProp, ent, Lft, Heap, Tables, WpFn, Atoms, fmOf, factI, tables, tablesOf, Given, ‵, _⊛_, _$_, _∵_, !, qed, by, move, look-in, stop, from, load, addr, agg, of-opd, and-then, no-more, assigns, land, returns, enter, allots, within, known, fills, frees-all, RefT, length, sliceVal, Fml, fsep, ftrue, Bound, Triple, entered, cited, Reach, Promise, meets, ending, calls-known, Routine, front, Holds, array, table-room, had, hears, lends-table, table-back, tableTy}
@@ -53,35 +53,16 @@ pub use Rattle.test_records.proofs.Lending.{refl, [], _∷_, w64, vint,
 abbrev pub tableLocals : List Local
 tableLocals = local (tableTy tableRoom) memorySlot ∷ local (tyRef erased imm (tyArray reachTy tableRoom)) valueLocal ∷ local (sliceTy (tyRef erased imm reachTy)) valueLocal ∷ []
 
-abbrev outLocal : Width → List Local → List Local
-outLocal w ls = local (tyRef erased mut (tyInt w)) valueLocal ∷ local (sliceTy (tyRef erased mut (tyInt w))) valueLocal ∷ ls
-
-abbrev outLocals : Outs → List Local
-outLocals none = []
-outLocals (one p ℓ s) = outLocal w8 []
-outLocals (two p ℓ s p′ ℓ′ s′) = outLocal w8 (outLocal w8 [])
-outLocals (three p ℓ s p′ ℓ′ s′ p″ ℓ″ s″) = []
-
--- what the locals hold then
-abbrev outHeld : Outs → List Content
-outHeld none = []
-outHeld (one p ℓ s) = full (vptr (s .ptr .0) (s .ptr .1)) ∷ full (val s) ∷ []
-outHeld (two p ℓ s p′ ℓ′ s′) = full (vptr (s .ptr .0) (s .ptr .1)) ∷ full (val s) ∷ full (vptr (s′ .ptr .0) (s′ .ptr .1)) ∷ full (val s′) ∷ []
-outHeld (three p ℓ s p′ ℓ′ s′ p″ ℓ″ s″) = []
-
--- parameter p is passed on in the locals i and i + 1 of the last part
-abbrev relent : List Local → ℕ → ℕ → Body → Body
-relent ls p i rest = seq (assign (place (seat ls (seat tableLocals i)) []) (addrOf (place p (field 0 ∷ deref (tyInt w8) ∷ []))))
-    (seq (assign (place (seat ls (seat tableLocals (suc i))) []) (aggregate (copy (place (seat ls (seat tableLocals i)) []) ∷ copy (place p (field 1 ∷ [])) ∷ []))) rest)
+-- parameter p is passed on in the locals i and i + 1 after these
+abbrev relent : List Local → Width → ℕ → ℕ → Body → Body
+relent ls w p i rest = seq (assign (place (seat ls i) []) (addrOf (place p (field 0 ∷ deref (tyInt w) ∷ []))))
+    (seq (assign (place (seat ls (suc i)) []) (aggregate (copy (place (seat ls i) []) ∷ copy (place p (field 1 ∷ [])) ∷ []))) rest)
 
 abbrev outBody : List Local → Outs → Body → Body
 outBody ls none rest = rest
-outBody ls (one p ℓ s) rest = relent ls p 0 rest
-outBody ls (two p ℓ s p′ ℓ′ s′) rest = relent ls p 0 (relent ls p′ 2 rest)
-outBody ls (three p ℓ s p′ ℓ′ s′ p″ ℓ″ s″) rest = rest
-
-abbrev operands : List Local → List From → List Operand
-operands ls fs = map (λ f. copy (place (numberOf ls f) [])) fs
+outBody ls (one p ℓ s) rest = relent ls w8 p 3 rest
+outBody ls (two p ℓ s p′ ℓ′ s′) rest = relent ls w8 p 3 (relent ls w8 p′ 5 rest)
+outBody ls (three p ℓ s p′ ℓ′ s′ p″ ℓ″ s″) rest = relent ls w8 p 3 (relent ls w16 p′ 5 (relent ls w16 p″ 7 rest))
 
 -- from the call on, and all of it. The first parameter is the number of records, and the table's local is t
 abbrev calling : List Local → Name → List From → List From → Body
@@ -99,12 +80,6 @@ pub record Lent : Type 0 where
 abbrev Later : (os : Outs) → Blocks tableLocals → Blocks (outLocals os) → List (Ty × ℕ)
 Later os rs qs = blocks (fresh tableLocals rs) ++ blocks (fresh (outLocals os) qs)
 
-held-blocks : (os : Outs) (qs : Blocks (outLocals os)) → blocks (holding (outLocals os) qs (outHeld os)) ≡ blocks (fresh (outLocals os) qs)
-held-blocks none qs = refl
-held-blocks (one p ℓ s) qs = refl
-held-blocks (two p ℓ s p′ ℓ′ s′) qs = refl
-held-blocks (three p ℓ s p′ ℓ′ s′ p″ ℓ″ s″) qs = refl
-
 module _ {M : Type 1} (𝓤 : URA M) (H : Heap 𝓤) (A : Atoms 𝓤) (W : Given 𝓤 H A) {C : Calls 𝓤 H} {Λ : Loops 𝓤 H} (ls : List Local) (bs : Blocks ls) (rs : Blocks tableLocals) (cs : List Cell) where
   passes-outs : (os : Outs) (qs : Blocks (outLocals os)) → OutsIn 𝓤 H cs (blocks (fresh ls bs) ++ Later os rs qs) os → (rest : Body) (p : Post 𝓤 H) (Γ : List (Item 𝓤))
       → Sq W (locals (holding (outLocals os) qs (outHeld os)) ∷ locals cs ∷ Γ) (runs C Λ (blocks (fresh ls bs) ++ Later os rs qs) rest p)
@@ -113,7 +88,10 @@ module _ {M : Type 1} (𝓤 : URA M) (H : Heap 𝓤) (A : Atoms 𝓤) (W : Given
   passes-outs (one n ℓ x) qs is rest p Γ s = passes-on ! n ls bs (Later (one n ℓ x) rs qs) 3 0 (is .0) (is .1) refl refl refl refl refl (is .2) $ s
   passes-outs (two n ℓ x n′ ℓ′ x′) qs is rest p Γ s = passes-on ! n ls bs (Later (two n ℓ x n′ ℓ′ x′) rs qs) 3 0 (is .0 .0) (is .0 .1) refl refl refl refl refl (is .0 .2) $
       passes-on ! n′ ls bs (Later (two n ℓ x n′ ℓ′ x′) rs qs) 5 2 (is .1 .0) (is .1 .1) refl refl refl refl refl (is .1 .2) $ s
-  passes-outs (three n ℓ x n′ ℓ′ x′ n″ ℓ″ x″) qs is rest p Γ s = s
+  passes-outs (three n ℓ x n′ ℓ′ x′ n″ ℓ″ x″) qs is rest p Γ s = let D = Later (three n ℓ x n′ ℓ′ x′ n″ ℓ″ x″) rs qs in
+      passes-on ! n ls bs D 3 0 (is .0 .0) (is .0 .1) refl refl refl refl refl (is .0 .2) $
+      passes-on ! n′ ls bs D 5 2 (is .1 .0 .0) (is .1 .0 .1) refl refl refl refl refl (is .1 .0 .2) $
+      passes-on ! n″ ls bs D 7 4 (is .1 .1 .0) (is .1 .1 .1) refl refl refl refl refl (is .1 .1 .2) $ s
 
 -- ---- what a relay's locals hold, in whatever blocks they are
 -- the blocks of all locals, and the parts

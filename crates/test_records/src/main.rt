@@ -218,10 +218,11 @@ fn reread_rows(kinds: &mut [u8], a: &mut [u16], b: &mut [u16], walker: Walker, s
 fn reread_records(n: usize, reaches: [Reach; ROOM], walker: Walker, s: &[u8]) -> u64
     requires { ⌜ n ≤ tableRoom ⌝ }
 {
-    let x = sums::of_read(relays::read_network(n, s, reaches));
-    let after = relays::read_table(n, s, reaches);
+    let r = relays::read_network(n, s, reaches);
+    let answer = r.answer;
+    let after = r.reaches;
     mix(
-        x,
+        sums::of_read(answer),
         records(WRITE_NETWORK, n, BASINS, after, walker, s, BYTES),
     )
 }
@@ -315,11 +316,12 @@ fn contracted_records(
     requires { ⌜ n ≤ tableRoom ⌝ }
     requires { ⌜ k ≤ tableRoom ⌝ }
 {
-    let x = sums::of_contracted(relays::contract(n, k, basins, reaches, out));
-    let after = relays::contracted(n, k, basins, reaches, out);
+    let c = relays::contract(n, k, basins, reaches, out);
+    let answer = c.answer;
+    let after = c.reaches;
     let s = walker.setting;
     mix(
-        x,
+        sums::of_contracted(answer),
         records(WRITE_NETWORK, MAX_REACHES, BASINS, after, walker, &s, BYTES),
     )
 }

@@ -130,46 +130,40 @@ pub fn write_reply(n: usize, basins: u16, reaches: [Reach; ROOM], out: &mut [u8]
     sheet::write_reply(basins, &reaches[..n], out)
 }
 
-// Reading a file over records, in two: what is replied, and the table afterwards.
-pub fn read_network(n: usize, file: &[u8], mut reaches: [Reach; ROOM]) -> ReadAnswer
-    requires { ⌜ n ≤ tableRoom ⌝ }
-{
-    netfile::read_network(file, &mut reaches[..n])
+// What reading a file over records replies, and the table afterwards.
+pub struct ReadTable {
+    pub answer: ReadAnswer,
+    pub reaches: [Reach; ROOM],
 }
 
-pub fn read_table(n: usize, file: &[u8], mut reaches: [Reach; ROOM]) -> [Reach; ROOM]
+pub fn read_network(n: usize, file: &[u8], mut reaches: [Reach; ROOM]) -> ReadTable
     requires { ⌜ n ≤ tableRoom ⌝ }
 {
-    netfile::read_network(file, &mut reaches[..n]);
-    reaches
+    let answer = netfile::read_network(file, &mut reaches[..n]);
+    ReadTable { answer, reaches }
 }
 
-// Contracting over records, in two: what is replied, and the buffer afterwards, of which the first k records are lent.
+// What contracting over records replies, and the buffer afterwards, of which the first k records are lent.
+pub struct ContractedTable {
+    pub answer: ContractAnswer,
+    pub reaches: [Reach; ROOM],
+}
+
 pub fn contract(
     n: usize,
     k: usize,
     basins: u16,
     reaches: [Reach; ROOM],
     mut out: [Reach; ROOM],
-) -> ContractAnswer
+) -> ContractedTable
     requires { ⌜ n ≤ tableRoom ⌝ }
     requires { ⌜ k ≤ tableRoom ⌝ }
 {
-    contraction::contract(basins, &reaches[..n], &mut out[..k])
-}
-
-pub fn contracted(
-    n: usize,
-    k: usize,
-    basins: u16,
-    reaches: [Reach; ROOM],
-    mut out: [Reach; ROOM],
-) -> [Reach; ROOM]
-    requires { ⌜ n ≤ tableRoom ⌝ }
-    requires { ⌜ k ≤ tableRoom ⌝ }
-{
-    contraction::contract(basins, &reaches[..n], &mut out[..k]);
-    out
+    let answer = contraction::contract(basins, &reaches[..n], &mut out[..k]);
+    ContractedTable {
+        answer,
+        reaches: out,
+    }
 }
 
 // Comparing two sheets over records, in two: their order, and the part of the earlier one.

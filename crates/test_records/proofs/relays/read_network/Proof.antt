@@ -1,13 +1,24 @@
--- `relays::read_network` is safe: a walk of its MIR, by hand. The first records of the table are lent to `netfile::read_network`.
+-- `relays::read_network` is safe: a walk of its MIR, by hand. The first records of the table are lent to `netfile::read_network`, and the table is returned.
 -- Assumes nothing.
+use mathlib.Core.List.{_++_}
+use mir.Val.{vstruct, vcons, vnil}
+use lib.ListN.{drop as skip}
+use types.Kit.{drop}
+use denote.Laws.{Is}
+use denote.Steps.{owned}
 use denote.Enum.Laws as EL
-use Rattle.test_records.proofs.Lending.{ap, subst, refl, ℕ, _<_, _^_, List, [], _∷_, URA, w64, Val, vint, SProp, ent, id⊢, Lft, Share, flft, fullShare, ftrue, Memory, Routine, Heap, Tables, WpFn, Atoms, fmOf, Fun, givenOf, tables, tablesOf, Given, ‵, _⊛_, _$_, _∵_, !, qed, by, look-in, stop, from, addr, agg, of-opd, and-then, no-more, assigns, land, returns, enter, allots, takes-in, within, copied, copies, known, fills, frees-all, uint-vals, uint-tells, u8, now, Room, length, RefT, slice-vals, named, ShrSlice, shr-slice-tells, Fml, sliceVal, array-vals, array-tells, Bound, Contract, Triple, entered, cited, Reach, reachVals, reach-tells, Promise, meets, ending, calls-known, val, front, Holds, array, table-typed, table-room, had, picked, hears, lends-table-mut, table-back-mut, tableRoom}
+use denote.Struct.Laws as LL
+use Rattle.test_records.proofs.Lending.{ap, subst, refl, ℕ, _<_, _^_, List, [], _∷_, URA, w64, Val, vint, SProp, ent, id⊢, Lft, Share, flft, fullShare, ftrue, Memory, Routine, Heap, Tables, WpFn, Atoms, fmOf, Fun, givenOf, tables, tablesOf, Given, ‵, _⊛_, _$_, _∵_, !, qed, by, look-in, stop, from, addr, agg, of-opd, and-then, no-more, assigns, land, returns, enter, allots, takes-in, within, copied, copies, known, fills, frees-all, uint-vals, uint-tells, u8, now, Room, length, RefT, slice-vals, named, ShrSlice, shr-slice-tells, Fml, sliceVal, array-vals, array-tells, Bound, Contract, Triple, entered, cited, Reach, reachVals, reach-tells, Promise, meets, ending, calls-known, val, front, Holds, array, table-typed, table-room, had, picked, hears, lends-table-mut, table-back-mut, move, tableRoom, as-field}
 use Rattle.network.proofs.Reach as R
+use Rattle.netfile_format.specs.declared.ReadAnswer.{ReadAnswer}
 use Rattle.netfile_format.proofs.ReadAnswer as S
 use Rattle.netfile_format.proofs.ReadAnswer.Laws as S′
 use Rattle.netfile.proofs.read_network as core
 use Rattle.netfile.proofs.read_network.Symbol as core-def
 use Rattle.netfile.proofs.read_network.Met as core-thm
+use Rattle.test_records.specs.declared.relays.ReadTable.{ReadTable}
+use Rattle.test_records.proofs.relays.ReadTable as P
+use Rattle.test_records.proofs.relays.ReadTable.Laws as P′
 use Rattle.test_records.proofs.relays.read_network.Key.{name as #name}
 use Rattle.test_records.proofs.relays.read_network as f
 use Rattle.test_records.proofs.relays.read_network.Statement as stated
@@ -33,16 +44,28 @@ module _ {M : Type 1} (𝓤 : URA M) (H : Heap 𝓤) (A : Atoms 𝓤) (mem : Mem
     abbrev before : List Fml
     before = ShrSlice (named 0) κ u8 .own file (val file ∷ []) ∷ []
 
+    -- the result and its machine value, made of what is replied and of the table's
+    abbrev made : ReadAnswer → List Reach → ReadTable
+    made o l = record { answer = o; reaches = l }
+
+    abbrev spelt : Val → Val → Val
+    spelt o l = vstruct (vcons o (vcons l vnil))
+
     walk : ent 𝓤 (Own .pre (x, tt)) (WpFn 𝓤 H (𝓣 .C) (𝓣 .Λ) code.function (vint w64 n ∷ val file ∷ v ∷ []) (Own .post (x, tt)))
     walk =
         qed W (had (‵ (flft κ q) ⊛ ‵ ftrue) tableRoom n before (array tableRoom xs v) ftrue ∷ []) ∵ enter ! (𝓣 .C) (𝓣 .Λ) code.function (vint w64 n ∷ val file ∷ v ∷ []) _ $ allots ! _ (λ bs. takes-in ! ((tt, record { fits = n-fits }), ((tt, (tt, (record { fits = file-room .0 }, tt))), (table-typed 𝓤 H A W tableRoom xs is, tt))) $
-        hears ! xs (is .1 .0 .1) (λ e. assigns ! (of-opd ! (copied ! 3 refl)) (from ! (stop !)) (fills ! 4 refl (table-typed 𝓤 H A W tableRoom xs is)) $ assigns ! (addr ! (from ! (stop !))) (from ! (stop !)) (fills ! 5 refl (tt, tt)) $
-        assigns ! (known ! (ap (λ k. sliceVal (bs .1 .1 .1 .1 .0, 0) k) e) (agg ! (copies ! (5 ∷ 1 ∷ []) refl))) (from ! (stop !)) (fills ! 6 refl (tt, (tt, (record { fits = subst (λ k. k < 2 ^ 64) e n-fits }, tt)))) $
+        hears ! xs (is .1 .0 .1) (λ e. assigns ! (of-opd ! (copied ! 3 refl)) (from ! (stop !)) (fills ! 4 refl (table-typed 𝓤 H A W tableRoom xs is)) $ assigns ! (addr ! (from ! (stop !))) (from ! (stop !)) (fills ! 6 refl (tt, tt)) $
+        assigns ! (known ! (ap (λ k. sliceVal (bs .1 .1 .1 .1 .0, 0) k) e) (agg ! (copies ! (6 ∷ 1 ∷ []) refl))) (from ! (stop !)) (fills ! 7 refl (tt, (tt, (record { fits = subst (λ k. k < 2 ^ 64) e n-fits }, tt)))) $
         lends-table-mut ! tt 4 before ftrue xs n refl is table-room (λ α γ.
         -- [the other locals; what the call asks; what is owed]
-        calls-known ! core.ended (core.clauses 𝓤 H A mem run) (y α (front (bs .1 .1 .1 .1 .0) γ xs n)) tt (fmOf 𝓤 H (W .laws) 𝓣) core-met (id⊢ 𝓤 _) _ (λ r e′. id⊢ 𝓤 _) (and-then ! (picked ! 2 refl) (and-then ! (picked ! 5 refl) (no-more !))) (λ w r ws e′ is′.
-        land ! (from ! (stop !)) (fills ! 0 refl (EL.lawful S.the-type S′.the-laws 𝓤 H A W tt .typed r _ is′ .0)) $ table-back-mut ! tt 4 (‵ (flft κ q)) xs n (ws .1 .0) (is .1 .0 .1) (id⊢ 𝓤 _) (λ u is″.
-        returns ! (look-in ! 0 (within ! 0 refl)) $ frees-all ! $ by ! (ending 𝓤 H A f.ended (f.clauses 𝓤 H A mem run) W x tt w r (tt, (tt, (tt, tt))) (id⊢ 𝓤 _)))))))
+        calls-known ! core.ended (core.clauses 𝓤 H A mem run) (y α (front (bs .1 .1 .1 .1 .0) γ xs n)) tt (fmOf 𝓤 H (W .laws) 𝓣) core-met (id⊢ 𝓤 _) _ (λ r e′. id⊢ 𝓤 _) (and-then ! (picked ! 2 refl) (and-then ! (picked ! 6 refl) (no-more !))) (λ w r ws e′ is′.
+        land ! (from ! (stop !)) (fills ! 4 refl (EL.lawful S.the-type S′.the-laws 𝓤 H A W tt .typed r _ is′ .0)) $ table-back-mut ! tt 4 (‵ (flft κ q)) xs n (ws .1 .0) (is .1 .0 .1) (id⊢ 𝓤 _) (λ u is″.
+        assigns ! (of-opd ! (copied ! 4 refl)) (from ! (stop !)) (fills ! 8 refl (table-typed 𝓤 H A W tableRoom (ws .1 .0 ++ skip n xs) is″)) $
+        assigns ! (agg ! (copies ! (5 ∷ 8 ∷ []) refl)) (from ! (stop !)) (fills ! 0 refl (LL.lawful P.the-type P′.the-laws 𝓤 H A W .typed (made r (ws .1 .0 ++ skip n xs)) _ ((w ∷ [], (u ∷ [], tt)), (refl, (is′, (as-field (ws .1 .0 ++ skip n xs) is″, tt)))) .0)) $
+        returns ! (look-in ! 0 (within ! 0 refl)) $ frees-all ! $
+        -- [the token; the last values; what was replied]: the struct is had for nothing
+        move ! (2 ∷ []) $ drop ! $ owned ! P.the-row (Is P.the-row) (LL.makes P.the-type P′.the-plain 𝓤 H A) (made r (ws .1 .0 ++ skip n xs)) (spelt w u ∷ []) ((w ∷ [], (u ∷ [], tt)), (refl, (is′, (as-field (ws .1 .0 ++ skip n xs) is″, tt)))) $ move ! (1 ∷ 2 ∷ 0 ∷ []) $
+        by ! (ending 𝓤 H A f.ended (f.clauses 𝓤 H A mem run) W x tt (spelt w u) (made r (ws .1 .0 ++ skip n xs)) (tt, (tt, (tt, tt))) (id⊢ 𝓤 _)))))))
 
 pub read-network-spec : {M : Type 1} → stated.statement M
 unfolding code.routine tablesOf
