@@ -11,7 +11,7 @@ use mir.Val.{WT, hasTy}
 use base.Logic.{sep, ex, guard}
 use base.Fml.{GName, fat, fdies, flent}
 use ghost.Atoms.{sem}
-use types.Kit.{Item, given, learn, use3, show, check, some, later, mean, Goal, Soaks, Seq, Step, step, drop, use1, use2, split, pick, fsplit, fjoin, fpick, fpack, feqL, feqI, rewrite, await, frame, done}
+use types.Kit.{Item, given, learn, use3, show, check, some, later, mean, Goal, Soaks, Seq, Step, step, drop, use1, use2, split, pick, fsplit, fjoin, fpick, fpack, feqL, feqI, rewrite, await, done}
 use types.Tokens.{lft-new, lft-end, lent-back}
 use types.SemTy.{Arr, cells as elements}
 use types.Share.{arr-parts}
@@ -45,7 +45,7 @@ pub use denote.Slice.{sliceVal}
 pub use Rattle.packing.proofs.Locals.{copied, known}
 pub use Rattle.packing.proofs.Lends.{picked}
 pub use Rattle.packing.proofs.Records.{reachVals, reach-tells, reach-made}
-pub use Rattle.packing.proofs.Relays.{refl, ℕ, _<_, _^_, List, [], _∷_, URA, w16, Val, vint, SProp, ent, id⊢, Lft, Share, ftrue, flft, Memory, Routine, Heap, Tables, WpFn, Atoms, fmOf, Fun, factI, givenOf, tables, Given, ‵, _⊛_, _$_, _∵_, !, qed, by, move, join, look-in, stop, from, load, addr, agg, and-then, no-more, assigns, land, returns, enter, allots, takes-in, within, copies, fills, lends, frees-all, uint-vals, uint-tells, u8, u16, owns, RefT, now, slice-vals, ShrSlice, MutSlice, Room, shr-slice-tells, mut-slice-tells, length, named, Fml, Bound, Contract, Triple, entered, cited, Reach, Promise, meets, ending, calls-known, val}
+pub use Rattle.packing.proofs.Relays.{refl, ℕ, _<_, _^_, List, [], _∷_, URA, w16, Val, vint, SProp, ent, id⊢, Lft, Share, ftrue, flft, Memory, Routine, Heap, Tables, WpFn, Atoms, fmOf, Fun, factI, givenOf, tables, Given, ‵, _⊛_, _$_, _∵_, !, qed, by, move, join, look-in, stop, from, load, addr, agg, and-then, no-more, assigns, land, returns, enter, allots, takes-in, within, copies, fills, frees-all, uint-vals, uint-tells, u8, u16, owns, RefT, now, slice-vals, ShrSlice, MutSlice, Room, shr-slice-tells, length, named, Fml, Bound, Contract, Triple, entered, cited, Reach, Promise, meets, ending, calls-known, val}
 unfoldable pub use Rattle.packing.proofs.Relays.{tablesOf}
 pub use Rattle.test_records.specs.Rooms.{tableRoom}
 use Rattle.packing.proofs.Locals.{Cell, full, cells, locals, opened, shut}

@@ -1,16 +1,18 @@
 -- The walk of a relay, said once: it has a table of records by value and lends the first records of a copy to a call, with what else it was given.
 --     tableLocals, relayBody   the locals that every relay has after its parameters, and its code, over the numbers of the parameters, what is passed on beside the table, and the callee
 --     Lent             the slice that the callee is lent.        Relay        what a relay says of itself.        relays       it meets its contract
+-- The first parameter is the number of records, and the callee has the others in their order, with the slice where the relay has the table. The slice's lifetime is the first of the callee's.
+-- A relay's own file has an entry for each parameter in what spells and tells them, in `bound` and in `fitting`; `mine j` is the parameter in local j, and `made 1`, `made 3` are the `&mut` that are passed on.
 -- A relay promises nothing of its result: it is safe.
 -- Assumes `Given`, and that the table of calls is monotone under a frame.
 use mathlib.Core.Path.{_≡_, sym}
-use Prim.Native.Nat.{zero, suc}
+use Prim.Native.Nat.{suc}
 use mathlib.Core.List.{_++_, map}
 use mathlib.Core.Option.{some as just}
-use lib.ListN.{take, getElem?}
+use lib.ListN.{getElem?}
 use lib.Dec.{T as Holding}
-use mir.Syntax.{Ty, field, deref, tyInt, tyRef, tyArray, erased, mut, imm, w8, Width, Local, local, memorySlot, valueLocal, Name, Fn, Body, seq, assign, call, return, rvOpd, addrOf, aggregate, Opd as Operand, copy, place}
-use mir.Val.{vptr, WT, hasTy}
+use mir.Syntax.{Ty, field, deref, tyInt, tyRef, tyArray, erased, imm, w8, Width, Local, local, memorySlot, valueLocal, Name, Fn, Body, seq, assign, call, return, rvOpd, addrOf, aggregate, copy, place}
+use mir.Val.{WT, hasTy}
 use base.Logic.{emp, via}
 use base.Fml.{flft}
 use prog.Model.{Model}
@@ -34,7 +36,7 @@ use Rattle.packing.proofs.Stacks.{seat, stacks, stores-in, sits, frees-part, pa
 use Rattle.packing.proofs.Lending.{Outs, three, OutsIn, outLocals, outHeld, held-blocks, operands, sliced, at, resultOf, paramsOf, firstOf, restOf, owned}
 use Rattle.packing.proofs.Relays.{table, asked}
 use Rattle.packing.proofs.Unpacking.{reachTy}
-use Rattle.test_records.proofs.Lending.{ap, subst, ℕ, _<_, _^_, List, URA, Val, SProp, ent, Lft, Heap, Tables, WpFn, Atoms, fmOf, factI, tables, tablesOf, Given, ‵, _⊛_, _$_, _∵_, !, qed, by, move, look-in, stop, from, load, addr, agg, of-opd, and-then, no-more, assigns, land, returns, enter, allots, within, known, fills, frees-all, RefT, length, sliceVal, Fml, fsep, ftrue, Bound, Triple, entered, cited, Reach, Promise, meets, ending, calls-known, Routine, front, Holds, array, table-room, had, hears, lends-table, table-back, tableTy}
+use Rattle.test_records.proofs.Lending.{ap, subst, ℕ, _<_, _^_, List, URA, Val, SProp, ent, Lft, Heap, Tables, WpFn, Atoms, fmOf, factI, tables, tablesOf, Given, ‵, _⊛_, _$_, _∵_, !, qed, by, move, look-in, stop, from, load, addr, agg, of-opd, and-then, no-more, assigns, land, returns, enter, allots, within, known, fills, frees-all, RefT, sliceVal, Fml, fsep, ftrue, Bound, Triple, entered, cited, Reach, Promise, meets, ending, calls-known, Routine, front, Holds, array, table-room, had, hears, lends-table, table-back, tableTy}
 -- (what a relay's own file takes from elsewhere, so that it has one `use` line for it)
 pub use mir.Syntax.{named, w16}
 pub use contract.Lifetimes.{toks}
@@ -46,7 +48,7 @@ pub use base.Logic.{id⊢}
 pub use Rattle.packing.proofs.Records.{reachVals}
 pub use Rattle.packing.proofs.Stacks.{mine, made}
 pub use Rattle.packing.proofs.Lending.{basins-fit, slice-fits, none, one, two}
-pub use Rattle.test_records.proofs.Lending.{refl, [], _∷_, w64, vint, fullShare, givenOf, raw, now, val, table-typed, tableRoom}
+pub use Rattle.test_records.proofs.Lending.{refl, [], _∷_, w64, vint, fullShare, givenOf, raw, val, table-typed, tableRoom}
 
 -- ---- the code
 -- a copy of the table, a reference to it, and the slice of its first records

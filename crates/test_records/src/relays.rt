@@ -1,5 +1,6 @@
 // The calls over a lent slice of records. Each relay has a table by value, and lends the first n records of its copy.
-// The borrow checker does not cover a slice of structs, nor who lends one. So a relay is one line, proved safe by a walk of its code, by hand.
+// The borrow checker does not cover a slice of structs, nor who lends one. So a relay is one call, proved safe by a walk of its code, by hand: those that
+// lend one table as `&` and return what the call replies by one walk for all, the others each by its own.
 use contraction::ContractAnswer;
 use distances::DiameterAnswer;
 use file_records::WriteAnswer;

@@ -1,4 +1,4 @@
--- `relays::contract` is safe: a walk of its MIR, by hand. The first records of a table and of a buffer are lent to `contraction::contract`, and the buffer is returned.
+-- `relays::contract` is safe: a walk of its MIR, by hand. The first records of a table and of a buffer are lent to `contraction::contract`, and what it replies is returned with the buffer.
 -- Assumes nothing.
 use mathlib.Core.List.{_++_}
 use mir.Val.{vstruct, vcons, vnil}

@@ -1,4 +1,4 @@
--- `relays::read_network` is safe: a walk of its MIR, by hand. The first records of the table are lent to `netfile::read_network`, and the table is returned.
+-- `relays::read_network` is safe: a walk of its MIR, by hand. The first records of the table are lent to `netfile::read_network`, and what it replies is returned with the table.
 -- Assumes nothing.
 use mathlib.Core.List.{_++_}
 use mir.Val.{vstruct, vcons, vnil}
