@@ -1,6 +1,6 @@
 -- The walk of a relay, said once: it has a table of records by value and lends the first records of a copy to a call, with what else it was given.
 --     tableLocals, relayBody   the locals that every relay has after its parameters, and its code, over the numbers of the parameters, what is passed on beside the table, and the callee
---     Lent             the slice that the callee is lent.        Relay        what a relay says of itself.        relays       it meets its contract
+--     Table            a table by value.        Lent         the slice that the callee is lent.        Relay        what a relay says of itself.        relays       it meets its contract
 -- The first parameter is the number of records, and the callee has the others in their order, with the slice where the relay has the table. The slice's lifetime is the first of the callee's.
 -- A relay's own file has an entry for each parameter in what spells and tells them, in `bound` and in `fitting`; `mine j` is the parameter in local j, and `made 1`, `made 3` are the `&mut` that are passed on.
 -- A relay promises nothing of its result: it is safe.
@@ -73,7 +73,15 @@ calling ls f xs ys = seq (call f (operands (ls ++ tableLocals) xs ++ (at ls 2 �
 abbrev pub relayBody : List Local → ℕ → Outs → Name → List From → List From → Body
 relayBody ls t os f xs ys = seq (assign (place (seat ls 0) []) (rvOpd (copy (place t [])))) (sliced ls 0 1 (copy (place 1 [])) (outBody ls os (calling ls f xs ys)))
 
--- ---- what the callee is lent
+-- ---- what the relay has, and what the callee is lent
+-- a table by value: how many of its records are lent, the records, and their machine value
+pub record Table : Type 0 where
+  pub count : ℕ
+  pub fits : count < 2 ^ 64
+  pub reaches : List Reach
+  pub value : Val
+  pub holds : Holds tableRoom reaches value
+
 pub record Lent : Type 0 where
   pub κ : Lft
   pub table : RefT (List Reach)
@@ -113,11 +121,11 @@ InPlace 𝓤 H cs E j v = getElem? cs j ≡ just (spotOf 𝓤 H E j .0, spotOf �
 abbrev Found : {M : Type 1} (𝓤 : URA M) (H : Heap 𝓤) → List Local → List Cell → List Cell → Env 𝓤 H → List From → Type 0
 Found 𝓤 H ls cs ds E xs = map (cellOf cs ds) xs ≡ map (λ x. just (spotOf 𝓤 H E (numberOf (ls ++ tableLocals) x) .0, spotOf 𝓤 H E (numberOf (ls ++ tableLocals) x) .1, full (heldOf cs ds x))) xs
 
-pub record Seats {M : Type 1} (𝓤 : URA M) (H : Heap 𝓤) (A : Atoms 𝓤) (S : Signature) (z : Lent → Bound 𝓤 H A S) (n : ℕ) (v : Val) (τ : Ty) (ps : List Local) (vs : List Val) (t : ℕ) (os : Outs) (xs ys : List From)
+pub record Seats {M : Type 1} (𝓤 : URA M) (H : Heap 𝓤) (A : Atoms 𝓤) (S : Signature) (z : Lent → Bound 𝓤 H A S) (tab : Table) (τ : Ty) (ps : List Local) (vs : List Val) (t : ℕ) (os : Outs) (xs ys : List From)
     (b₀ : ℕ) (bs : Blocks ps) (rs : Blocks tableLocals) (qs : Blocks (outLocals os)) : Type 0 where
   pub fitting : Fitting (fresh ps bs) vs
-  pub count-in : InPlace 𝓤 H (Params τ ps vs b₀ bs) (Whole τ ps os b₀ bs rs qs) 1 (vint w64 n)
-  pub table-in : InPlace 𝓤 H (Params τ ps vs b₀ bs) (Whole τ ps os b₀ bs rs qs) t v
+  pub count-in : InPlace 𝓤 H (Params τ ps vs b₀ bs) (Whole τ ps os b₀ bs rs qs) 1 (vint w64 (tab .count))
+  pub table-in : InPlace 𝓤 H (Params τ ps vs b₀ bs) (Whole τ ps os b₀ bs rs qs) t (tab .value)
   pub outs-in : OutsIn 𝓤 H (Params τ ps vs b₀ bs) (Whole τ ps os b₀ bs rs qs) os
   pub before-in : Found 𝓤 H (local τ valueLocal ∷ ps) (Params τ ps vs b₀ bs) (Passed os qs) (Whole τ ps os b₀ bs rs qs) xs
   pub after-in : Found 𝓤 H (local τ valueLocal ∷ ps) (Params τ ps vs b₀ bs) (Passed os qs) (Whole τ ps os b₀ bs rs qs) ys
@@ -127,8 +135,8 @@ pub record Seats {M : Type 1} (𝓤 : URA M) (H : Heap 𝓤) (A : Atoms 𝓤) (S
 module _ {M : Type 1} (𝓤 : URA M) (H : Heap 𝓤) (A : Atoms 𝓤) (W : Given 𝓤 H A) (𝓣 : Tables 𝓤 H)
     -- the callee, and what its contract binds where it is lent a table
     (T′ : Ended) (c′ : Clauses 𝓤 T′) (z : Lent → Bound 𝓤 H A (T′ .signature)) (g′ : (l : Lent) → c′ (z l .0) (z l .3) .ghost) (f : Name) (known-core : Triple 𝓤 (𝓣 .C f) (Promise 𝓤 H A T′ c′))
-    -- the table and how much of it is lent, what is lent beside it, and what the caller has then
-    (n : ℕ) (n-fits : n < 2 ^ 64) (rec : List Reach) (v : Val) (is : Holds tableRoom rec v) (tokens : Item 𝓤) (before : List Fml) (after : Fml) (Q : Val → SProp 𝓤)
+    -- the table, what is lent beside it, and what the caller has then
+    (tab : Table) (tokens : Item 𝓤) (before : List Fml) (after : Fml) (Q : Val → SProp 𝓤)
     (asks : (l : Lent) → ent 𝓤 (mean 𝓤 H A (asked (‵ (flft (l .κ) fullShare) ⊛ tokens) before (table (l .κ) (l .table)) after)) (Promise 𝓤 H A T′ c′ .pre (z l, g′ l)))
     (lives : (l : Lent) → ent 𝓤 (alive 𝓤 H A (T′ .signature) (z l .0) (z l .1)) (mean 𝓤 H A (‵ (flft (l .κ) fullShare) ⊛ tokens)))
     (ends : (l : Lent) (u : Val) (r : Res (T′ .signature) (z l .0)) (ws : Lasts T′ (z l .0) (z l .3))
@@ -142,7 +150,7 @@ module _ {M : Type 1} (𝓤 : URA M) (H : Heap 𝓤) (A : Atoms 𝓤) (W : Given
   abbrev es : List Local
   es = outLocals os
 
-  module _ (b₀ : ℕ) (bs : Blocks ps) (rs : Blocks tableLocals) (qs : Blocks (outLocals os)) (h : Seats 𝓤 H A (T′ .signature) z n v τ ps vs t os xs ys b₀ bs rs qs) where
+  module _ (b₀ : ℕ) (bs : Blocks ps) (rs : Blocks tableLocals) (qs : Blocks (outLocals os)) (h : Seats 𝓤 H A (T′ .signature) z tab τ ps vs t os xs ys b₀ bs rs qs) where
     abbrev Es : List (Ty × ℕ)
     Es = Later os rs qs
 
@@ -156,34 +164,34 @@ module _ {M : Type 1} (𝓤 : URA M) (H : Heap 𝓤) (A : Atoms 𝓤) (W : Given
     abbrev b : ℕ
     b = rs .0
 
-    abbrev lends : ℕ → ℕ → Lent
-    lends α γ = record { κ = α ∷ []; table = front b γ rec n }
+    abbrev slice : ℕ → ℕ → Lent
+    slice α γ = record { κ = α ∷ []; table = front b γ (tab .reaches) (tab .count) }
 
     seen : {Γ : List (Item 𝓤)} (i : ℕ) → Finds (Go {0}) W Γ E (place (seat ls i) []) (spotOf 𝓤 H Es i)
     seen i = sits ! ls (b₀, bs) Es i
 
-    copied-and-lent : Sq W (locals (fresh tableLocals rs) ∷ had tokens tableRoom n before (array tableRoom rec v) after ∷ locals (P empty) ∷ locals (fresh es qs) ∷ []) (runs (𝓣 .C) (𝓣 .Λ) E (relayBody ls t os f xs ys) (atRet E Q))
+    copied-and-lent : Sq W (locals (fresh tableLocals rs) ∷ had tokens tableRoom (tab .count) before (array tableRoom (tab .reaches) (tab .value)) after ∷ locals (P empty) ∷ locals (fresh es qs) ∷ []) (runs (𝓣 .C) (𝓣 .Λ) E (relayBody ls t os f xs ys) (atRet E Q))
     copied-and-lent =
-        hears ! rec (is .1 .0 .1) (λ e. assigns ! (of-opd ! (load ! (from ! (stop !)) (look-in ! 2 (within ! t (h .table-in))))) (seen 0) (fills ! 0 refl (table-typed 𝓤 H A W tableRoom rec is)) $
+        hears ! (tab .reaches) (tab .holds .1 .0 .1) (λ e. assigns ! (of-opd ! (load ! (from ! (stop !)) (look-in ! 2 (within ! t (h .table-in))))) (seen 0) (fills ! 0 refl (table-typed 𝓤 H A W tableRoom (tab .reaches) (tab .holds))) $
         assigns ! (addr ! (seen 0)) (seen 1) (fills ! 1 refl (tt, tt)) $
-        assigns ! (known ! (ap (λ k. sliceVal (b, 0) k) e) (agg ! (and-then ! (load ! (seen 1) (look-in ! 0 (within ! 1 refl))) (and-then ! (load ! (from ! (stop !)) (look-in ! 2 (within ! 1 (h .count-in)))) (no-more !))))) (seen 2) (fills ! 2 refl (tt, (tt, (record { fits = subst (λ k. k < 2 ^ 64) e n-fits }, tt)))) $
+        assigns ! (known ! (ap (λ k. sliceVal (b, 0) k) e) (agg ! (and-then ! (load ! (seen 1) (look-in ! 0 (within ! 1 refl))) (and-then ! (load ! (from ! (stop !)) (look-in ! 2 (within ! 1 (h .count-in)))) (no-more !))))) (seen 2) (fills ! 2 refl (tt, (tt, (record { fits = subst (λ k. k < 2 ^ 64) e (tab .fits) }, tt)))) $
         -- [the last part; the parameters' part; the table's part; what the relay was given]
         move ! (3 ∷ 2 ∷ []) $ passes-outs 𝓤 H A W ls (b₀, bs) rs (P empty) os qs (h .outs-in) (calling ls f xs ys) (atRet E Q) _ (move ! (2 ∷ 3 ∷ 1 ∷ 0 ∷ []) $
-        lends-table ! tt 0 before after rec n refl is table-room (λ α γ.
+        lends-table ! tt 0 before after (tab .reaches) (tab .count) refl (tab .holds) table-room (λ α γ.
         -- [the table's part; what the call asks; what is owed; the parameters' part; the last part]
-        calls-known ! T′ c′ (z (lends α γ)) (g′ (lends α γ)) (fmOf 𝓤 H (W .laws) 𝓣) known-core (asks (lends α γ)) (λ r e′. Unit {0}) (λ r e′. factI 𝓤 _ _ tt)
-        (opds-are ! (h .handed (lends α γ)) (these ! 3 4 (ls ++ tableLocals) xs refl refl (h .before-in) (and-then ! (load ! (seen 2) (look-in ! 0 (within ! 1 refl))) (these ! 3 4 (ls ++ tableLocals) ys refl refl (h .after-in) (no-more !))))) (λ w r ws e′ is′.
+        calls-known ! T′ c′ (z (slice α γ)) (g′ (slice α γ)) (fmOf 𝓤 H (W .laws) 𝓣) known-core (asks (slice α γ)) (λ r e′. Unit {0}) (λ r e′. factI 𝓤 _ _ tt)
+        (opds-are ! (h .handed (slice α γ)) (these ! 3 4 (ls ++ tableLocals) xs refl refl (h .before-in) (and-then ! (load ! (seen 2) (look-in ! 0 (within ! 1 refl))) (these ! 3 4 (ls ++ tableLocals) ys refl refl (h .after-in) (no-more !))))) (λ w r ws e′ is′.
         -- the result, and the table comes back
-        move ! (5 ∷ []) $ land ! (from ! (stop !)) (fills ! 0 refl (typed (lends α γ) w r is′)) $ move ! (1 ∷ 2 ∷ 3 ∷ 4 ∷ 5 ∷ []) $ table-back ! tt 0 tokens rec n (is .1 .0 .1) (lives (lends α γ)) (λ u.
+        move ! (5 ∷ []) $ land ! (from ! (stop !)) (fills ! 0 refl (typed (slice α γ) w r is′)) $ move ! (1 ∷ 2 ∷ 3 ∷ 4 ∷ 5 ∷ []) $ table-back ! tt 0 tokens (tab .reaches) (tab .count) (tab .holds .1 .0 .1) (lives (slice α γ)) (λ u.
         -- [the table's part; the tokens; the last values; the result; the parameters' part; the last part]
         returns ! (look-in ! 4 (within ! 0 refl)) $ move ! (4 ∷ []) $ frees-part ! (blocks (fresh ls (b₀, bs))) Es (ap (λ (B : List (Ty × ℕ)). (τ, b₀) ∷ B) (passed-blocks (fresh ps bs) vs)) $
         frees-part ! (blocks (fresh tableLocals rs)) (blocks (fresh es qs)) refl $ move ! (3 ∷ []) $ regoal ! (λ (B : List (Ty × ℕ)). frees B (prop (Q w))) (sym (held-blocks os qs)) refl $ frees-all ! $
-        by ! (ends (lends α γ) w r ws))))))
+        by ! (ends (slice α γ) w r ws))))))
 
-  walked : (fn : Fn) → fn .locals ≡ ls ++ (tableLocals ++ es) → fn .body ≡ relayBody ls t os f xs ys → ((b₀ : ℕ) (bs : Blocks ps) (rs : Blocks tableLocals) (qs : Blocks (outLocals os)) → Seats 𝓤 H A (T′ .signature) z n v τ ps vs t os xs ys b₀ bs rs qs)
-      → ent 𝓤 (mean 𝓤 H A (had tokens tableRoom n before (array tableRoom rec v) after)) (WpFn 𝓤 H (𝓣 .C) (𝓣 .Λ) fn vs Q)
+  walked : (fn : Fn) → fn .locals ≡ ls ++ (tableLocals ++ es) → fn .body ≡ relayBody ls t os f xs ys → ((b₀ : ℕ) (bs : Blocks ps) (rs : Blocks tableLocals) (qs : Blocks (outLocals os)) → Seats 𝓤 H A (T′ .signature) z tab τ ps vs t os xs ys b₀ bs rs qs)
+      → ent 𝓤 (mean 𝓤 H A (had tokens tableRoom (tab .count) before (array tableRoom (tab .reaches) (tab .value)) after)) (WpFn 𝓤 H (𝓣 .C) (𝓣 .Λ) fn vs Q)
   walked fn locals-are body-is seats =
-      qed W (had tokens tableRoom n before (array tableRoom rec v) after ∷ []) ∵ enter ! (𝓣 .C) (𝓣 .Λ) fn vs Q $
+      qed W (had tokens tableRoom (tab .count) before (array tableRoom (tab .reaches) (tab .value)) after ∷ []) ∵ enter ! (𝓣 .C) (𝓣 .Λ) fn vs Q $
       regoal ! (λ (e : List Local × Body). allocs (e .0) (λ E. params′ E vs (runs (𝓣 .C) (𝓣 .Λ) E (e .1) (atRet E Q)))) (λ i. (locals-are i, body-is i)) refl $
       stacks ! ls (tableLocals ++ es) (λ bs. stacks ! tableLocals es (λ rs. allots ! es (λ qs. let h = seats (bs .0) (bs .1) rs qs in
       move ! (2 ∷ []) $ stores-in ! (τ, bs .0, empty) (fresh ps (bs .1)) vs (Later os rs qs) (h .fitting) $ move ! (2 ∷ 3 ∷ 0 ∷ 1 ∷ []) $ copied-and-lent (bs .0) (bs .1) rs qs h)))
@@ -199,9 +207,9 @@ module _ {M : Type 1} (𝓤 : URA M) (H : Heap 𝓤) (A : Atoms 𝓤) (T : Ended
   after k = restOf (suc (suc k)) (owned 𝓤 H A (T .signature) x)
 
   -- what holds by computing
-  pub record Computed (k n : ℕ) (rec : List Reach) (v : Val) (tokens : Item 𝓤) (z : Lent → Bound 𝓤 H A (T′ .signature)) (g′ : (l : Lent) → c′ (z l .0) (z l .3) .ghost) (os : Outs) (xs ys : List From)
+  pub record Computed (k : ℕ) (tab : Table) (tokens : Item 𝓤) (z : Lent → Bound 𝓤 H A (T′ .signature)) (g′ : (l : Lent) → c′ (z l .0) (z l .3) .ghost) (os : Outs) (xs ys : List From)
       (result : (l : Lent) → Res (T′ .signature) (z l .0) → Res (T .signature) (x .0)) (kept : (l : Lent) → Lasts T′ (z l .0) (z l .3) → Lasts T (x .0) (x .3)) : Type 1 where
-    pub enters : ent 𝓤 (Promise 𝓤 H A T c .pre (x, g)) (mean 𝓤 H A (had tokens tableRoom n (before k) (array tableRoom rec v) (after k)))
+    pub enters : ent 𝓤 (Promise 𝓤 H A T c .pre (x, g)) (mean 𝓤 H A (had tokens tableRoom (tab .count) (before k) (array tableRoom (tab .reaches) (tab .value)) (after k)))
     pub asks : (l : Lent) → ent 𝓤 (mean 𝓤 H A (asked (‵ (flft (l .κ) fullShare) ⊛ tokens) (before k) (table (l .κ) (l .table)) (after k))) (Promise 𝓤 H A T′ c′ .pre (z l, g′ l))
     pub lives : (l : Lent) → ent 𝓤 (alive 𝓤 H A (T′ .signature) (z l .0) (z l .1)) (mean 𝓤 H A (‵ (flft (l .κ) fullShare) ⊛ tokens))
     pub gives : (l : Lent) (u : Val) (r : Res (T′ .signature) (z l .0)) (ws : Lasts T′ (z l .0) (z l .3))
@@ -217,12 +225,8 @@ module _ {M : Type 1} (𝓤 : URA M) (H : Heap 𝓤) (A : Atoms 𝓤) (T : Ended
     pub outs : Outs
     pub firsts : List From
     pub others : List From
-    -- the number of records, the table and its machine value, and the tokens
-    pub count : ℕ
-    pub fits : count < 2 ^ 64
-    pub reaches : List Reach
-    pub value : Val
-    pub holds : Holds tableRoom reaches value
+    -- the table, and the tokens
+    pub lends : Table
     pub tokens : Item 𝓤
     -- what the callee's contract binds, and its result and the last values as the relay's
     pub bound : Lent → Bound 𝓤 H A (T′ .signature)
@@ -231,8 +235,8 @@ module _ {M : Type 1} (𝓤 : URA M) (H : Heap 𝓤) (A : Atoms 𝓤) (T : Ended
     pub kept : (l : Lent) → Lasts T′ (bound l .0) (bound l .3) → Lasts T (x .0) (x .3)
     -- the result is of its local's type, and the locals hold what they should
     pub typed : (l : Lent) (u : Val) (r : Res (T′ .signature) (bound l .0)) → Is (typeAt (T′ .signature .result) (bound l .0)) r (u ∷ []) → Holding (hasTy (resultOf (fn .locals)) u) × WT u
-    pub seats : (b₀ : ℕ) (bs : Blocks (paramsOf fn)) (rs : Blocks tableLocals) (qs : Blocks (outLocals outs)) → Seats 𝓤 H A (T′ .signature) bound count value (resultOf (fn .locals)) (paramsOf fn) (arguments 𝓤 H A (T .signature) x) (suc (suc ahead)) outs firsts others b₀ bs rs qs
-    pub computes : Computed ahead count reaches value tokens bound ghost outs firsts others result kept
+    pub seats : (b₀ : ℕ) (bs : Blocks (paramsOf fn)) (rs : Blocks tableLocals) (qs : Blocks (outLocals outs)) → Seats 𝓤 H A (T′ .signature) bound lends (resultOf (fn .locals)) (paramsOf fn) (arguments 𝓤 H A (T .signature) x) (suc (suc ahead)) outs firsts others b₀ bs rs qs
+    pub computes : Computed ahead lends tokens bound ghost outs firsts others result kept
 
 module _ {M : Type 1} (𝓤 : URA M) (H : Heap 𝓤) (A : Atoms 𝓤) (W : Given 𝓤 H A) (𝓣 : Tables 𝓤 H)
     (T : Ended) (c : Clauses 𝓤 T) (x : Bound 𝓤 H A (T .signature)) (g : c (x .0) (x .3) .ghost) (T′ : Ended) (c′ : Clauses 𝓤 T′) (f : Name) (fn : Fn) where
@@ -241,8 +245,8 @@ module _ {M : Type 1} (𝓤 : URA M) (H : Heap 𝓤) (A : Atoms 𝓤) (W : Given
       let z = R .computes in
       let ps = before 𝓤 H A T c x g T′ c′ f fn (R .ahead) in
       let rest = after 𝓤 H A T c x g T′ c′ f fn (R .ahead) in
-      via 𝓤 (mean 𝓤 H A (had (R .tokens) tableRoom (R .count) ps (array tableRoom (R .reaches) (R .value)) rest)) (z .enters)
-      (walked 𝓤 H A W 𝓣 T′ c′ (R .bound) (R .ghost) f known-core (R .count) (R .fits) (R .reaches) (R .value) (R .holds) (R .tokens) ps rest (Promise 𝓤 H A T c .post (x, g)) (z .asks) (z .lives)
+      via 𝓤 (mean 𝓤 H A (had (R .tokens) tableRoom (R .lends .count) ps (array tableRoom (R .lends .reaches) (R .lends .value)) rest)) (z .enters)
+      (walked 𝓤 H A W 𝓣 T′ c′ (R .bound) (R .ghost) f known-core (R .lends) (R .tokens) ps rest (Promise 𝓤 H A T c .post (x, g)) (z .asks) (z .lives)
       (λ l u r ws. via 𝓤 (⋆ 𝓤 H A (raw (alive 𝓤 H A (T .signature) (x .0) (x .1)) ∷ ‵ (lasts T (x .0) (x .3) (R .kept l ws)) ∷ ‵ (typeAt (T .signature .result) (x .0) .own (R .result l r) (u ∷ [])) ∷ [])) (z .gives l u r ws)
       (ending 𝓤 H A T c W x g u (R .result l r) (R .kept l ws) (z .promises l r ws)))
       (resultOf (fn .locals)) (paramsOf fn) (arguments 𝓤 H A (T .signature) x) (R .typed) (suc (suc (R .ahead))) (R .outs) (R .firsts) (R .others) fn (z .locals-are) (z .body-is) (R .seats))

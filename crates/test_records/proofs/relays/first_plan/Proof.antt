@@ -22,11 +22,7 @@ first-plan-spec 𝓤 H 𝓜 𝓖 𝓡 =
       outs = two 4 (named 0) (a .1 .1 .1 .0) 5 (named 1) (a .1 .1 .1 .1 .0);
       firsts = mine 2 ∷ [];
       others = made 1 ∷ made 3 ∷ [];
-      count = a .0;
-      fits = are .0 .1;
-      reaches = a .1 .1 .0;
-      value = _;
-      holds = are .1 .1 .0;
+      lends = record { count = a .0; fits = are .0 .1; reaches = a .1 .1 .0; value = _; holds = are .1 .1 .0 };
       tokens = raw (toks 𝓤 (𝓖 .A) 2 κs qs);
       bound = λ l. ((l .κ, κs), (fullShare, qs), tt, (a .1 .0, (l .table, a .1 .1 .1)), (vint w16 (a .1 .0) ∷ [], (val (l .table) ∷ [], (slice-vals (a .1 .1 .1 .0), (slice-vals (a .1 .1 .1 .1 .0), tt)))));
       ghost = λ l. tt;
