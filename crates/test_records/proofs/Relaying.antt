@@ -60,6 +60,7 @@ abbrev relent : List Local → Width → ℕ → ℕ → Body → Body
 relent ls w p i rest = seq (assign (place (seat ls i) []) (addrOf (place p (field 0 ∷ deref (tyInt w) ∷ []))))
     (seq (assign (place (seat ls (suc i)) []) (aggregate (copy (place (seat ls i) []) ∷ copy (place p (field 1 ∷ [])) ∷ []))) rest)
 
+-- and each of the `&mut` in turn, after the table's three locals
 abbrev outBody : List Local → Outs → Body → Body
 outBody ls none rest = rest
 outBody ls (one p ℓ s) rest = relent ls w8 p 3 rest
@@ -82,6 +83,7 @@ pub record Table : Type 0 where
   pub value : Val
   pub holds : Holds tableRoom reaches value
 
+-- the slice of these records, and its lifetime
 pub record Lent : Type 0 where
   pub κ : Lft
   pub table : RefT (List Reach)
@@ -91,6 +93,7 @@ abbrev Later : (os : Outs) → Blocks tableLocals → Blocks (outLocals os) → 
 Later os rs qs = blocks (fresh tableLocals rs) ++ blocks (fresh (outLocals os) qs)
 
 module _ {M : Type 1} (𝓤 : URA M) (H : Heap 𝓤) (A : Atoms 𝓤) (W : Given 𝓤 H A) {C : Calls 𝓤 H} {Λ : Loops 𝓤 H} (ls : List Local) (bs : Blocks ls) (rs : Blocks tableLocals) (cs : List Cell) where
+  -- the `&mut` are passed on
   passes-outs : (os : Outs) (qs : Blocks (outLocals os)) → OutsIn 𝓤 H cs (blocks (fresh ls bs) ++ Later os rs qs) os → (rest : Body) (p : Post 𝓤 H) (Γ : List (Item 𝓤))
       → Sq W (locals (holding (outLocals os) qs (outHeld os)) ∷ locals cs ∷ Γ) (runs C Λ (blocks (fresh ls bs) ++ Later os rs qs) rest p)
       → Sq W (locals (fresh (outLocals os) qs) ∷ locals cs ∷ Γ) (runs C Λ (blocks (fresh ls bs) ++ Later os rs qs) (outBody ls os rest) p)
@@ -164,12 +167,14 @@ module _ {M : Type 1} (𝓤 : URA M) (H : Heap 𝓤) (A : Atoms 𝓤) (W : Given
     abbrev b : ℕ
     b = rs .0
 
+    -- what is lent for the lifetime α by the name γ
     abbrev slice : ℕ → ℕ → Lent
     slice α γ = record { κ = α ∷ []; table = front b γ (tab .reaches) (tab .count) }
 
     seen : {Γ : List (Item 𝓤)} (i : ℕ) → Finds (Go {0}) W Γ E (place (seat ls i) []) (spotOf 𝓤 H Es i)
     seen i = sits ! ls (b₀, bs) Es i
 
+    -- the table is copied, its first records are lent for the call, and all locals are freed
     copied-and-lent : Sq W (locals (fresh tableLocals rs) ∷ had tokens tableRoom (tab .count) before (array tableRoom (tab .reaches) (tab .value)) after ∷ locals (P empty) ∷ locals (fresh es qs) ∷ []) (runs (𝓣 .C) (𝓣 .Λ) E (relayBody ls t os f xs ys) (atRet E Q))
     copied-and-lent =
         hears ! (tab .reaches) (tab .holds .1 .0 .1) (λ e. assigns ! (of-opd ! (load ! (from ! (stop !)) (look-in ! 2 (within ! t (h .table-in))))) (seen 0) (fills ! 0 refl (table-typed 𝓤 H A W tableRoom (tab .reaches) (tab .holds))) $
@@ -188,6 +193,7 @@ module _ {M : Type 1} (𝓤 : URA M) (H : Heap 𝓤) (A : Atoms 𝓤) (W : Given
         frees-part ! (blocks (fresh tableLocals rs)) (blocks (fresh es qs)) refl $ move ! (3 ∷ []) $ regoal ! (λ (B : List (Ty × ℕ)). frees B (prop (Q w))) (sym (held-blocks os qs)) refl $ frees-all ! $
         by ! (ends (slice α γ) w r ws))))))
 
+  -- and the way in
   walked : (fn : Fn) → fn .locals ≡ ls ++ (tableLocals ++ es) → fn .body ≡ relayBody ls t os f xs ys → ((b₀ : ℕ) (bs : Blocks ps) (rs : Blocks tableLocals) (qs : Blocks (outLocals os)) → Seats 𝓤 H A (T′ .signature) z tab τ ps vs t os xs ys b₀ bs rs qs)
       → ent 𝓤 (mean 𝓤 H A (had tokens tableRoom (tab .count) before (array tableRoom (tab .reaches) (tab .value)) after)) (WpFn 𝓤 H (𝓣 .C) (𝓣 .Λ) fn vs Q)
   walked fn locals-are body-is seats =
@@ -240,6 +246,7 @@ module _ {M : Type 1} (𝓤 : URA M) (H : Heap 𝓤) (A : Atoms 𝓤) (T : Ended
 
 module _ {M : Type 1} (𝓤 : URA M) (H : Heap 𝓤) (A : Atoms 𝓤) (W : Given 𝓤 H A) (𝓣 : Tables 𝓤 H)
     (T : Ended) (c : Clauses 𝓤 T) (x : Bound 𝓤 H A (T .signature)) (g : c (x .0) (x .3) .ghost) (T′ : Ended) (c′ : Clauses 𝓤 T′) (f : Name) (fn : Fn) where
+  -- from the contract's own terms to the walk's
   relayed : Triple 𝓤 (𝓣 .C f) (Promise 𝓤 H A T′ c′) → Relay 𝓤 H A T c x g T′ c′ f fn → ent 𝓤 (Promise 𝓤 H A T c .pre (x, g)) (WpFn 𝓤 H (𝓣 .C) (𝓣 .Λ) fn (arguments 𝓤 H A (T .signature) x) (Promise 𝓤 H A T c .post (x, g)))
   relayed known-core R =
       let z = R .computes in
