@@ -75,7 +75,7 @@ module _ {M : Type 1} (𝓤 : URA M) (H : Heap 𝓤) (A : Atoms 𝓤) (T : Ended
       use0 W (raw (c (x .0) (x .3) .ensures g r (atExit T (x .0) (x .3) ws))) says $ move ! (1 ∷ 0 ∷ []) $ done !
 
 module _ {M : Type 1} {𝓤 : URA M} {H : Heap 𝓤} {A : Atoms 𝓤} {K : Type 0} {W : Given 𝓤 H A} {Γ : List (Item 𝓤)} {E : Env 𝓤 H} {C : Calls 𝓤 H} {Λ : Loops 𝓤 H} {q : Post 𝓤 H} {f : Name} {xs : List Operand} {d : Place} {rest : Body} where
-  pub calls-by : K → FmC 𝓤 H (W .laws) C → {P : SProp 𝓤} {vs : List Val} (Γ′ : List (Item 𝓤)) (Q : Val → SProp 𝓤) → ent 𝓤 (⋆ 𝓤 H A Γ) (sep 𝓤 P (⋆ 𝓤 H A Γ′)) → ent 𝓤 P (C f vs Q)
+  calls-by : K → FmC 𝓤 H (W .laws) C → {P : SProp 𝓤} {vs : List Val} (Γ′ : List (Item 𝓤)) (Q : Val → SProp 𝓤) → ent 𝓤 (⋆ 𝓤 H A Γ) (sep 𝓤 P (⋆ 𝓤 H A Γ′)) → ent 𝓤 P (C f vs Q)
       → Opds K W Γ E xs vs → ((u : Val) → Seq K W (raw (Q u) ∷ Γ′) (lands C Λ E d u rest q)) → Seq K W Γ (runs C Λ E (seq (call f xs d) rest) q)
   calls-by t fm {P} {vs} Γ′ Q gives met os k = record {
     prf = via 𝓤 (evalOpds 𝓤 H E xs (λ us. C f us (λ u. aim 𝓤 H (lands C Λ E d u rest q))))

@@ -52,7 +52,7 @@ pub use Rattle.test_records.proofs.Lending.{refl, [], _∷_, w64, vint,
 
 -- ---- the code
 -- a copy of the table, a reference to it, and the slice of its first records
-abbrev pub tableLocals : List Local
+abbrev tableLocals : List Local
 tableLocals = local (tableTy tableRoom) memorySlot ∷ local (tyRef erased imm (tyArray reachTy tableRoom)) valueLocal ∷ local (sliceTy (tyRef erased imm reachTy)) valueLocal ∷ []
 
 -- parameter p is passed on in the locals i and i + 1 after these
