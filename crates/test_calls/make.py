@@ -263,6 +263,10 @@ def two(x):
     return [x % 256, x // 256]
 
 
+def three(x):
+    return two(x % 65536) + [x // 65536]
+
+
 def read_network(file):
     """The number of a refusal, or (basins, reaches)."""
     if not file:
@@ -544,10 +548,10 @@ def show_rows(o, got, k, x, y):
 def play(o, c, table):
     """One call, from its bytes, on a table or on that which stands in its data."""
     call, basins, k, x, y, p, m, n, limit = (CALLS[c[0]],) + tuple(word(c, i) for i in range(1, 17, 2))
-    s = c[19:19 + n]
+    s = c[DATA:DATA + n]
     if call == 'list placed':
         call, s, table = 'list', table[2:2 + k], two(0)
-    reaches = rows_of(c[19:] if table is None else table, k, x, y)
+    reaches = rows_of(c[DATA:DATA + word(c, 25)] if table is None else table, k, x, y)
     if call == 'table':
         o.reply(table_fault(basins, reaches))
     elif call == 'check':
@@ -613,18 +617,96 @@ def play(o, c, table):
 
 # ---- the case file
 
+class File:
+    """Rows of bytes one after the other, each as the number of its runs, in one byte, and these. A run has the number of its plain bytes, in one byte, and of
+    those after them, in two; then the plain ones. Where others are after them, a number of two bytes follows. Below 1,024 it is a period: so many
+    bytes come again and again, each time with a step added to each; they follow, then their steps. Else 1,024 less is how far before the run they are copied."""
+
+    PERIODS = [*range(1, 25), 264, 288]         # those that are tried
+    LEAST, NEAR, FAR = 6, 30, 50000             # of copies: their length, the number of places that are tried, how far back
+
+    def __init__(self, start):
+        """A file with so many bytes before its rows."""
+        self.bytes, self.places, self.known = [0] * start, {}, start
+
+    def copied(self, row, i):
+        """How many bytes of the row, from byte i on, stand in the file, and where."""
+        best, where = 0, 0
+        for at in self.places.get(tuple(row[i:i + self.LEAST]), ())[-self.NEAR:]:
+            size, most = self.LEAST, min(len(row) - i, len(self.bytes) - at)
+            while size < most and row[i + size] == self.bytes[at + size]:
+                size += 1
+            if size > best and len(self.bytes) - at < self.FAR:
+                best, where = size, at
+        return best, where
+
+    def best_runs(self, row):
+        """The runs that cost the fewest bytes, each (plain bytes, number of those after them, place or period, first bytes and steps). What the bytes from each
+        place on cost is found from the last place down."""
+        size = len(row)
+        alike = {p: [0] * (size + 1) for p in self.PERIODS}         # how many bytes go on as two periods do that start at a place
+        for p, count in alike.items():
+            for i in reversed(range(size - 2 * p)):
+                count[i] = count[i + 1] + 1 if (row[i + 2 * p] - 2 * row[i + p] + row[i]) % 256 == 0 else 0
+        cost, way = [0] * size + [3], [(0, 0)] * size
+        for i in reversed(range(size)):
+            ways = [(2 * p + alike[p][i], p, 5 + 2 * p) for p in self.PERIODS if alike[p][i]] + [self.copied(row, i) + (5,)]
+            ways = [(more + (cost[i + after] if i + after < size else 0), after, source) for after, source, more in ways if after]
+            cost[i], *way[i] = min(ways + [(1 + cost[i + 1], 0, 0)])
+        runs, i, start = [], 0, 0
+        while i < size:
+            after, source = way[i]
+            if after:
+                steps = [(row[i + source + j] - row[i + j]) % 256 for j in range(source)] if source < 1024 else []
+                runs.append((row[start:i], after, source, row[i:i + source] + steps if steps else []))
+            elif i - start == 254:
+                runs.append((row[start:i + 1], 0, 0, []))
+            i += after or 1
+            start = i if after or i - start == 255 else start
+        return runs + [(row[start:], 0, 0, [])] * (start < size)
+
+    def put(self, row):
+        """Writes a row at the end, and answers where."""
+        start, runs = len(self.bytes), self.best_runs(row)
+        self.bytes.append(len(runs))
+        for plain, after, source, more in runs:
+            source = two(source if source < 1024 else 1024 + len(self.bytes) - source)
+            self.bytes += [len(plain)] + two(after) + plain + (source + more if after else [])
+        for at in range(self.known, len(self.bytes) - self.LEAST + 1):
+            self.places.setdefault(tuple(self.bytes[at:at + self.LEAST]), []).append(at)
+        self.known = max(self.known, len(self.bytes) - self.LEAST + 1)
+        assert self.row_at(start) == (row, len(self.bytes))
+        return start
+
+    def row_at(self, at):
+        """The row that stands at a place, and the place after it."""
+        row, count, at = [], self.bytes[at], at + 1
+        for _ in range(count):
+            run = self.bytes[at:]
+            plain, after = run[0], word(run, 1)
+            row, size = row + run[3:3 + plain], 3 + plain
+            if after:
+                source, size = word(run, size), size + 2
+                if source < 1024:
+                    first, steps, size = run[size:size + source], run[size + source:size + 2 * source], size + 2 * source
+                    row += [(first[i % source] + i // source * steps[i % source]) % 256 for i in range(after)]
+                else:
+                    row += self.bytes[at + 1024 - source:at + 1024 - source + after]
+            at += size
+        return row, at
+
+
 def table_bytes(reaches):
-    """The number of reaches, a kind for each, then both ends of each."""
-    out = two(len(reaches)) + [k for k, _, _ in reaches] + [x for _, a, b in reaches for x in two(a) + two(b)]
-    return out + [0] * (-len(out) % 4)
+    """The number of reaches, a kind for each; then both ends of each, their low bytes and then their high ones."""
+    ends = [z for _, a, b in reaches for z in (a, b)]
+    return two(len(reaches)) + [k for k, _, _ in reaches] + [z % 256 for z in ends] + [z // 256 for z in ends]
 
 
 @lru_cache(maxsize=None)
 def kept_rows(s, k, x, y):
     n = word(s, 0)
-    kinds = list(s[2:2 + n])
-    ends = [(word(s, 2 + n + 4 * i), word(s, 4 + n + 4 * i)) for i in range(n)] + [(0, 0)] * (1030 - n)
-    return tuple((kind, a, b) for kind, (a, _), (_, b) in zip(kinds[:k], ends[:x], ends[:y]))
+    ends = [low + 256 * high for low, high in zip(s[2 + n:2 + 3 * n], s[2 + 3 * n:2 + 5 * n])] + [0] * (2 * (1030 - n))
+    return tuple(zip(s[2:2 + n][:k], ends[::2][:x], ends[1::2][:y]))
 
 
 def rows_of(s, k, x, y):
@@ -632,83 +714,67 @@ def rows_of(s, k, x, y):
     return kept_rows(tuple(s), k, x, y)
 
 
-class Group:
-    """The cases on one table."""
+DATA = 27           # where the data of a case stands
 
-    def __init__(self, title, reaches):
+
+class Group:
+    """The cases on one table, which has a number."""
+
+    def __init__(self, title, reaches, number=None):
         self.title, self.cases, self.expected = title, [], []
-        self.reaches, self.table, self.total, self.place = tuple(reaches), table_bytes(reaches), len(reaches), None
+        self.reaches, self.table, self.total = tuple(reaches), table_bytes(reaches), len(reaches)
+        self.number = number or Family.NUMBERS + len(GROUPS)
 
     def hold(self, file):
         """Puts a file where the kinds of the table would stand."""
-        self.table, self.total = two(len(file)) + file + [0] * (-(2 + len(file)) % 4), 0
+        self.table, self.total = two(len(file)) + file, 0
 
-    def table_of(self, c):
-        """The table on which a case is played, from its bytes."""
-        return self.table
+    def tables(self):
+        """The tables, by their numbers."""
+        return {self.number: self.table}
 
     def case(self, call, basins, data=(), p=0, m=32, n=None, k=None, x=None, y=None, limit=0, vary=(), mode=None, name=None, listed=False):
         """A call, once or with variations: (field or place in the data, number of values, lowest), of which the last varies first.
         Where it is listed, the data is the table."""
         k, x, y = (self.total if z is None else z for z in (k, x, y))
         n = len(data) if n is None else n
-        c = [CODES[call]] + [z for v in (basins, k, x, y, p, m, n, limit, 0) for z in two(v)] + list(data)
         fields = {'call': 0, 'basins': 1, 'basins high': 2, 'k': 3, 'k high': 4, 'x': 5, 'y': 7, 'p': 9, 'p high': 10, 'm': 11, 'm high': 12, 'n': 13,
-                  'limit': 15, 'limit high': 16, 'line': 18}
-        vary = [(fields[v[0]] if v[0] in fields else 19 + v[0],) + tuple(v[1:]) for v in vary]
+                  'limit': 15, 'limit high': 16, 'table': 17}
+        vary = [(fields[v[0]] if v[0] in fields else DATA + v[0],) + tuple(v[1:]) for v in vary]
         mode = mode if mode is not None else BRIEF if vary or call == 'list' else FULL
         name = name or call
         if not self.cases:
             name = '== %s\n%s' % (self.title, name)
-        assert len(c) <= 6200           # the program keeps no more
         count = 1
         for _, values, _ in vary:
             count *= values
-        v = [z for place, values, lowest in vary for z in two(place) + two(values) + [lowest]]
-        head = [len(name)] + list(name.encode()) + [mode, len(vary)] + two(count % 65536) + [count // 65536] + two(len(c)) + v
-        self.cases.append((head, c, listed))
-        o = Out(mode)
+        c = [CODES[call]] + [z for v in (basins, k, x, y, p, m, n, limit, 0 if listed else self.number) for z in two(v)] + \
+            [mode, len(vary)] + three(count) + [len(name)] + two(len(data)) + list(data)
+        self.cases.append(c + [z for place, values, lowest in vary for z in two(place) + two(values) + [lowest]] + list(name.encode()))
+        assert len(self.cases[-1]) <= 8200          # the program keeps no more
+        o, tables = Out(mode), self.tables()
         for i in range(count):
             d = list(c)
             for place, values, lowest in reversed(vary):
                 d[place], i = (i % values + lowest) % 256, i // values
-            play(o, d, None if listed else self.table_of(d))
+            play(o, d, None if listed else tables[word(d, 17)])
         self.expected.append(name + ':' + o.end())
-
-    def bytes(self, place):
-        """The cases, where the table stands at this place, in steps of four bytes."""
-        out = []
-        for head, c, listed in self.cases:
-            out += head + c[:17] + two(0 if listed else place) + c[19:]
-        return out
 
 
 class Family(Group):
-    """The same cases on each of twenty tables. The tables of all families stand before all others, in lines of sixteen places: the first sixteen
-    families in the first twenty lines, and so on. So the high byte of a table's place is its line."""
+    """The same cases on each of twenty tables, whose numbers are in order and differ in their low byte alone. All other tables have higher ones."""
 
-    def __init__(self, title, tables, number):
-        Group.__init__(self, title, ())
-        self.tables, self.table, self.total = [table_bytes(reaches) for reaches in tables], [], 12
-        self.line, self.column = number // 16 * 20, number % 16
-        self.place = 1 + 256 * self.line + 16 * self.column
+    NUMBERS = 256 * 6
 
-    def table_of(self, c):
-        return self.tables[c[18] - self.line]
+    def __init__(self, title, tables, family):
+        Group.__init__(self, title, (), 256 * (family // 12) + 20 * (family % 12) + 1)
+        self.all, self.total = [table_bytes(reaches) for reaches in tables], 12
+
+    def tables(self):
+        return dict(enumerate(self.all, self.number))
 
     def case(self, call, basins, data=(), vary=(), **more):
-        Group.case(self, call, basins, data, vary=[('line', 20, self.line)] + list(vary), **more)
-
-    @staticmethod
-    def all_tables():
-        """The bytes of the tables of all families."""
-        families = [g for g in GROUPS if isinstance(g, Family)]
-        out = [0] * (1024 * (max(g.line for g in families) + 20))
-        for g in families:
-            for i, table in enumerate(g.tables):
-                at = 1024 * (g.line + i) + 64 * g.column
-                out[at:at + len(table)] = table
-        return out
+        Group.case(self, call, basins, data, vary=[('table', 20, self.number % 256)] + list(vary), **more)
 
 
 GROUPS = []
@@ -1444,7 +1510,7 @@ gr.case('contract', count, **new_rows(len(folded)))
 
 def networks(basins, size, kinds, mode):
     ends = 2 + size
-    vary = [v for i in range(size) for v in ((2 + i, kinds, 0), (ends + 4 * i, basins, 0), (ends + 2 + 4 * i, basins, 0))]
+    vary = [v for i in range(size) for v in ((2 + i, kinds, 0), (ends + 2 * i, basins, 0), (ends + 1 + 2 * i, basins, 0))]
     for call in ('walk', 'bound'):
         gr.case(call, basins, table_bytes([(G, 0, 0)] * size), p=size, k=size, x=size, y=size, limit=1100, vary=vary, mode=mode, listed=True,
                 name='%s, %d basins, %d reaches of kinds below %d' % (call, basins, size, kinds))
@@ -1731,7 +1797,7 @@ gr = group('how far: all networks of three reaches on three basins', [])
 for kinds in product((G, F), repeat=3):
     table, g = table_bytes([(k, 0, 0) for k in kinds]), kinds.count(G)
     gr.case('diameter', 3, table + [0] * g, p=g, limit=len(table), k=3, x=3, y=3, mode=QUIET, listed=True, name='%d gates' % g,
-            vary=[(2 + i, 2, F) for i in range(3) if kinds[i] == F] + [(5 + 2 * i, 3, 0) for i in range(6)] + [(len(table) + i, 2, 0) for i in range(g)])
+            vary=[(2 + i, 2, F) for i in range(3) if kinds[i] == F] + [(5 + i, 3, 0) for i in range(6)] + [(len(table) + i, 2, 0) for i in range(g)])
 
 # a ring over all basins but basin 1, a flap, a two-way reach or a shut gate with all ends, and a gate with all ends, under every setting
 
@@ -1740,7 +1806,7 @@ for order in ((3, 0, 2), (4, 0, 3, 2), (2, 5, 0, 4, 3)):
     basins = len(order) + 1
     table = table_bytes([(F, 0, 0), (G, 0, 0)] + [((G, F)[i % 2], v, w) for i, (v, w) in enumerate(zip(order, order[1:] + order[:1]))])
     size, g = word(table, 0), 1 + basins // 2
-    ends = [(2 + size + 2 * i, basins, 0) for i in range(4)]
+    ends = [(2 + size + i, basins, 0) for i in range(4)]
     gr.case('diameter', basins, table + [0] * g, p=g, limit=len(table), k=size, x=size, y=size, mode=QUIET, listed=True, name='%d basins' % basins,
             vary=[(2, 3, F)] + ends + [(len(table) + i, 2, 0) for i in range(g)])
 
@@ -1807,15 +1873,17 @@ assert came_far(2500, 'deeper depth-first', 'below the last place', 'dry below')
 
 
 def main():
-    tables, places = Family.all_tables(), []
-    for g in GROUPS:
-        places.append(g.place or (4 + len(tables)) // 4)
-        tables += g.table
-    cases = [x for g, place in zip(GROUPS, places) for x in g.bytes(place)]
-    file = bytes(two(sum(len(g.cases) for g in GROUPS)) + two((4 + len(tables)) // 4) + tables + cases)
-    assert len(file) <= 440000          # the program reads no more
+    """The file has the number of cases and where the first stands; where each table stands, by its number; the tables; the cases."""
+    tables = {number: table for g in GROUPS for number, table in g.tables().items()}
+    file, cases = File(5 + 3 * max(tables)), [c for g in GROUPS for c in g.cases]
+    for number, table in sorted(tables.items()):
+        file.bytes[3 * number + 2:3 * number + 5] = three(file.put(table))
+    file.bytes[:5] = two(len(cases)) + three(len(file.bytes))
+    for c in cases:
+        file.put(c)
+    assert len(file.bytes) <= 300000          # the program reads no more
     with open(os.path.join(HERE, 'stdin'), 'wb') as f:
-        f.write(file)
+        f.write(bytes(file.bytes))
     with open(os.path.join(HERE, 'stdout'), 'w') as f:
         f.write(''.join(x for g in GROUPS for x in g.expected))
 

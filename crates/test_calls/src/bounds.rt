@@ -26,6 +26,11 @@ pub fn word_at(s: &[u8], i: usize) -> u16 {
     byte_at(s, i) as u16 + 256 * (byte_at(s, sum(i, 1)) as u16)
 }
 
+// The three-byte value at a place.
+pub fn long_at(s: &[u8], i: usize) -> usize {
+    word_at(s, i) as usize + 65536 * (byte_at(s, sum(i, 2)) as usize)
+}
+
 // n, or the length of the row where that is less: a count of entries at its start.
 pub fn within(s: &[u8], n: usize) -> usize
     ensures { λ r. ⌜ Counts r (now (s .entry)) ⌝ }

@@ -6,12 +6,14 @@ mod contractions;
 mod diameters;
 mod files;
 mod plans;
+mod runs;
 mod show;
 mod table_rows;
 
 use bounds::byte_at;
 use bounds::front;
 use bounds::front_words;
+use bounds::long_at;
 use bounds::rest;
 use bounds::sum;
 use bounds::word_at;
@@ -19,6 +21,7 @@ use files::Lengths;
 use plans::BOUND;
 use plans::NEXT;
 use plans::Room;
+use runs::Row;
 use show::Out;
 
 // The calls, by the bytes of the case file; those of files stand there, bound gates and the next plan in plans.
@@ -45,11 +48,22 @@ const COMPARE: u8 = 15;
 
 const DIAMETER: u8 = 16;
 
-// A case's bytes: the call; the basin count; the lengths of the three rows; those of two buffers; that of the data; how often to go on; where the
-// table stands, in steps of four bytes; the data, which is the table where that stands nowhere.
-const CASE: usize = 6200;
+// A case's bytes: the call; the basin count; the lengths of the three rows; those of two buffers; that of the data; how often to go on; the table's number;
+// how much is printed, the number of variations, how many cases they make, the length of the name, how many bytes of data there are; the data, which is the
+// table where that has no number; the variations; the name.
+const TABLE_NUMBER: usize = 17;
 
-const DATA: usize = 19;
+const MODE: usize = 19;
+
+const VARIATIONS: usize = 20;
+
+const COUNT: usize = 21;
+
+const NAME: usize = 24;
+
+const LENGTH: usize = 25;
+
+const DATA: usize = 27;
 
 // The calls of the planner and of the walker.
 fn ask(o: Out, c: &[u8], kinds: &[u8], a: &[u16], b: &[u16], s: &[u8]) -> Out {
@@ -135,32 +149,17 @@ fn play_with(o: Out, c: &[u8], table: &[u8]) -> Out {
     )
 }
 
-struct Case {
-    bytes: [u8; CASE],
-}
-
 // One call, on the table of its case.
-fn play(o: Out, x: Case, file: &[u8]) -> Out {
+fn play(o: Out, x: Row, file: &[u8]) -> Out {
     let bytes = x.bytes;
-    let c = front(&bytes, CASE);
-    let at = 4 * (word_at(c, 17) as usize);
-    if at == 0 {
-        play_with(o, c, rest(c, DATA))
-    } else {
-        play_with(o, c, rest(file, at))
+    let c = front(&bytes, runs::SIZE);
+    let number = word_at(c, TABLE_NUMBER) as usize;
+    if number == 0 {
+        return play_with(o, c, rest(c, DATA));
     }
-}
-
-fn copied(c: &[u8]) -> Case {
-    let mut bytes = [0u8; CASE];
-    let mut i: usize = 0;
-    while i < CASE {
-        if i < c.len() {
-            bytes[i] = c[i];
-        }
-        i += 1;
-    }
-    Case { bytes }
+    let row = runs::row_at(file, long_at(file, 3 * number + 2));
+    let table = row.bytes;
+    play_with(o, c, &table)
 }
 
 // The value of number v of a variation: the place of a byte, the number of its values, and the lowest of them.
@@ -182,7 +181,7 @@ fn number_left(v: usize, variation: &[u8]) -> usize {
 }
 
 // The case of number v; the last variation varies first.
-fn varied(c: Case, variations: &[u8], v: usize) -> Case {
+fn varied(c: Row, variations: &[u8], v: usize) -> Row {
     let mut x = c;
     let mut left = v;
     let mut n = variations.len() / 5;
@@ -190,7 +189,7 @@ fn varied(c: Case, variations: &[u8], v: usize) -> Case {
         n -= 1;
         let variation = rest(variations, 5 * (n % 256));
         let i = word_at(variation, 0) as usize;
-        if i < CASE {
+        if i < runs::SIZE {
             x.bytes[i] = value(variation, left);
         }
         left = number_left(left, variation);
@@ -199,8 +198,7 @@ fn varied(c: Case, variations: &[u8], v: usize) -> Case {
 }
 
 // A case with all its variations.
-fn play_all(o: Out, c: &[u8], variations: &[u8], count: usize, file: &[u8]) -> Out {
-    let case = copied(c);
+fn play_all(o: Out, case: Row, variations: &[u8], count: usize, file: &[u8]) -> Out {
     let mut o = o;
     let mut v: usize = 0;
     while v < count {
@@ -210,40 +208,38 @@ fn play_all(o: Out, c: &[u8], variations: &[u8], count: usize, file: &[u8]) -> O
     o
 }
 
-// The case at the start of s: the length of its name, the name; how much is printed, the number of variations, how many cases they make, the length of
-// the call; the variations; the call. Answers how many bytes these are.
-fn play_case(s: &[u8], file: &[u8]) -> usize {
-    let l = byte_at(s, 0) as usize;
-    io::write_all(1, front(rest(s, 1), l));
+// The case at a place. Answers where the next one stands.
+fn play_case(file: &[u8], at: usize) -> usize {
+    let case = runs::row_at(file, at);
+    let bytes = case.bytes;
+    let c = front(&bytes, runs::SIZE);
+    let t = rest(c, DATA + word_at(c, LENGTH) as usize);
+    let v = 5 * (byte_at(c, VARIATIONS) as usize);
+    io::write_all(1, front(rest(t, v), byte_at(c, NAME) as usize));
     io::write_all(1, b":");
-    let t = rest(s, sum(l, 1));
-    let v = 5 * (byte_at(t, 1) as usize);
-    let count = 65536 * (byte_at(t, 4) as usize) + word_at(t, 2) as usize;
-    let n = word_at(t, 5) as usize;
-    let c = front(rest(t, sum(7, v)), n);
     let o = Out {
-        mode: byte_at(t, 0),
+        mode: byte_at(c, MODE),
         number: 255,
         run: 0,
         sum: 0,
     };
-    show::end(play_all(o, c, front(rest(t, 7), v), count, file));
-    sum(sum(l, 8), sum(v, n))
+    show::end(play_all(o, case, front(t, v), long_at(c, COUNT), file));
+    case.next
 }
 
-// The file: the number of cases, where they start, in steps of four bytes; the tables; the cases.
+// The file: the number of cases, where the first stands, where each table stands, from number 1 on; the tables; the cases.
 fn play_cases(file: &[u8]) {
     let n = word_at(file, 0) as usize;
-    let mut at = 4 * (word_at(file, 2) as usize);
+    let mut at = long_at(file, 2);
     let mut i: usize = 0;
     while i < n {
-        at = sum(at, play_case(rest(file, at), file));
+        at = play_case(file, at);
         i += 1;
     }
 }
 
 fn main() {
-    let mut cases = [0u8; 440000];
+    let mut cases = [0u8; 300000];
     let n = io::read_full(0, &mut cases);
     play_cases(&cases[..n]);
 }

@@ -1,6 +1,6 @@
-// The ends of a table that stands in the case file: the number of reaches, a kind for each, then both ends of each.
+// The ends of a table: its bytes are the number of reaches, a kind for each, then both ends of each, the low bytes of all before the high ones.
+use crate::bounds::byte_at;
 use crate::bounds::rest;
-use crate::bounds::sum;
 use crate::bounds::word_at;
 
 pub const ROOM: usize = 1030;
@@ -10,13 +10,9 @@ pub struct Ends {
     pub b: [u16; ROOM],
 }
 
-// Puts down the ends of reach i.
-fn with_reach(mut t: Ends, i: usize, s: &[u8]) -> Ends {
-    if i < ROOM {
-        t.a[i] = word_at(s, 4 * i);
-        t.b[i] = word_at(s, 4 * i + 2);
-    }
-    t
+// The end of number i.
+fn end_at(low: &[u8], high: &[u8], i: usize) -> u16 {
+    byte_at(low, i) as u16 + 256 * (byte_at(high, i) as u16)
 }
 
 pub fn load(s: &[u8]) -> Ends {
@@ -25,9 +21,14 @@ pub fn load(s: &[u8]) -> Ends {
         b: [0; ROOM],
     };
     let n = word_at(s, 0) as usize;
+    let low = rest(s, n + 2);
+    let high = rest(low, 2 * n);
     let mut i: usize = 0;
     while i < n {
-        t = with_reach(t, i, rest(s, sum(n, 2)));
+        if i < ROOM {
+            t.a[i] = end_at(low, high, 2 * i);
+            t.b[i] = end_at(low, high, 2 * i + 1);
+        }
         i += 1;
     }
     t

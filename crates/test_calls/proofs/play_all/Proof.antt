@@ -6,13 +6,10 @@ use Rattle.test_calls.proofs.play_all.Statement.{statement}
 use Rattle.test_calls.proofs.play_all.Tie as tie
 
 abbrev Inv-loop : tie.InvT-loop
-Inv-loop c variations count file case o₀ v₀ o v = Unit
+Inv-loop case variations count file o₀ v₀ o v = Unit
 
 abbrev μ-loop : tie.MeasureT-loop
-μ-loop c variations count file case o₀ v₀ o v = count - v
-
-copied-requires : tie.Need-copied-requires Inv-loop μ-loop
-copied-requires c κs = tt
+μ-loop case variations count file o₀ v₀ o v = count - v
 
 loop-holds : tie.Need-loop-holds Inv-loop μ-loop
 loop-holds c = tt
@@ -41,7 +38,6 @@ play-all-spec =
     (tie.spec
     Inv-loop
     μ-loop
-    copied-requires
     loop-holds
     varied-requires
     play-requires

@@ -1,4 +1,4 @@
--- `play_cases` plays every case of the group; it is safe and ends.
+-- `play_cases` plays every case of the file; it is safe and ends.
 -- Assumes nothing.
 use Prim.Native.Nat.{_-_}
 use native.Mathlib.Omega.{arith}
@@ -17,26 +17,14 @@ word-at-requires c κs = tt
 cast-n : tie.Need-cast-n Inv-loop μ-loop
 cast-n c = omega arith
 
-word-at-requires-2 : tie.Need-word-at-requires-2 Inv-loop μ-loop
-word-at-requires-2 c κs = tt
-
-cast-at : tie.Need-cast-at Inv-loop μ-loop
-cast-at c = omega arith
-
-mul-at : tie.Need-mul-at Inv-loop μ-loop
-mul-at c = omega arith
+long-at-requires : tie.Need-long-at-requires Inv-loop μ-loop
+long-at-requires c κs = tt
 
 loop-holds : tie.Need-loop-holds Inv-loop μ-loop
 loop-holds c = tt
 
-rest-requires : tie.Need-rest-requires Inv-loop μ-loop
-rest-requires c κs = tt
-
 play-case-requires : tie.Need-play-case-requires Inv-loop μ-loop
 play-case-requires c κs = tt
-
-sum-requires : tie.Need-sum-requires Inv-loop μ-loop
-sum-requires c κs = tt
 
 add-i : tie.Need-add-i Inv-loop μ-loop
 add-i c = omega arith
@@ -58,13 +46,9 @@ play-cases-spec =
     μ-loop
     word-at-requires
     cast-n
-    word-at-requires-2
-    cast-at
-    mul-at
+    long-at-requires
     loop-holds
-    rest-requires
     play-case-requires
-    sum-requires
     add-i
     loop-less
     loop-again
