@@ -13,6 +13,7 @@ use crate::table_rows::ROOM;
 use file_records::WriteAnswer;
 use listing_state::Lister;
 use netfile_format::ReadAnswer;
+use network::MAX_REACHES;
 use sheet_format::SheetAnswer;
 
 // The lengths of the rows that are lent.
@@ -100,10 +101,13 @@ fn sheet_read(answer: SheetAnswer) -> Size {
     }
 }
 
+// The bytes that a buffer has room for: more than the longest network file.
+const FILE: usize = 6 * MAX_REACHES + 56;
+
 // An answer, and the buffer afterwards.
 pub struct Left {
     size: Size,
-    bytes: [u8; 6200],
+    bytes: [u8; FILE],
 }
 
 // The calls, by the bytes of the case file; the reply writer has all others.
@@ -139,7 +143,7 @@ pub fn filled(
     s: &[u8],
     room: usize,
 ) -> Left {
-    let mut bytes = [OLD; 6200];
+    let mut bytes = [OLD; FILE];
     let n = within(&bytes, room);
     let size = fill(call, basins, kinds, a, b, s, &mut bytes[..n]);
     Left { size, bytes }

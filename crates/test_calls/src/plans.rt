@@ -5,6 +5,8 @@ use crate::bounds::sum;
 use crate::bounds::within;
 use crate::show;
 use crate::show::Out;
+use network::MAX_BASINS;
+use network::MAX_REACHES;
 use network::Refusal;
 use replies::Answer;
 use replies::CheckAnswer;
@@ -72,11 +74,16 @@ pub struct Room {
     pub marks: usize,
 }
 
+// The bytes that the buffers have room for: more than a byte for each reach, and a bit for each basin.
+const PLAN: usize = MAX_REACHES + 16;
+
+const MARKS: usize = MAX_BASINS / 8 + 8;
+
 // An answer, and the buffers afterwards.
 pub struct Got {
     answer: Answer,
-    plan: [u8; 1040],
-    marks: [u8; 40],
+    plan: [u8; PLAN],
+    marks: [u8; MARKS],
 }
 
 // The calls that are lent a buffer with a byte for each gate and one for marks, by the bytes of the case file.
@@ -112,8 +119,8 @@ pub fn filled(
     s: &[u8],
     room: Room,
 ) -> Got {
-    let mut plan = [OLD; 1040];
-    let mut marks = [OLD; 40];
+    let mut plan = [OLD; PLAN];
+    let mut marks = [OLD; MARKS];
     let p = within(&plan, room.plan);
     let m = within(&marks, room.marks);
     let answer = fill(
@@ -150,8 +157,8 @@ struct Step {
 }
 
 fn take_step(walker: Walker, basins: u16, kinds: &[u8], a: &[u16], b: &[u16], room: Room) -> Step {
-    let mut plan = [OLD; 1040];
-    let mut marks = [OLD; 40];
+    let mut plan = [OLD; PLAN];
+    let mut marks = [OLD; MARKS];
     let p = within(&plan, room.plan);
     let m = within(&marks, room.marks);
     let stepped = walker.step_rows(basins, kinds, a, b, &mut plan[..p], &mut marks[..m]);
@@ -166,7 +173,7 @@ fn take_step(walker: Walker, basins: u16, kinds: &[u8], a: &[u16], b: &[u16], ro
 }
 
 // A walker's first n bytes, and all of them to the sum.
-fn show_setting(o: Out, setting: &[u8; 1024], n: usize) -> Out {
+fn show_setting(o: Out, setting: &[u8; MAX_REACHES], n: usize) -> Out {
     let o = show::bytes(o, front(setting, n));
     show::bytes(o, setting)
 }
@@ -181,9 +188,9 @@ fn show_step(o: Out, s: Step, room: Room) -> Out {
 
 // The walker of these bytes, with untouched ones after them.
 pub fn walker_of(s: &[u8]) -> Walker {
-    let mut setting = [OLD; 1024];
+    let mut setting = [OLD; MAX_REACHES];
     let mut i: usize = 0;
-    while i < 1024 {
+    while i < MAX_REACHES {
         if i < s.len() {
             setting[i] = s[i];
         }

@@ -2,8 +2,10 @@
 use crate::bounds::byte_at;
 use crate::bounds::rest;
 use crate::bounds::word_at;
+use network::MAX_REACHES;
 
-pub const ROOM: usize = 1030;
+// The reaches that a row has room for: more than a network may have.
+pub const ROOM: usize = MAX_REACHES + 6;
 
 pub struct Ends {
     pub a: [u16; ROOM],

@@ -2,6 +2,7 @@
 -- Assumes nothing.
 use Prim.Native.Nat.{_-_}
 use native.Mathlib.Omega.{arith}
+use Rattle.network.specs.Networks.{maxReaches}
 use Rattle.test_calls.proofs.plans.walker_of.Statement.{statement}
 use Rattle.test_calls.proofs.plans.walker_of.Tie as tie
 
@@ -9,7 +10,7 @@ abbrev Inv-loop : tie.InvT-loop
 Inv-loop s setting₀ i₀ setting i = Unit
 
 abbrev μ-loop : tie.MeasureT-loop
-μ-loop s setting₀ i₀ setting i = 1024 - i
+μ-loop s setting₀ i₀ setting i = maxReaches - i
 
 loop-holds : tie.Need-loop-holds Inv-loop μ-loop
 loop-holds c = tt
