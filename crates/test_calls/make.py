@@ -15,6 +15,10 @@ from functools import lru_cache
 from itertools import product
 
 HERE = os.path.dirname(os.path.abspath(__file__))
+BASINS, REACHES = 256, 1024          # how many a network may have
+MARK_BYTES = 32                     # a finding's marks
+MAX_BYTES = 8000                    # what the lister reads of a file
+SHEET, FILE = 4 + 3 * REACHES, 4 + 5 * REACHES         # the lengths of the longest plan sheet, and of the file of as many reaches in service
 OLD, OLD_WORD = 170, 43690          # what every byte and every two-byte entry of a lent buffer holds before a call
 GATED, FLAP, TWO_WAY = 0, 1, 2      # kinds in a row of a table
 SHUT = 3                            # is added to the kind of a reach that is shut for works; every number over 5 is shut two-way too
@@ -156,9 +160,9 @@ def network(reaches):
 
 
 def table_fault(basins, reaches):
-    if not 1 <= basins <= 256:
+    if not 1 <= basins <= BASINS:
         return 1
-    if len(reaches) > 1024:
+    if len(reaches) > REACHES:
         return 2
     return 3 if any(a >= basins or b >= basins for _, a, b in reaches) else 0
 
@@ -212,7 +216,7 @@ def fold(basins, reaches):
 
 
 def mark_bytes(marked):
-    return [marked >> 8 * byte & 255 for byte in range(32)]
+    return [marked >> 8 * byte & 255 for byte in range(MARK_BYTES)]
 
 
 # ---- the calls: each gives its number and what else it replies, and changes the buffers it is lent
@@ -225,7 +229,7 @@ def check(basins, reaches, setting):
 def plan_call(basins, reaches, setting, p, m):
     """First plan (no setting) or next plan, with a plan buffer of p bytes and a marks buffer of m: number, values, plan bytes, marks bytes."""
     number = table_fault(basins, reaches) or (8 if setting is not None and misfits(reaches, setting) else 0) or \
-        (7 if p < gates_of(reaches) or m < 32 else 0)
+        (7 if p < gates_of(reaches) or m < MARK_BYTES else 0)
     if number:
         return number, (), (), ()
     net = network(reaches)
@@ -263,6 +267,14 @@ def two(x):
     return [x % 256, x // 256]
 
 
+def low(x):
+    return x % 256
+
+
+def high(x):
+    return x // 256
+
+
 def three(x):
     return two(x % 65536) + [x // 65536]
 
@@ -276,7 +288,7 @@ def read_network(file):
     if len(file) < 3:
         return 4
     basins, at, reaches = word(file, 1), 3, []
-    if not 1 <= basins <= 256:
+    if not 1 <= basins <= BASINS:
         return 1
     while True:
         if at == len(file):
@@ -291,7 +303,7 @@ def read_network(file):
             return 4
         if kind == 5 and file[at + 5] not in (2, 3, 4):
             return 5
-        if len(reaches) == 1024:
+        if len(reaches) == REACHES:
             return 2
         a, b = word(file, at + 1), word(file, at + 3)
         if a >= basins or b >= basins:
@@ -351,7 +363,7 @@ COMPARED, PAIRS = Counter(), set()          # how often each outcome of a compar
 
 def compare_call(basins, reaches, first, second):
     """The number of a refusal, or which of two plan sheets is earlier (1, 2, or 0 for neither), and the part of it from the first differing record."""
-    one, other = (read_sheet(basins, reaches, sheet, 1024) for sheet in (first, second))
+    one, other = (read_sheet(basins, reaches, sheet, REACHES) for sheet in (first, second))
     refused = [got if isinstance(got, int) else 0 for got in (one, other)]
     if any(refused):
         COMPARED['refused %d, %d' % tuple(refused)] += 1
@@ -441,7 +453,7 @@ def write(call, basins, reaches, setting, room):
 
 
 def listing(file):
-    got = read_network(file[:8000])
+    got = read_network(file[:MAX_BYTES])
     if isinstance(got, int):
         return 'refused %d\n' % got
     net = network(got[1])
@@ -564,7 +576,7 @@ def play(o, c, table):
         number = check(basins, reaches, s)
         number = 0 if number in ('y', 'n') else number
         o.reply(number)
-        made = s + [0] * (1024 - len(s)) if number == 0 else [0] * 1024
+        made = s + [0] * (REACHES - len(s)) if number == 0 else [0] * REACHES
         o.row(made[:p])
         o.row(made)
     elif call == 'walk':
@@ -576,7 +588,7 @@ def play(o, c, table):
             if answer[0]:
                 break
     elif call == 'walker':
-        held = s + [OLD] * (1024 - len(s))
+        held = s + [OLD] * (REACHES - len(s))
         for _ in range(1 + limit):
             answer, held = step_call(held, basins, reaches, p, m)
             show_step(o, answer, held, p, m)
@@ -705,7 +717,7 @@ def table_bytes(reaches):
 @lru_cache(maxsize=None)
 def kept_rows(s, k, x, y):
     n = word(s, 0)
-    ends = [low + 256 * high for low, high in zip(s[2 + n:2 + 3 * n], s[2 + 3 * n:2 + 5 * n])] + [0] * (2 * (1030 - n))
+    ends = [low + 256 * high for low, high in zip(s[2 + n:2 + 3 * n], s[2 + 3 * n:2 + 5 * n])] + [0] * (2 * (REACHES + 6 - n))
     return tuple(zip(s[2:2 + n][:k], ends[::2][:x], ends[1::2][:y]))
 
 
@@ -733,7 +745,7 @@ class Group:
         """The tables, by their numbers."""
         return {self.number: self.table}
 
-    def case(self, call, basins, data=(), p=0, m=32, n=None, k=None, x=None, y=None, limit=0, vary=(), mode=None, name=None, listed=False):
+    def case(self, call, basins, data=(), p=0, m=MARK_BYTES, n=None, k=None, x=None, y=None, limit=0, vary=(), mode=None, name=None, listed=False):
         """A call, once or with variations: (field or place in the data, number of values, lowest), of which the last varies first.
         Where it is listed, the data is the table."""
         k, x, y = (self.total if z is None else z for z in (k, x, y))
@@ -751,7 +763,7 @@ class Group:
         c = [CODES[call]] + [z for v in (basins, k, x, y, p, m, n, limit, 0 if listed else self.number) for z in two(v)] + \
             [mode, len(vary)] + three(count) + [len(name)] + two(len(data)) + list(data)
         self.cases.append(c + [z for place, values, lowest in vary for z in two(place) + two(values) + [lowest]] + list(name.encode()))
-        assert len(self.cases[-1]) <= 8200          # the program keeps no more
+        assert len(self.cases[-1]) <= MAX_BYTES + 200          # the program keeps no more
         o, tables = Out(mode), self.tables()
         for i in range(count):
             d = list(c)
@@ -866,15 +878,15 @@ def whole(title, basins, reaches):
     gr.case('check', basins, zeros, vary=settings(g))
     gr.case('first', basins, p=g)
     gr.case('bound', basins, p=g)
-    gr.case('bound', basins, vary=[('p', 3, max(g - 1, 0)), ('m', 3, 31)])
+    gr.case('bound', basins, vary=[('p', 3, max(g - 1, 0)), ('m', 3, MARK_BYTES - 1)])
     gr.case('next', basins, zeros, p=g, vary=settings(g))
-    gr.case('walk', basins, p=g + 1, m=33, limit=1100, mode=BRIEF)
+    gr.case('walk', basins, p=g + 1, m=MARK_BYTES + 1, limit=1100, mode=BRIEF)
     gr.case('make', basins, zeros, p=g + 2, vary=settings(g))
     gr.case('step', basins, zeros, p=g, vary=settings(g))
-    gr.case('walker', basins, zeros, p=g + 1, m=33, limit=1100, mode=BRIEF)
+    gr.case('walker', basins, zeros, p=g + 1, m=MARK_BYTES + 1, limit=1100, mode=BRIEF)
     gr.case('write network', basins, p=len(file))
     gr.case('read network', 0, file, k=len(reaches), x=len(reaches) + 1, y=len(reaches) + 2)
-    gr.case('write reply', basins, p=38)
+    gr.case('write reply', basins, p=MARK_BYTES + 6)
     gr.case('write reply', basins, vary=[('p', 3, len(reply_sheet(reaches)) - 1)])
     gr.case('write sheet', basins, zeros, p=4 + 3 * g, vary=settings(g))
     sheet = plan_sheet(reaches, zeros)
@@ -917,7 +929,7 @@ whole('case 11 with a shut two-way reach back', 3, [(F, 0, 1), (ST, 2, 0), (G, 1
 whole('case 13 with its third gate shut', 4, [(SG if (a, b) == (0, 3) else G, a, b) for a in range(4) for b in range(a + 1, 4)])
 gr = group('case 2 with a reach of each number beside its gate', [])
 for call in ('walk', 'bound', 'write network', 'write reply', 'contract'):
-    gr.case(call, 2, table_bytes([(G, 0, 1), (G, 1, 0)]), p=38, k=2, x=2, y=2, limit=3, vary=[(3, 256, 0)], mode=QUIET, listed=True)
+    gr.case(call, 2, table_bytes([(G, 0, 1), (G, 1, 0)]), p=MARK_BYTES + 6, k=2, x=2, y=2, limit=3, vary=[(3, 256, 0)], mode=QUIET, listed=True)
 
 
 # ---- dry basins (document 02, item 3): with no reach in service, below, between and above the wet ones, and with ends of shut reaches
@@ -943,7 +955,7 @@ def cuts(title, basins, reaches):
     gr.case('make', basins, zeros, p=g, vary=any_setting, mode=QUIET)
     gr.case('walker', basins, zeros, p=g, limit=20, vary=any_setting, mode=QUIET)
     gr.case('write network', basins, p=60, vary=vary)
-    gr.case('write reply', basins, p=38, vary=vary, mode=FULL)
+    gr.case('write reply', basins, p=MARK_BYTES + 6, vary=vary, mode=FULL)
     gr.case('write sheet', basins, zeros, p=4 + 3 * g, vary=any_setting, mode=QUIET)
     gr.case('read sheet', basins, [16, 0, 0, 9], p=g, vary=vary)
     gr.case('read sheet', basins, sheet, p=g, vary=vary + hung(g))
@@ -958,19 +970,21 @@ whole('two basins, a gated loop at each', 2, [(G, 0, 0), (G, 1, 1)])
 whole('seven basins, case 7 at 1, 3 and 5, and shut reaches', 7, [(SG, 0, 3)] + moved([(G, 0, 1), (G, 1, 2), (G, 2, 0)], 1, 2) + [(ST, 2, 6)])
 whole('seven basins, case 10 at 1, 3 and 5', 7, moved([(G, 0, 1), (T, 1, 2)], 1, 2))
 whole('seven basins, case 11 at 1, 3 and 5', 7, moved([(F, 0, 1), (G, 1, 2)], 1, 2))
-whole('256 basins, no reach', 256, [])
+whole('%d basins, no reach' % BASINS, BASINS, [])
 cuts('dry basins: loops at the second of two, then at the first', 2, [(SG, 0, 1), (F, 1, 1), (T, 1, 1), (G, 1, 1), (F, 0, 0), (T, 1, 0)])
 cuts('dry basins: lone reaches', 8, [(ST, 0, 3), (G, 5, 3), (T, 5, 6), (G, 3, 5), (G, 6, 2), (SF, 7, 1), (F, 2, 5)])
 cuts('dry basins: shut in', 9, [(T, 6, 6), (F, 6, 3), (G, 3, 6), (F, 3, 5), (SG, 0, 8), (F, 1, 7), (T, 7, 5), (F, 6, 1), (G, 5, 3)])
-cuts('256 basins: shut reaches, then a flap and gates at the last two', 256, [(SG, 0, 255), (255, 254, 1), (F, 255, 254), (G, 254, 255), (G, 254, 254)])
-cuts('256 basins: gates at the last two', 256, [(G, 255, 254), (G, 255, 254)])
+LAST = BASINS - 1
+cuts('%d basins: shut reaches, then a flap and gates at the last two' % BASINS, BASINS,
+     [(SG, 0, LAST), (255, LAST - 1, 1), (F, LAST, LAST - 1), (G, LAST - 1, LAST), (G, LAST - 1, LAST - 1)])
+cuts('%d basins: gates at the last two' % BASINS, BASINS, [(G, LAST, LAST - 1), (G, LAST, LAST - 1)])
 
 line = moved([(T, v, v + 1) for v in range(42) if v != 20] + [(SG, 20, 21), (G, 21, 20), (F, 20, 21)], 3, 6)
-gr = group('256 basins: two lines at every sixth, then a shut gate, a gate and a flap between', line)
+gr = group('%d basins: two lines at every sixth, then a shut gate, a gate and a flap between' % BASINS, line)
 for call in ('first', 'bound', 'write reply'):
-    gr.case(call, 256, p=38, vary=[('k', 4, 41)], mode=FULL)
-gr.case('contract', 256, vary=[('k', 4, 41)], mode=FULL, **new_rows(44))
-gr.case('diameter', 256, [0], vary=[('k', 4, 41), ('p', 2, 0), (0, 2, 0)])
+    gr.case(call, BASINS, p=MARK_BYTES + 6, vary=[('k', 4, 41)], mode=FULL)
+gr.case('contract', BASINS, vary=[('k', 4, 41)], mode=FULL, **new_rows(44))
+gr.case('diameter', BASINS, [0], vary=[('k', 4, 41), ('p', 2, 0), (0, 2, 0)])
 
 file = network_file(4, [(G, 1, 3), (G, 3, 1)])
 gr = group('dry basins: files of G1-3 and another reach, with four and five basins', [])
@@ -978,10 +992,10 @@ for call, more in (('list', dict(p=20)), ('read network', dict(k=2, x=2, y=2, mo
     gr.case(call, 0, file, vary=[(1, 2, 4), (8, 3, 2), (9, 4, 0), (11, 4, 0)], **more)
 
 # a table gets the same replies at every basin count that is over its ends
-gr = group('dry basins: each basin count to 511', [(SG, 0, 3), (G, 5, 3), (F, 5, 3), (G, 2, 5), (G, 3, 2)])
-counts = [('basins high', 2, 0), ('basins', 256, 0)]
+gr = group('dry basins: each basin count to %d' % (BASINS + 255), [(SG, 0, 3), (G, 5, 3), (F, 5, 3), (G, 2, 5), (G, 3, 2)])
+counts = [('basins high', high(BASINS) + 1, 0), ('basins', 256, 0)]
 for call in ('first', 'bound', 'write reply'):
-    gr.case(call, 0, p=38, vary=[('k', 6, 0)] + counts, mode=QUIET)
+    gr.case(call, 0, p=MARK_BYTES + 6, vary=[('k', 6, 0)] + counts, mode=QUIET)
 gr.case('check', 0, [0, 0, 0], vary=[(0, 2, 0), (2, 2, 0)] + counts)
 gr.case('next', 0, [0, 0, 0], p=3, vary=[(0, 2, 0), (2, 2, 0)] + counts, mode=QUIET)
 gr.case('diameter', 0, [0, 0, 0], p=3, vary=[(0, 2, 0), (2, 2, 0)] + counts, mode=QUIET)
@@ -990,61 +1004,64 @@ gr.case('diameter', 6, [0, 0, 0], p=3, vary=[(1, 256, 0)])
 
 # ---- case 12: the limits
 
-EDGES = [('basins high', 2, 0), ('basins', 2, 0), ('k', 2, 0)]      # 0, 1, 256 and 257 basins; 1,024 and 1,025 reaches
+# basins: none, one, as many as may be, one more; reaches: as many as may be, one more
+ONE_MORE = ('k', 2, low(REACHES))
+EDGES = [('basins high', high(BASINS) + 1, 0), ('basins', 2, low(BASINS)), ONE_MORE]
 
 for title, kind in (('flaps', F), ('two-way reaches', T), ('shut gates', SG)):
-    gr = group('case 12: %s round a ring of 256 basins' % title, ring(256, 1026, kind))
+    gr = group('case 12: %s round a ring of %d basins' % (title, BASINS), ring(BASINS, REACHES + 2, kind))
     for call in ('table', 'check', 'first', 'bound', 'next', 'make', 'step', 'write reply', 'write sheet'):
-        gr.case(call, 0, p=4, k=1024, vary=EDGES)
-    gr.case('read sheet', 0, [16, 0, 0, 9], p=0, k=1024, vary=EDGES)
-    gr.case('compare', 0, k=1024, vary=EDGES + [('p', 3, 3), ('m', 3, 3)], **beside([16, 0, 0, 9], [16, 0, 0, 9]))
-    length = len(network_file(256, gr.reaches[:1024]))
-    gr.case('write network', 0, p=length, k=1024, vary=EDGES)
-    gr.case('write network', 256, p=length - 1, k=1024, vary=[('p', 3, length % 256 - 1)])
-    gr.case('first', 256, k=256)
-    gr.case('bound', 256, k=256)
-    gr.case('contract', 0, k=1024, vary=EDGES, **new_rows(1024))
-    gr.case('contract', 0, k=1024, vary=EDGES, **new_rows(1023))
-    gr.case('diameter', 0, [0], k=1024, vary=EDGES + [('p', 2, 0)])
-    gr.case('diameter', 256, k=255, vary=[('k high', 2, 0)])
+        gr.case(call, 0, p=4, k=REACHES, vary=EDGES)
+    gr.case('read sheet', 0, [16, 0, 0, 9], p=0, k=REACHES, vary=EDGES)
+    gr.case('compare', 0, k=REACHES, vary=EDGES + [('p', 3, 3), ('m', 3, 3)], **beside([16, 0, 0, 9], [16, 0, 0, 9]))
+    length = len(network_file(BASINS, gr.reaches[:REACHES]))
+    gr.case('write network', 0, p=length, k=REACHES, vary=EDGES)
+    gr.case('write network', BASINS, p=length - 1, k=REACHES, vary=[('p', 3, low(length - 1))])
+    gr.case('first', BASINS, k=BASINS)
+    gr.case('bound', BASINS, k=BASINS)
+    gr.case('contract', 0, k=REACHES, vary=EDGES, **new_rows(REACHES))
+    gr.case('contract', 0, k=REACHES, vary=EDGES, **new_rows(REACHES - 1))
+    gr.case('diameter', 0, [0], k=REACHES, vary=EDGES + [('p', 2, 0)])
+    gr.case('diameter', BASINS, k=BASINS - 1, vary=[('k high', 2, high(BASINS - 1))])
 
-gr = group('case 12: gates round a ring of 256 basins, four times', ring(256, 1026, G))
-zeros = [0] * 1025
-gr.case('first', 0, p=1024, k=1024, vary=EDGES)
-gr.case('first', 256, p=1023, k=1024, vary=[('m', 3, 31)])
-gr.case('first', 256, p=1024, k=1024, vary=[('p', 3, 0), ('m', 3, 31)])
-gr.case('bound', 0, p=1024, k=1024, vary=EDGES)
-gr.case('bound', 256, p=1023, k=1024, vary=[('m', 3, 31)])
-gr.case('bound', 256, p=1024, k=1024, vary=[('p', 3, 0), ('m', 3, 31)])
-gr.case('check', 256, zeros, n=1024, k=1024, vary=[('k', 2, 0), ('n', 2, 0), (1023, 3, 0)])
-gr.case('next', 256, zeros, n=1024, p=1024, k=1024, vary=[('k', 2, 0), ('n', 2, 0), (1023, 3, 0)])
-gr.case('make', 256, zeros, n=1024, p=16, k=1024, vary=[('k', 2, 0), ('n', 2, 0), (1023, 3, 0)])
-gr.case('step', 256, zeros[:1024], p=1024, k=1024, vary=[('k', 2, 0), (1023, 3, 0)])
-gr.case('write sheet', 256, zeros, n=1024, p=3076, k=1024, vary=[('k', 2, 0), ('n', 2, 0), ('p', 3, 3)])
-gr.case('read sheet', 256, plan_sheet(gr.reaches[:1024], zeros[:1024]), p=1024, k=1024, vary=[('k', 2, 0), (3 + 3 * 1023, 2, 17)])
-sheet = plan_sheet(gr.reaches[:1024], [int(i in (256, 768)) for i in range(1024)])           # no plan if gates 0 and 512 are turned too
-varied = [(at + 3 + 3 * gate, 2, 17) for at in (0, 3077) for gate in (0, 512, 1023)]
-gr.case('compare', 0, k=1024, vary=EDGES + [('p', 3, 3), ('m', 3, 3)] + varied, **beside(sheet, sheet))
-gr.case('walk', 256, p=1024, k=1024, limit=2)
-gr.case('walker', 256, zeros[:1024], p=1024, k=1024, limit=2)
-gr.case('table', 256, k=1025, x=1024, y=1026)
-gr.case('table', 256, k=1026, x=1026, y=1025)
-gr.case('contract', 256, k=1024, vary=[('p high', 2, 3), ('m high', 2, 3), ('limit high', 2, 3)], **new_rows(1024))
+gr = group('case 12: gates round a ring of %d basins, four times' % BASINS, ring(BASINS, REACHES + 2, G))
+zeros = [0] * (REACHES + 1)
+gr.case('first', 0, p=REACHES, k=REACHES, vary=EDGES)
+gr.case('first', BASINS, p=REACHES - 1, k=REACHES, vary=[('m', 3, MARK_BYTES - 1)])
+gr.case('first', BASINS, p=REACHES, k=REACHES, vary=[('p', 3, low(REACHES)), ('m', 3, MARK_BYTES - 1)])
+gr.case('bound', 0, p=REACHES, k=REACHES, vary=EDGES)
+gr.case('bound', BASINS, p=REACHES - 1, k=REACHES, vary=[('m', 3, MARK_BYTES - 1)])
+gr.case('bound', BASINS, p=REACHES, k=REACHES, vary=[('p', 3, low(REACHES)), ('m', 3, MARK_BYTES - 1)])
+gr.case('check', BASINS, zeros, n=REACHES, k=REACHES, vary=[ONE_MORE, ('n', 2, low(REACHES)), (REACHES - 1, 3, 0)])
+gr.case('next', BASINS, zeros, n=REACHES, p=REACHES, k=REACHES, vary=[ONE_MORE, ('n', 2, low(REACHES)), (REACHES - 1, 3, 0)])
+gr.case('make', BASINS, zeros, n=REACHES, p=16, k=REACHES, vary=[ONE_MORE, ('n', 2, low(REACHES)), (REACHES - 1, 3, 0)])
+gr.case('step', BASINS, zeros[:REACHES], p=REACHES, k=REACHES, vary=[ONE_MORE, (REACHES - 1, 3, 0)])
+gr.case('write sheet', BASINS, zeros, n=REACHES, p=SHEET, k=REACHES, vary=[ONE_MORE, ('n', 2, low(REACHES)), ('p', 3, low(SHEET - 1))])
+gr.case('read sheet', BASINS, plan_sheet(gr.reaches[:REACHES], zeros[:REACHES]), p=REACHES, k=REACHES, vary=[ONE_MORE, (3 + 3 * (REACHES - 1), 2, 17)])
+sheet = plan_sheet(gr.reaches[:REACHES], [int(i in (BASINS, 3 * BASINS)) for i in range(REACHES)])         # no plan if gates 0 and 2 * BASINS are turned too
+varied = [(at + 3 + 3 * gate, 2, 17) for at in (0, SHEET + 1) for gate in (0, 2 * BASINS, REACHES - 1)]
+gr.case('compare', 0, k=REACHES, vary=EDGES + [('p', 3, low(SHEET - 1)), ('m', 3, low(SHEET - 1))] + varied, **beside(sheet, sheet))
+gr.case('walk', BASINS, p=REACHES, k=REACHES, limit=2)
+gr.case('walker', BASINS, zeros[:REACHES], p=REACHES, k=REACHES, limit=2)
+gr.case('table', BASINS, k=REACHES + 1, x=REACHES, y=REACHES + 2)
+gr.case('table', BASINS, k=REACHES + 2, x=REACHES + 2, y=REACHES + 1)
+gr.case('contract', BASINS, k=REACHES, vary=[(row + ' high', 2, high(REACHES) - 1) for row in ('p', 'm', 'limit')], **new_rows(REACHES))
 # once round as drawn, turned, and in part turned, which is no plan; twice round, as drawn and turned
-gr.case('diameter', 256, [0] * 256 + [1] * 256, k=0, vary=[('k high', 2, 1), ('p high', 2, 1), ('limit high', 2, 0), ('limit', 256, 0)])
+gr.case('diameter', BASINS, [0] * BASINS + [1] * BASINS, k=low(BASINS),
+        vary=[('k high', 2, high(BASINS)), ('p high', 2, high(BASINS)), ('limit high', 2, 0), ('limit', 256, 0)])
 
-for odd in ((G, 256, 0), (G, 0, 255), (F, 0, 255), (T, 0, 255), (SF, 0, 255), (SG, 190, 191)):
-    gr = group('gates round a ring of 255 basins, and reach 700 is ' + letters([odd]), ring(255, 1025, G, (700, odd)))
-    gr.case('table', 0, k=1024, vary=EDGES)
-    gr.case('first', 256, p=1024, k=1024)
-    gr.case('bound', 255, p=1024, k=1024, vary=[('basins high', 2, 0), ('basins', 2, 255)])
-    gr.case('write reply', 0, p=3076, k=1024, vary=EDGES)
-    gr.case('write reply', 256, p=3072, k=1024, vary=[('p', 5, 0)])
-    gr.case('write reply', 256, k=1024, vary=[('p', 6, 32)])
-    gr.case('write reply', 255, p=3076, k=1024)
-    gr.case('write network', 256, p=5125, k=1024)
-    gr.case('contract', 0, k=1024, vary=EDGES, **new_rows(1024))
-    gr.case('contract', 0, k=1024, vary=EDGES + [('m', 2, 255)], p=1028, m=1023, limit=1026)
+for odd in ((G, BASINS, 0), (G, 0, LAST), (F, 0, LAST), (T, 0, LAST), (SF, 0, LAST), (SG, 700 % LAST, 701 % LAST)):
+    gr = group('gates round a ring of %d basins, and reach 700 is %s' % (LAST, letters([odd])), ring(LAST, REACHES + 1, G, (700, odd)))
+    gr.case('table', 0, k=REACHES, vary=EDGES)
+    gr.case('first', BASINS, p=REACHES, k=REACHES)
+    gr.case('bound', LAST, p=REACHES, k=REACHES, vary=[('basins high', high(BASINS) + 1, 0), ('basins', 2, low(LAST))])
+    gr.case('write reply', 0, p=SHEET, k=REACHES, vary=EDGES)
+    gr.case('write reply', BASINS, p=SHEET - 4, k=REACHES, vary=[('p', 5, low(SHEET - 4))])
+    gr.case('write reply', BASINS, k=REACHES, vary=[('p', 6, MARK_BYTES)])
+    gr.case('write reply', LAST, p=SHEET, k=REACHES)
+    gr.case('write network', BASINS, p=FILE + 1, k=REACHES)
+    gr.case('contract', 0, k=REACHES, vary=EDGES, **new_rows(REACHES))
+    gr.case('contract', 0, k=REACHES, vary=EDGES + [('m', 2, low(REACHES - 1))], p=REACHES + 4, m=REACHES - 1, limit=REACHES + 2)
 
 for odd in [(kind, a, b) for kind in (F, ST) for a, b in ((3, 3), (3, 4), (4, 3), (4, 4), (65535, 0))]:
     gr = group('case 12: flaps round a ring of four basins, and ' + letters([odd]), ring(4, 4, F) + [odd])
@@ -1054,12 +1071,12 @@ for odd in [(kind, a, b) for kind in (F, ST) for a, b in ((3, 3), (3, 4), (4, 3)
     gr.case('compare', 4, vary=[(0, 2, 16), (5, 2, 16)], **beside([16, 0, 0, 9], [16, 0, 0, 9]))
 
 for place, odd in ((245, (G, 245, 246)), (9, (F, 10, 9)), (0, (F, 0, 1)), (100, (ST, 100, 101))):
-    gr = group('256 basins in a line of two-way reaches, and reach %d is %s' % (place, letters([odd])), ring(256, 255, T, (place, odd)))
-    gr.case('first', 256, p=1)
-    gr.case('bound', 256, p=1)
-    gr.case('next', 256, [0] * gates_of(gr.reaches), p=1, m=34)
-    gr.case('write reply', 256, p=36)
-    gr.case('contract', 256, **new_rows(255))
+    gr = group('%d basins in a line of two-way reaches, and reach %d is %s' % (BASINS, place, letters([odd])), ring(BASINS, LAST, T, (place, odd)))
+    gr.case('first', BASINS, p=1)
+    gr.case('bound', BASINS, p=1)
+    gr.case('next', BASINS, [0] * gates_of(gr.reaches), p=1, m=MARK_BYTES + 2)
+    gr.case('write reply', BASINS, p=MARK_BYTES + 4)
+    gr.case('contract', BASINS, **new_rows(LAST))
 
 
 # ---- case 14: a 16 by 16 grid, row by row the reaches to the right, then those down
@@ -1090,7 +1107,7 @@ def bound(title, basins, reaches, *expected):
         g = len(text)
         assert network(gr.reaches[:k]).bound() == [int(x) for x in text]
         gr.case('bound', basins, p=g, k=k)
-        gr.case('bound', basins, p=g - 1, k=k, vary=[('p', 3, (g - 1) % 256), ('m', 3, 31)])
+        gr.case('bound', basins, p=g - 1, k=k, vary=[('p', 3, low(g - 1)), ('m', 3, MARK_BYTES - 1)])
         gr.case('walk', basins, p=g, k=k, limit=7)
 
 
@@ -1104,9 +1121,9 @@ bound('the example bound-gates', 6, reaches_of('G1-4 F3-0 G0-1 G4-5 G2-1 g0-2 G5
 bound('case 7 with a flap among dry basins, then a gate beside the flap', 9, reaches_of('t0-4 g6-8 F3-5 G7-5 G7-3 G3-5'), '10', '222')
 
 # every third gate of the line is drawn the other way; on it are loops, and beside it shut gates; a gate beside the flap frees all
-line = [r for v in range(255) for r in [(G, v + 1, v) if v % 3 == 0 else (G, v, v + 1)] + [(SG, v, v + 1), (G, v, v)] * (v % 50 == 7)] + [(F, 255, 0)]
-bound('a line of 256 basins and a flap back, then a gate beside the flap', 256, line + [(G, 0, 255)],
-      ''.join('100'[v % 3] + '2' * (v % 50 == 7) for v in range(255)), '2' * (gates_of(line) + 1))
+line = [r for v in range(LAST) for r in [(G, v + 1, v) if v % 3 == 0 else (G, v, v + 1)] + [(SG, v, v + 1), (G, v, v)] * (v % 50 == 7)] + [(F, LAST, 0)]
+bound('a line of %d basins and a flap back, then a gate beside the flap' % BASINS, BASINS, line + [(G, 0, LAST)],
+      ''.join('100'[v % 3] + '2' * (v % 50 == 7) for v in range(LAST)), '2' * (gates_of(line) + 1))
 
 # with flaps at three corners of the grid, which bind the other reach of each; at the fourth a reach of each kind, and shut
 corners = [(F,) + r[1:] if i in (30, 449, 479) else r for i, r in enumerate(grid)]
@@ -1120,9 +1137,9 @@ gr.case('bound', 256, table_bytes(corners), p=480, k=480, x=480, y=480, vary=[(2
 # ---- refusals and their order: the table, the setting, the buffers, then what the network gets
 
 TABLES = [('three basins, with plans', [(G, 0, 1), (F, 0, 1), (T, 1, 2), (SG, 1, 2), (G, 1, 2), (G, 2, 0)]),
-          ('a stray end A', [(G, 300, 1), (F, 0, 1), (T, 1, 2), (255, 1, 2), (G, 1, 2), (G, 2, 0)]),
+          ('a stray end A', [(G, BASINS + 44, 1), (F, 0, 1), (T, 1, 2), (255, 1, 2), (G, 1, 2), (G, 2, 0)]),
           ('a stray end B', [(G, 0, 1), (F, 0, 1), (T, 1, 2), (SF, 1, 2), (G, 1, 2), (G, 2, 65535)]),
-          ('a stray end A, shut', [(G, 0, 1), (F, 0, 1), (T, 1, 2), (SG, 300, 2), (G, 1, 2), (G, 2, 0)]),
+          ('a stray end A, shut', [(G, 0, 1), (F, 0, 1), (T, 1, 2), (SG, BASINS + 44, 2), (G, 1, 2), (G, 2, 0)]),
           ('a stray end B, shut', [(G, 0, 1), (255, 0, 65535), (T, 1, 2), (F, 1, 2), (G, 1, 2), (G, 2, 0)]),
           ('three basins, a lone reach', [(G, 0, 1), (F, 0, 1), (F, 1, 0), (7, 1, 2), (G, 1, 2), (G, 0, 1)]),
           ('three basins, shut in', [(G, 0, 1), (F, 1, 2), (SF, 2, 0), (F, 1, 2), (G, 1, 0), (G, 0, 1)])]
@@ -1130,7 +1147,7 @@ TABLES = [('three basins, with plans', [(G, 0, 1), (F, 0, 1), (T, 1, 2), (SG, 1,
 for title, reaches in TABLES:
     gr = group('order: ' + title, reaches + [(G, 0, 9), (G, 9, 0)])
     at_six = dict(k=6, x=6, y=6)
-    table, setting, rooms = [('basins high', 2, 0), ('basins', 5, 0)], [('n', 3, 2), (2, 3, 0)], [('p', 3, 2), ('m', 3, 31)]
+    table, setting, rooms = [('basins high', high(BASINS) + 1, 0), ('basins', 5, 0)], [('n', 3, 2), (2, 3, 0)], [('p', 3, 2), ('m', 3, MARK_BYTES - 1)]
     gr.case('table', 3, vary=table, **at_six)
     gr.case('check', 3, [0, 0, 0, 0], vary=table + setting, **at_six)
     gr.case('first', 3, vary=table + rooms, **at_six)
@@ -1141,7 +1158,7 @@ for title, reaches in TABLES:
     gr.case('step', 3, [0, 0, 0, 0], n=4, vary=table + [(2, 3, 0), (3, 3, 0)] + rooms, **at_six)
     gr.case('step', 3, [1, 1, 0, 0], n=3, vary=[('basins', 3, 2), (2, 3, 0)] + rooms, **at_six)
     gr.case('write network', 3, vary=table + [('p', 3, len(network_file(3, reaches)) - 1)], **at_six)
-    gr.case('write reply', 3, vary=table + [('p', 27, 12)], **at_six)
+    gr.case('write reply', 3, vary=table + [('p', MARK_BYTES - 5, 12)], **at_six)
     gr.case('write sheet', 3, [0, 0, 0, 0], vary=table + setting + [('p', 3, 12)], **at_six)
     sheet = plan_sheet(reaches, [0, 0, 0])
     gr.case('read sheet', 3, sheet + [0], vary=table + [('n', 4, 11), (9, 4, 16), ('p', 3, 2)], **at_six)
@@ -1248,7 +1265,7 @@ for f, (basins, g) in enumerate(product(range(2, 7), range(11))):
     gr.case('next', basins, setting, p=g, vary=vary, mode=QUIET)
     gr.case('walker', basins, [0] * g, p=g, limit=40, mode=QUIET)
     gr.case('step', basins, setting, p=g, vary=[('basins', 2, basins)] + vary[-3:], mode=QUIET)
-    gr.case('write reply', basins, p=40, vary=[('basins', 2, basins)], mode=QUIET)
+    gr.case('write reply', basins, p=MARK_BYTES + 8, vary=[('basins', 2, basins)], mode=QUIET)
     gr.case('contract', basins, vary=[('basins', 2, basins)], mode=QUIET, **new_rows(12))
     if g <= 8:
         gr.case('diameter', basins, [0] * g, p=g, vary=settings(g), mode=QUIET)
@@ -1455,28 +1472,29 @@ for basins in range(3, 13):
         gr.case('contract', basins, table_bytes(draw_clustered(basins, NUMBERS.below(4), 14)), k=11, x=14, y=14,
                 vary=[('k', 4, 11), (2, 6, 0), (3, 4, 255), (4, 6, 0)], mode=QUIET, listed=True, name='%d basins' % basins, **new_rows(14))
 
-# the limits: one cluster of 256 basins, joined in bad orders; then inside it a gate, flaps and a shut reach
+# the limits: one cluster of all basins, joined in bad orders; then inside it a gate, flaps and a shut reach
 
 def by_lot(reaches):
     return [(k, b, a) if NUMBERS.below(2) else (k, a, b) for k, a, b in sorted(reaches, key=lambda r: NUMBERS.below(1 << 20))]
 
 
-path = [(T, v, v + 1) for v in range(255)]
-blocks = [(T, v + 2 * step - 1, v + step - 1) for step in (1, 2, 4, 8, 16, 32, 64, 128) for v in reversed(range(0, 256, 2 * step))]
-comb = [(T, v + 1, v) for v in reversed(range(127))] + [(T, 255 - v, v) for v in range(128)]
+path = [(T, v, v + 1) for v in range(LAST)]
+blocks = [(T, v + 2 * step - 1, v + step - 1) for step in (1 << i for i in range(LAST.bit_length())) for v in reversed(range(0, BASINS, 2 * step))]
+HALF = BASINS // 2
+comb = [(T, v + 1, v) for v in reversed(range(HALF - 1))] + [(T, LAST - v, v) for v in range(HALF)]
 for title, reaches in (('a path, rising', path), ('a path, falling', path[::-1]), ('a path by lot', by_lot(path)), ('a comb, its spine falling', comb),
-                       ('a star at 255', [(T, 255, v) for v in range(255)]), ('blocks, joined at their highest', blocks),
-                       ('a tree by lot', by_lot([(T, NUMBERS.below(v), v) for v in range(1, 256)]))):
-    gr = group('folded: 256 basins, %s' % title, reaches + [(G, 0, 255), (F, 3, 200), (F, 200, 200), (ST, 5, 6)])
-    assert len(reaches) == 255 and fold(256, gr.reaches) == (1, ((T, 0, 0), (G, 0, 0)))
-    gr.case('contract', 256, vary=[('k high', 2, 0), ('k', 4, 0)], **new_rows(259))
-    gr.case('contract', 256, k=240, vary=[('k', 16, 240)], mode=QUIET, **new_rows(255))
-    gr.case('diameter', 256, [0], k=255, vary=[('k', 2, 254)])
-    gr.case('diameter', 256, [0], p=1, k=256, vary=[('k', 4, 0), (0, 2, 0)])
+                       ('a star at %d' % LAST, [(T, LAST, v) for v in range(LAST)]), ('blocks, joined at their highest', blocks),
+                       ('a tree by lot', by_lot([(T, NUMBERS.below(v), v) for v in range(1, BASINS)]))):
+    gr = group('folded: %d basins, %s' % (BASINS, title), reaches + [(G, 0, LAST), (F, 3, 200), (F, 200, 200), (ST, 5, 6)])
+    assert len(reaches) == LAST and fold(BASINS, gr.reaches) == (1, ((T, 0, 0), (G, 0, 0)))
+    gr.case('contract', BASINS, vary=[('k high', high(BASINS) + 1, 0), ('k', 4, low(BASINS))], **new_rows(LAST + 4))
+    gr.case('contract', BASINS, k=BASINS - 16, vary=[('k', 16, low(BASINS - 16))], mode=QUIET, **new_rows(LAST))
+    gr.case('diameter', BASINS, [0], k=LAST, vary=[('k', 2, low(LAST - 1))])
+    gr.case('diameter', BASINS, [0], p=1, k=BASINS, vary=[('k', 4, low(BASINS)), (0, 2, 0)])
 
-pairs = [(T, v, 255 - v) if i % 2 else (T, 255 - v, v) for i in range(8) for v in reversed(range(128))]
-gr = group('folded: 128 pairs of basins, each joined eight times', pairs)
-gr.case('contract', 256, vary=[('k high', 5, 0)], **new_rows(1024))
+pairs = [(T, v, LAST - v) if i % 2 else (T, LAST - v, v) for i in range(REACHES // HALF) for v in reversed(range(HALF))]
+gr = group('folded: %d pairs of basins, each joined eight times' % HALF, pairs)
+gr.case('contract', BASINS, vary=[('k high', high(REACHES) + 1, 0)], **new_rows(REACHES))
 
 for title, kinds in (('all two-way', (T, T)), ('its rows two-way', (T, G)), ('its columns two-way, its rows flaps', (F, T))):
     reaches = [(kinds[b - a == 16], a, b) for _, a, b in grid]
@@ -1492,16 +1510,16 @@ def among(v):
 
 
 mixed = []
-for i in range(1026):
-    v, w = NUMBERS.below(256), NUMBERS.below(256)
+for i in range(REACHES + 2):
+    v, w = NUMBERS.below(BASINS), NUMBERS.below(BASINS)
     mixed.append(((T, v, among(v)), (F, v, among(v)), (F, v, w), (G, v, w), (G, v, among(v)), (SHUT + NUMBERS.below(253), v, w), (ST, v, w), (T, v, v))[NUMBERS.below(8)])
-gr = group('folded: 256 basins, 1,026 reaches of all kinds by lot, the two-way ones inside forty classes', mixed)
-count, folded = fold(256, mixed[:1024])
+gr = group('folded: %d basins, {:,} reaches of all kinds by lot, the two-way ones inside forty classes'.format(REACHES + 2) % BASINS, mixed)
+count, folded = fold(BASINS, mixed[:REACHES])
 assert 100 < count < 200 and 400 < len(folded) < 700 and fold(count, folded) == (count, folded)
-gr.case('contract', 0, k=1024, vary=EDGES, **new_rows(1024))
-for room in ((1023, 1024, 1024), (1024, 1023, 1024), (1024, 1024, 1023), (1028, 1028, 1028), (len(folded),) * 3):
-    gr.case('contract', 256, k=1024, p=room[0], m=room[1], limit=room[2])
-gr.case('contract', 256, k=0, vary=[('k high', 4, 0), ('k', 64, 0)], mode=QUIET, **new_rows(1024))
+gr.case('contract', 0, k=REACHES, vary=EDGES, **new_rows(REACHES))
+for room in ((REACHES - 1, REACHES, REACHES), (REACHES, REACHES - 1, REACHES), (REACHES, REACHES, REACHES - 1), (REACHES + 4, REACHES + 4, REACHES + 4), (len(folded),) * 3):
+    gr.case('contract', BASINS, k=REACHES, p=room[0], m=room[1], limit=room[2])
+gr.case('contract', BASINS, k=0, vary=[('k high', high(REACHES), 0), ('k', 64, 0)], mode=QUIET, **new_rows(REACHES))
 gr = group('folded: the same, folded', folded)
 gr.case('contract', count, **new_rows(len(folded)))
 
@@ -1559,19 +1577,21 @@ gr.case('read network', 0, [1, 4, 0, 5, 3, 0, 0, 0, 3, 9], vary=[(7, 256, 0), (6
 for p in (0, 1, 5, 6, 7):
     gr.case('list', 0, network_file(2, [(G, 0, 1), (G, 0, 1)]), p=p)
 
-MOST = dict(k=1024, x=1024, y=1024)
-many = [(i % 6, i % 4, i // 4 % 4) for i in range(1024)]
+MOST = dict(k=REACHES, x=REACHES, y=REACHES)
+SHORTER = ('k high', 2, high(REACHES) - 1)
+many = [(i % 6, i % 4, i // 4 % 4) for i in range(REACHES)]
 file = network_file(4, many)[:-1] + [5, 3, 0, 0, 0, 2, 9]
 after = len(file) - 7
-gr = group('network files: 1,024 reaches, of which 511 are shut, then one more', [])
-gr.case('read network', 0, file, n=after, vary=[('k high', 2, 3), (after + 1, 2, 3), ('n', 8, after % 256), (after, 256, 0)], name='each kind', **MOST)
-gr.case('read network', 0, file, n=after, vary=[(after + 1, 2, 3), ('n', 2, after % 256 + 5), (after + 5, 256, 0)], name='each kind to go back to', **MOST)
+gr = group('network files: {:,} reaches, of which {:,} are shut, then one more'.format(REACHES, sum(k >= SHUT for k, _, _ in many)), [])
+gr.case('read network', 0, file, n=after, vary=[SHORTER, (after + 1, 2, 3), ('n', 8, low(after)), (after, 256, 0)], name='each kind', **MOST)
+gr.case('read network', 0, file, n=after, vary=[(after + 1, 2, 3), ('n', 2, low(after) + 5), (after + 5, 256, 0)], name='each kind to go back to', **MOST)
 
 longest = network_file(4, [(SHUT + k % 3, a, b) for k, a, b in many])
-assert len(longest) == 6148
-gr = group('network files: 1,024 shut reaches', [])
-gr.case('read network', 0, longest + [9], n=6147, vary=[('n', 3, 3), ('k high', 2, 3)], **MOST)
-gr.case('list', 0, network_file(1, [(SHUT + i % 3, 0, 0) for i in range(1024)]) + [9], n=6147, p=20, vary=[('n', 3, 3)])
+assert len(longest) == 4 + 6 * REACHES
+about = dict(n=len(longest) - 1)
+gr = group('network files: {:,} shut reaches'.format(REACHES), [])
+gr.case('read network', 0, longest + [9], vary=[('n', 3, low(about['n'])), SHORTER], **about, **MOST)
+gr.case('list', 0, network_file(1, [(SHUT + i % 3, 0, 0) for i in range(REACHES)]) + [9], p=20, vary=[('n', 3, low(about['n']))], **about)
 
 
 # ---- listings
@@ -1600,7 +1620,7 @@ listed('1,000 plans, and every reach again, shut', 7, [r for k, a, b in thousand
 listed('1,001 plans', 6, one_more)
 listed('1,024 plans', 1, [(G, 0, 0)] * 10)
 listed('a 16 by 16 grid', 256, grid)
-listed('a line of 256 basins, and 769 loops', 256, [(G, v, v + 1) for v in range(255)] + [(G, 0, 0)] * 769)
+listed('a line of %d basins, and %d loops' % (BASINS, REACHES - LAST), BASINS, [(G, v, v + 1) for v in range(LAST)] + [(G, 0, 0)] * (REACHES - LAST))
 
 
 def ditch(length, first=1):
@@ -1615,7 +1635,7 @@ for title, basins, reaches in [
         ('40 bound gates, then a ring of 36', 76, [(G, 0, 0)] * 3 + ditch(40) + [(G, a, b) for a, b in zip([0, *range(41, 76)], [*range(41, 76), 0])])]:
     assert sorted(set(network(tuple(reaches)).bound())) == [0, 1, 2]
     listed(title, basins, reaches)
-listed('40 bound gates last, at every sixth of 256 basins', 256, moved([(G, 0, 0)] * 8 + ditch(40), 5, 6))
+listed('40 bound gates last, at every sixth of %d basins' % BASINS, BASINS, moved([(G, 0, 0)] * 8 + ditch(40), 5, 6))
 
 # Gates in series: where just two reaches in service end at each inner basin of a channel, one gate or flap of it decides the others, and the lister takes their
 # ways from it, whatever their numbers.
@@ -1637,7 +1657,7 @@ def channels(side, inner):
 
 def in_series(reaches):
     """How many gates, bound ones left out, are decided by an earlier one: hung alike with it in all plans, or against it in all."""
-    plans = listing(network_file(256, reaches)).split()[:-1]
+    plans = listing(network_file(BASINS, reaches)).split()[:-1]
     columns = [column if column[0] == '0' else column.translate({48: 49, 49: 48}) for column in map(''.join, zip(*plans))]
     return sum(column in columns[:i] and '1' in column for i, column in enumerate(columns))
 
@@ -1661,21 +1681,22 @@ for title, basins, reaches, least in [
         ('that shut reaches make, by lot', 45, shuffled(along + shut), 30),
         ('that shut reaches make but for two in service, by lot', 45, shuffled(along + shut[1:17] + [(G, 26, 44), (T, 27, 9)]), 25),
         ('with loops at six inner basins, by lot', 45, shuffled(along + [((G, F, T)[i % 3], 10 + 3 * i, 10 + 3 * i) for i in range(6)]), 25),
-        ('among dry basins, by lot', 256, shuffled(moved(along, 3, 5) + [(SHUT + i % 3, 5 * i, 5 * i + 2) for i in range(20)] + moved(shut[:9], 3, 5)), 30),
+        ('among dry basins, by lot', BASINS, shuffled(moved(along, 3, 5) + [(SHUT + i % 3, 5 * i, 5 * i + 2) for i in range(20)] + moved(shut[:9], 3, 5)), 30),
         ('in a ring of 40, by lot', 40, shuffled(ring(40, 40, G)), 39),
         ('in a ring of 40, by lot, with loops', 41, shuffled(ring(40, 40, G) + [(G, 0, 0), (G, 40, 40), (T, 40, 0)]), 39),
         ('in rings of two, by lot', 20, shuffled([(G, v, v + 1 - 2 * (v % 2)) for v in range(20)] + [(T, v, v + 2) for v in range(0, 18, 2)]), 9)]:
     assert in_series(reaches) >= least, (title, in_series(reaches))
     listed('channels ' + title, basins, reaches)
 gr.case('list', 0, SMALL + [7], p=11, vary=[(2, 2, 0), (4, 2, 2), (18, 2, 8), ('n', 4, 17)], name='list, refused 1, 3, 4, 5, 6')
-gr.case('list', 0, file, p=20, name='list, 1,025 reaches')
+gr.case('list', 0, file, p=20, name='list, {:,} reaches'.format(REACHES + 1))
 
-gr = group('listings: 1,024 gates round a ring of 256 basins, and 2,979 bytes after the end', [])
-gr.hold(network_file(256, ring(256, 1024, G)) + [9] * 2979)
-gr.case('list placed', 0, k=5124, p=11090, limit=93, mode=QUIET, name='list, 5,124 bytes')
-gr.case('list placed', 0, k=5123, p=11, vary=[('k', 3, 3)], name='list, 5,123 to 5,125 bytes')
-gr.case('list placed', 0, k=8000, p=11, vary=[('k', 3, 63)], name='list, 7,999 to 8,001 bytes')
-gr.case('list placed', 0, k=8103, p=11, name='list, 8,103 bytes')
+held = MAX_BYTES + 103
+gr = group('listings: {:,} gates round a ring of {} basins, and {:,} bytes after the end'.format(REACHES, BASINS, held - FILE), [])
+gr.hold(network_file(BASINS, ring(BASINS, REACHES, G)) + [9] * (held - FILE))
+gr.case('list placed', 0, k=FILE, p=11090, limit=1000 * (REACHES + 1) // 11090 + 1, mode=QUIET, name='list, {:,} bytes'.format(FILE))
+gr.case('list placed', 0, k=FILE - 1, p=11, vary=[('k', 3, low(FILE - 1))], name='list, {:,} to {:,} bytes'.format(FILE - 1, FILE + 1))
+gr.case('list placed', 0, k=MAX_BYTES, p=11, vary=[('k', 3, low(MAX_BYTES - 1))], name='list, {:,} to {:,} bytes'.format(MAX_BYTES - 1, MAX_BYTES + 1))
+gr.case('list placed', 0, k=held, p=11, name='list, {:,} bytes'.format(held))
 assert Out.listed >= {'end\n', 'more\n'} | {'refused %d\n' % number for number in (1, 2, 3, 4, 5, 6, 9, 10)}
 
 
@@ -1747,7 +1768,7 @@ others = [sheet, plan_sheet(reaches, [1, 1, 1])] + [plan_sheet([(G, 0, 1)] * g, 
     [[20] + mark_bytes(1) + [9], [21, 0, 0] + mark_bytes(6) + [9], [9], network_file(2, [(G, 0, 1)]), []]
 every = sum(others, [])
 for i, other in enumerate(others):
-    gr.case('compare', 3, other + every, p=len(other), limit=len(other), vary=[('limit', len(every), len(other)), ('m', 37, 0)], mode=QUIET,
+    gr.case('compare', 3, other + every, p=len(other), limit=len(other), vary=[('limit', len(every), len(other)), ('m', MARK_BYTES + 5, 0)], mode=QUIET,
             name='sheet %d beside every part' % i)
 
 
@@ -1760,7 +1781,7 @@ def came(least, *names):
 PARTS = [(g, i) for g in (3, 4, 5, 6) for i in range(g)]
 assert len(PAIRS) >= 13000 and len({(basins, reaches) for basins, reaches, one, other in PAIRS if one != other}) >= 90
 assert came(30, *('%d of %d gates, %d' % (i, g, earlier) for g, i in PARTS if g < 6 for earlier in (1, 2)))
-assert came(3, *('%d of %d gates, %d' % (i, g, earlier) for g, i in PARTS + [(1024, 0), (1024, 512), (1024, 1023)] for earlier in (1, 2)))
+assert came(3, *('%d of %d gates, %d' % (i, g, earlier) for g, i in PARTS + [(REACHES, 0), (REACHES, 2 * BASINS), (REACHES, REACHES - 1)] for earlier in (1, 2)))
 assert came(1000, 'equal', 'refused 1, 1', 'refused 2, 2', 'refused 3, 3')
 assert came(500, *('refused %d, %d' % numbers for n in (4, 5, 6, 8) for numbers in ((n, 0), (0, n))))
 assert came(90, *('refused %d, %d' % numbers for numbers in product((4, 5, 6, 8), repeat=2)))
@@ -1810,22 +1831,22 @@ for order in ((3, 0, 2), (4, 0, 3, 2), (2, 5, 0, 4, 3)):
     gr.case('diameter', basins, table + [0] * g, p=g, limit=len(table), k=size, x=size, y=size, mode=QUIET, listed=True, name='%d basins' % basins,
             vary=[(2, 3, F)] + ends + [(len(table) + i, 2, 0) for i in range(g)])
 
-# the limits: one basin wet, or none; a path cut at every length; 1,024 gates
+# the limits: one basin wet, or none; a path cut at every length; as many gates as may be
 
 table = table_bytes([(G, 200, 200)])
-gr = group('how far: 256 basins, a loop of each kind at basin 200', [])
-gr.case('diameter', 256, table + [0], limit=len(table), k=1, x=1, y=1, vary=[(2, 6, 0), ('p', 2, 0), (len(table), 2, 0)], listed=True)
+gr = group('how far: %d basins, a loop of each kind at basin 200' % BASINS, [])
+gr.case('diameter', BASINS, table + [0], limit=len(table), k=1, x=1, y=1, vary=[(2, 6, 0), ('p', 2, 0), (len(table), 2, 0)], listed=True)
 
-order = sorted(range(256), key=lambda v: NUMBERS.below(1 << 20))
-gr = group('how far: a path of two-way reaches over 256 basins, numbered by lot', [(T, v, w) for v, w in zip(order, order[1:])])
-assert [farthest(gr.reaches[:k], ()) for k in range(256)] == list(range(256))
-gr.case('diameter', 256, vary=[('k', 256, 0)])
+order = sorted(range(BASINS), key=lambda v: NUMBERS.below(1 << 20))
+gr = group('how far: a path of two-way reaches over %d basins, numbered by lot' % BASINS, [(T, v, w) for v, w in zip(order, order[1:])])
+assert [farthest(gr.reaches[:k], ()) for k in range(BASINS)] == list(range(BASINS))
+gr.case('diameter', BASINS, vary=[('k high', high(BASINS), 0), ('k', 256, 0)])
 
 basins, reaches = example('limits')
 plan = network(reaches).next_plan()
-assert len(reaches) == 1024 and [i for i, way in enumerate(plan) if way] == [530, 603, 638, 691, 770, 835, 891, 904, 981]
+assert len(reaches) == REACHES and [i for i, way in enumerate(plan) if way] == [530, 603, 638, 691, 770, 835, 891, 904, 981]
 gr = group('how far: the example limits, under its first plan', reaches)
-gr.case('diameter', basins, plan, p=1024, vary=[(1023, 3, 0)])
+gr.case('diameter', basins, plan, p=REACHES, vary=[(REACHES - 1, 3, 0)])
 for reaches in (reaches, tuple(grid)):
     plan = network(reaches).next_plan()
     assert max(map(max, fewest_counts(network(reaches), plan))) == farthest(reaches, plan)
