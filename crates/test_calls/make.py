@@ -631,9 +631,10 @@ def play(o, c, table):
 
 class File:
     """Rows of bytes one after the other, each as the number of its runs, in one byte, and these. A run has the number of its plain bytes, in one byte, and of
-    those after them, in two; then the plain ones. Where others are after them, a number of two bytes follows. Below 1,024 it is a period: so many
-    bytes come again and again, each time with a step added to each; they follow, then their steps. Else 1,024 less is how far before the run they are copied."""
+    those after them, in two; then the plain ones. Where others are after them, a number of two bytes follows. Below BACK it is a period: so many
+    bytes come again and again, each time with a step added to each; they follow, then their steps. Else BACK less is how far before the run they are copied."""
 
+    BACK = 1024
     PERIODS = [*range(1, 25), 264, 288]         # those that are tried
     LEAST, NEAR, FAR = 6, 30, 50000             # of copies: their length, the number of places that are tried, how far back
 
@@ -669,7 +670,7 @@ class File:
         while i < size:
             after, source = way[i]
             if after:
-                steps = [(row[i + source + j] - row[i + j]) % 256 for j in range(source)] if source < 1024 else []
+                steps = [(row[i + source + j] - row[i + j]) % 256 for j in range(source)] if source < self.BACK else []
                 runs.append((row[start:i], after, source, row[i:i + source] + steps if steps else []))
             elif i - start == 254:
                 runs.append((row[start:i + 1], 0, 0, []))
@@ -682,7 +683,7 @@ class File:
         start, runs = len(self.bytes), self.best_runs(row)
         self.bytes.append(len(runs))
         for plain, after, source, more in runs:
-            source = two(source if source < 1024 else 1024 + len(self.bytes) - source)
+            source = two(source if source < self.BACK else self.BACK + len(self.bytes) - source)
             self.bytes += [len(plain)] + two(after) + plain + (source + more if after else [])
         for at in range(self.known, len(self.bytes) - self.LEAST + 1):
             self.places.setdefault(tuple(self.bytes[at:at + self.LEAST]), []).append(at)
@@ -699,11 +700,11 @@ class File:
             row, size = row + run[3:3 + plain], 3 + plain
             if after:
                 source, size = word(run, size), size + 2
-                if source < 1024:
+                if source < self.BACK:
                     first, steps, size = run[size:size + source], run[size + source:size + 2 * source], size + 2 * source
                     row += [(first[i % source] + i // source * steps[i % source]) % 256 for i in range(after)]
                 else:
-                    row += self.bytes[at + 1024 - source:at + 1024 - source + after]
+                    row += self.bytes[at + self.BACK - source:at + self.BACK - source + after]
             at += size
         return row, at
 
