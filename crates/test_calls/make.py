@@ -630,7 +630,7 @@ def play(o, c, table):
 # ---- the case file
 
 class File:
-    """Rows of bytes one after the other, each as the number of its runs, in one byte, and these. A run has the number of its plain bytes, in one byte, and of
+    """Rows of bytes one after the other, each as the number of its runs, in two bytes, and these. A run has the number of its plain bytes, in one byte, and of
     those after them, in two; then the plain ones. Where others are after them, a number of two bytes follows. Below BACK it is a period: so many
     bytes come again and again, each time with a step added to each; they follow, then their steps. Else BACK less is how far before the run they are copied."""
 
@@ -681,7 +681,7 @@ class File:
     def put(self, row):
         """Writes a row at the end, and answers where."""
         start, runs = len(self.bytes), self.best_runs(row)
-        self.bytes.append(len(runs))
+        self.bytes += two(len(runs))
         for plain, after, source, more in runs:
             source = two(source if source < self.BACK else self.BACK + len(self.bytes) - source)
             self.bytes += [len(plain)] + two(after) + plain + (source + more if after else [])
@@ -693,7 +693,7 @@ class File:
 
     def row_at(self, at):
         """The row that stands at a place, and the place after it."""
-        row, count, at = [], self.bytes[at], at + 1
+        row, count, at = [], word(self.bytes, at), at + 2
         for _ in range(count):
             run = self.bytes[at:]
             plain, after = run[0], word(run, 1)

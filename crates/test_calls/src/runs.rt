@@ -78,9 +78,9 @@ pub fn row_at(file: &[u8], at: usize) -> Row {
     let mut x = Row {
         bytes: [0; SIZE],
         length: 0,
-        next: sum(at, 1),
+        next: sum(at, 2),
     };
-    let mut left = byte_at(file, at);
+    let mut left = word_at(file, at);
     while left > 0 {
         left -= 1;
         x = with_run(x, file);

@@ -13,8 +13,8 @@ abbrev μ-loop : tie.MeasureT-loop
 sum-requires : tie.Need-sum-requires Inv-loop μ-loop
 sum-requires c κs = tt
 
-byte-at-requires : tie.Need-byte-at-requires Inv-loop μ-loop
-byte-at-requires c κs = tt
+word-at-requires : tie.Need-word-at-requires Inv-loop μ-loop
+word-at-requires c κs = tt
 
 loop-holds : tie.Need-loop-holds Inv-loop μ-loop
 loop-holds c = tt
@@ -41,7 +41,7 @@ row-at-spec =
     Inv-loop
     μ-loop
     sum-requires
-    byte-at-requires
+    word-at-requires
     loop-holds
     sub-left
     with-run-requires
