@@ -20,9 +20,9 @@ use denote.Struct.Laws as LL
 use Rattle.network.specs.declared.Reach.{Reach}
 use Rattle.network.proofs.Reach as R
 use Rattle.network.proofs.Reach.Laws as R′
-use Rattle.packing.specs.declared.Numbers.{Numbers}
-use Rattle.packing.proofs.Numbers as N
-use Rattle.packing.proofs.Numbers.Laws as N′
+use Rattle.reach_numbers.specs.declared.Numbers.{Numbers}
+use Rattle.reach_numbers.proofs.Numbers as N
+use Rattle.reach_numbers.proofs.Numbers.Laws as N′
 
 abbrev pub reachVals : Reach → List Val
 reachVals = LL.vals R.the-type R′.the-laws

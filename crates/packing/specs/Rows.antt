@@ -1,38 +1,18 @@
 -- A reach table as rows of numbers.
 -- Assumes nothing.
-use Prim.Native.Nat.{ℕ, suc, _-_, min}
+use Prim.Native.Nat.{ℕ, _-_}
 use mathlib.Core.Path.{_≡_}
 use mathlib.Core.List.{List, map, _++_}
 use lib.ListN.{length, getD, take, drop}
 use Rattle.network.specs.declared.Reach.{Reach}
 use Rattle.lists.specs.Lists.{range}
-use Rattle.network.specs.Networks.{maxReaches}
 use Rattle.network.specs.Bridges.{noReach}
-use Rattle.network.specs.Tables.{stateOf, stateNumber}
-use Rattle.packing.specs.declared.Numbers.{Numbers}
-
--- The length of the rows: one more than a network may have reaches, so that the rows of an over-full table are over-full too.
-abbrev pub maxRows : ℕ
-maxRows = suc maxReaches
-
--- How many of n reaches the rows hold.
-abbrev pub heldOf : ℕ → ℕ
-heldOf n = min n maxRows
-
-abbrev pub reachStateNumber : Reach → ℕ
-reachStateNumber r = stateNumber (r .state)
+use Rattle.network.specs.Tables.{stateOf}
+pub use Rattle.reach_numbers.specs.Records.{maxRows, heldOf, reachStateNumber, numbersOf, fittingOf, fillingOf}
 
 -- A table is packed into the rows of its front, which is all of a table that is not over-full.
 abbrev pub front : List Reach → List Reach
 front t = take maxRows t
-
--- What stands of a reach in the three rows.
-abbrev pub numbersOf : Reach → Numbers
-numbersOf r = record { kind = reachStateNumber r; a = r .a; b = r .b }
-
--- How many of n reaches go into rows with room for x, y and z.
-abbrev pub fittingOf : ℕ → ℕ → ℕ → ℕ → ℕ
-fittingOf n x y z = min z (min y (min x (heldOf n)))
 
 -- A row whose first k numbers are those of a table's reaches, and the others as they were.
 abbrev pub rowInto : (Reach → ℕ) → List Reach → List ℕ → ℕ → List ℕ
@@ -44,10 +24,6 @@ pub record PackedInto (t : List Reach) (kinds a b : List ℕ) (r : ℕ) (kinds�
   pub kinds-in : kinds′ ≡ rowInto reachStateNumber t kinds r
   pub a-in : a′ ≡ rowInto (λ x. x .a) t a r
   pub b-in : b′ ≡ rowInto (λ x. x .b) t b r
-
--- The other way: how many of n reaches go into a table with this room, out of rows that hold x, y and z numbers.
-abbrev pub fillingOf : ℕ → ℕ → ℕ → ℕ → ℕ → ℕ
-fillingOf n x y z room = min room (min z (min y (min x n)))
 
 -- The reach that stands in three rows at i, and a table whose first k records are the rows' reaches, and the others as they were.
 abbrev pub reachAt : List ℕ → List ℕ → List ℕ → ℕ → Reach

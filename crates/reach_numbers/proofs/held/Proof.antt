@@ -1,8 +1,8 @@
--- `packing::held` meets its contract: one case of the minimum for each arm.
+-- `reach_numbers::held` meets its contract: one case of the minimum for each arm.
 -- Assumes nothing.
 use native.Mathlib.Omega.{arith}
-use Rattle.packing.proofs.held.Statement.{statement}
-use Rattle.packing.proofs.held.Tie as tie
+use Rattle.reach_numbers.proofs.held.Statement.{statement}
+use Rattle.reach_numbers.proofs.held.Tie as tie
 
 returns : tie.Need-returns
 returns c = omega (arith, c .if1 .taken)

@@ -1,9 +1,9 @@
--- `packing::state_of` meets its contract: one case of `stateOf` for each arm.
+-- `reach_numbers::state_of` meets its contract: one case of `stateOf` for each arm.
 -- Assumes nothing.
 use native.Mathlib.Omega.{arith}
 use Rattle.network.proofs.Networks.{state-other}
-use Rattle.packing.proofs.state_of.Statement.{statement}
-use Rattle.packing.proofs.state_of.Tie as tie
+use Rattle.reach_numbers.proofs.state_of.Statement.{statement}
+use Rattle.reach_numbers.proofs.state_of.Tie as tie
 
 returns : tie.Need-returns
 returns c = rw (c .if1 .taken)

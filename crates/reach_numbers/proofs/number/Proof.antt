@@ -1,8 +1,8 @@
--- `packing::number` meets its contract: one case of `stateNumber` for each arm.
+-- `reach_numbers::number` meets its contract: one case of `stateNumber` for each arm.
 -- Assumes nothing.
 use borrow.Author.Needs.{needs}
-use Rattle.packing.proofs.number.Statement.{statement}
-use Rattle.packing.proofs.number.Tie as tie
+use Rattle.reach_numbers.proofs.number.Statement.{statement}
+use Rattle.reach_numbers.proofs.number.Tie as tie
 
 enum-known-s : tie.Need-enum-known-s
 enum-known-s c = search needs

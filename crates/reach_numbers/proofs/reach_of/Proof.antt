@@ -1,8 +1,8 @@
--- `packing::reach_of` meets its contract: the state is that of the number, by what `state_of` ensures.
+-- `reach_numbers::reach_of` meets its contract: the state is that of the number, by what `state_of` ensures.
 -- Assumes nothing.
 use borrow.Author.Needs.{needs}
-use Rattle.packing.proofs.reach_of.Statement.{statement}
-use Rattle.packing.proofs.reach_of.Tie as tie
+use Rattle.reach_numbers.proofs.reach_of.Statement.{statement}
+use Rattle.reach_numbers.proofs.reach_of.Tie as tie
 
 state-of-requires : tie.Need-state-of-requires
 state-of-requires c κs = search needs

@@ -1,0 +1,2 @@
+-- A record of the reach table as numbers.
+pub mod Records
