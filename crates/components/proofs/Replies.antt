@@ -11,7 +11,8 @@ use Rattle.network.specs.Networks.{Network, Accepted}
 use Rattle.network.specs.Settings.{settingFault}
 use Rattle.network.specs.Plans.{isPlan, firstPlan, nextPlan}
 use Rattle.network.specs.Replies.{Outcome, number, planIn, unless, answer, shutInFinding, loneFinding, firstAnswer, nextAnswer, roomFault, firstReply, nextReply}
-use Rattle.network.proofs.Replies.{Trichotomy, plans, no-way, one-bridge, trichotomy}
+use Rattle.network.specs.Certificates.{Trichotomy, has-plan, not-passable, has-bridge}
+use Rattle.network.proofs.Replies.{trichotomy}
 use Rattle.components.specs.Contracted.{contracted, SameChoice}
 use Rattle.components.proofs.Contracted.{contracted-accepted, contracted-gates, contracted-setting, contracted-plan, contracted-passable, contracted-first, contracted-next}
 
@@ -46,15 +47,15 @@ module _ (N : Network) (ok : Accepted N) where
       none-of f s e = f s (sym (contracted-plan N ok s) ∙ e)
 
       go : Trichotomy N → Trichotomy M → SameChoice (answer M p) (answer N p)
-      go (plans s e f) (plans t d g) = same-made (g p ∙ sym (f p))
-      go (plans s e f) (no-way n none-is g) = absurd (none-is s (contracted-plan N ok s ∙ e))
-      go (plans s e f) (one-bridge j d y none-is g) = absurd (none-is s (contracted-plan N ok s ∙ e))
-      go (no-way n none-is f) (plans t d g) = absurd (none-of none-is t d)
-      go (no-way n none-is f) (no-way m none-was g) = same-by (g p) (f p) (shut-in-same N M)
-      go (no-way n none-is f) (one-bridge j d y none-was g) = clash y (contracted-passable N ok ∙ n)
-      go (one-bridge i e y none-is f) (plans t d g) = absurd (none-of none-is t d)
-      go (one-bridge i e y none-is f) (no-way m none-was g) = clash y (sym (contracted-passable N ok) ∙ m)
-      go (one-bridge i e y none-is f) (one-bridge j d z none-was g) = same-by (g p) (f p) (lone-same N M i j)
+      go (has-plan s e f) (has-plan t d g) = same-made (g p ∙ sym (f p))
+      go (has-plan s e f) (not-passable n none-is g) = absurd (none-is s (contracted-plan N ok s ∙ e))
+      go (has-plan s e f) (has-bridge j d y none-is g) = absurd (none-is s (contracted-plan N ok s ∙ e))
+      go (not-passable n none-is f) (has-plan t d g) = absurd (none-of none-is t d)
+      go (not-passable n none-is f) (not-passable m none-was g) = same-by (g p) (f p) (shut-in-same N M)
+      go (not-passable n none-is f) (has-bridge j d y none-was g) = clash y (contracted-passable N ok ∙ n)
+      go (has-bridge i e y none-is f) (has-plan t d g) = absurd (none-of none-is t d)
+      go (has-bridge i e y none-is f) (not-passable m none-was g) = clash y (sym (contracted-passable N ok) ∙ m)
+      go (has-bridge i e y none-is f) (has-bridge j d z none-was g) = same-by (g p) (f p) (lone-same N M i j)
 
   same-room : (planLength marksLength : ℕ) → roomFault M planLength marksLength ≡ roomFault N planLength marksLength
   unfolding roomFault

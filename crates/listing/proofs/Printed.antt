@@ -14,9 +14,10 @@ use Rattle.network.specs.Networks.{Network, maxBasins, maxReaches}
 use Rattle.lists.specs.Words.{wordOf}
 use Rattle.lists.specs.Lists.{elem}
 use Rattle.network.specs.Plans.{firstPlan}
+use Rattle.network.specs.Certificates.{Trichotomy, has-plan, not-passable, has-bridge}
 use Rattle.network.specs.Replies.{refusalNumber, chosen, shutInFinding, loneFinding, firstAnswer}
 use Rattle.network.proofs.Order.{first-none}
-use Rattle.network.proofs.Replies as R
+use Rattle.network.proofs.Replies.{trichotomy}
 use Rattle.file_records.specs.Records.{Front, broken, whole, bodyOf, withBody, takeRecord, endKind}
 use lib.Pow.{areBytes}
 use Rattle.netfile_format.specs.Files.{Reading, refused, read, headDue, reachDue, onRecord, atEnd, goodInner, recordReach, withReach, inside, readReaches, readFile}
@@ -98,18 +99,18 @@ pub printed : (file : List ℕ) → areBytes file ≡ true → Printed file
 unfolding listing firstAnswer shutInFinding loneFinding
 printed file bytes = go (readFile (take maxBytes file)) refl
   where
-    of-network : (N : Network) → readFile (take maxBytes file) ≡ read N → R.Trichotomy N → Printed file
-    of-network N e (R.plans s is f) = first (firstPlan N) refl
+    of-network : (N : Network) → readFile (take maxBytes file) ≡ read N → Trichotomy N → Printed file
+    of-network N e (has-plan s is f) = first (firstPlan N) refl
       where
         first : (o : Option (List ℕ)) → firstPlan N ≡ o → Printed file
         first none n = absurd (first-none N n s is)
         first (some p) y = plans N p e y (ap readingLines e ∙ ap (replyLines N maxPlans) (f (firstPlan N) ∙ ap chosen y))
-    of-network N e (R.no-way n none-is f) = one-line 9 refl (ap readingLines e ∙ ap (replyLines N maxPlans) (f (firstPlan N)))
-    of-network N e (R.one-bridge i l y none-is f) = one-line 10 refl (ap readingLines e ∙ ap (replyLines N maxPlans) (f (firstPlan N)))
+    of-network N e (not-passable n none-is f) = one-line 9 refl (ap readingLines e ∙ ap (replyLines N maxPlans) (f (firstPlan N)))
+    of-network N e (has-bridge i l y none-is f) = one-line 10 refl (ap readingLines e ∙ ap (replyLines N maxPlans) (f (firstPlan N)))
 
     refused-by : (r : Refusal) → Fair (refused r) → OfFile r
     refused-by r (fair-refused h) = h
 
     go : (x : Reading) → readFile (take maxBytes file) ≡ x → Printed file
     go (refused r) e = refusal-printed file r (refused-by r (subst Fair e (file-fair (take maxBytes file)))) (ap readingLines e)
-    go (read N) e = of-network N e (R.trichotomy N (write-read (take maxBytes file) N (bytes-first maxBytes file bytes) e .accepted))
+    go (read N) e = of-network N e (trichotomy N (write-read (take maxBytes file) N (bytes-first maxBytes file bytes) e .accepted))

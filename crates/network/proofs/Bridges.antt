@@ -20,6 +20,7 @@ use Rattle.network.specs.Orientations.{Arc, arc, passing, arcs, ways, ar
 use Rattle.network.specs.Plans.{stronglyConnected, stronglyConnectedUnder, isPlan}
 use Rattle.network.specs.Bridges.{sides, isCut, crossesBy, crosses, noReach, reachAt, crossesAlone, isBridge}
 use Rattle.network.specs.Replies.{bridgeSide}
+use Rattle.network.specs.Certificates.{Alone}
 use Rattle.lists.proofs.Bools.{decide, clash, beq-true, beq-make, both-differ, beq-not}
 use Rattle.lists.proofs.Searches.{every-at, every-make, some-make, some-has, find-some, find-none, elem-keep}
 use Rattle.lists.proofs.Ranges.{range-has, range-in}
@@ -81,11 +82,7 @@ crossed-same S S′ r f = go (inService (r .state)) refl
 
 -- ---- the only reach that crosses
 
--- reach i is the only one that crosses the side S, as facts
-pub record Alone (N : Network) (S : ℕ → Bool) (i : ℕ) : Type 0 where
-  pub crossing : crossesBy S (reachAt N i) ≡ true
-  pub others : (j : ℕ) → j < length (N .reaches) → j ≢ i → crossesBy S (reachAt N j) ≡ false
-
+-- the test and the facts
 pub alone-facts : (N : Network) (S : List ℕ) (i : ℕ) → i < length (N .reaches) → crossesAlone N S i ≡ true → Alone N (λ b. elem b S) i
 unfolding crossesAlone
 alone-facts N S i l e =

@@ -7,7 +7,7 @@ use mathlib.Core.Path.{_≡_, refl, sym, ap, _∙_}
 use mathlib.Core.Bool.{Bool, true, false, cond, _&&_, _||_, and-comm, or-comm}
 use mathlib.Core.Logic.{_⊎_, inl, inr, ⊎-elim, _↔_}
 use mathlib.Core.List.{List, [], _∷_, _++_}
-use mathlib.Core.Option.{Option, none, some}
+use mathlib.Core.Option.{some}
 use lib.ListN.{length, getD, set, length-set, length-replicate, length-map}
 use lib.Seq.{getD-set-same, getD-set-other}
 use lib.Dec.{leb, ltb, eqb}
@@ -31,8 +31,8 @@ use Rattle.network.specs.Choices.{plans, hungAlike, boundByte, boundByte
 use Rattle.network.proofs.Networks.{endsBelow, fault-none, tests-passed, same-basins}
 use Rattle.network.proofs.Bridges.{bridge-blocks}
 use Rattle.network.proofs.Ways.{gate-at, plain-here, plain-after, reachOf, Looser}
-use Rattle.network.proofs.Order.{setting-length, plan-in, plan-setting, first-is-plan, first-none, next-is-plan}
-use Rattle.network.proofs.Replies.{first-given}
+use Rattle.network.proofs.Order.{setting-length, plan-in, plan-setting, first-is-plan, next-is-plan}
+use Rattle.network.proofs.Replies.{given-if-plan}
 use Rattle.network.proofs.Theorem.{setting-byte, orient-set, unoriented-2, unoriented-oriented, looser-strong, plan-reaches, plan-passable, without, as-drawn, as-turned, complete}
 
 -- a plan that hangs the k-th gate so
@@ -294,14 +294,6 @@ flap-accepted N ok i l turned =
     fault-none (flapAt N i turned) (good .0) (rw (length-set (N .reaches) i (flapReach turned (reachAt N i))) (good .1))
     (every-set (endsBelow (N .basins)) (N .reaches) i (good .2) (flap-ends (N .basins) turned (reachAt N i) (every-getD (endsBelow (N .basins)) (N .reaches) i noReach (good .2) l)))
 
--- first gives a plan exactly if there is one
-first-gives : (N : Network) → Accepted N → ((q : List ℕ) × (firstAnswer N ≡ plan q)) ↔ ((q : List ℕ) × (isPlan N q ≡ true))
-first-gives N ok = (λ a. (a .0, first-is-plan N ((first-given N ok (a .0)) .0 (a .1))), λ q. go (firstPlan N) refl (q .0) (q .1))
-  where
-    go : (o : Option (List ℕ)) → firstPlan N ≡ o → (q : List ℕ) → isPlan N q ≡ true → (s : List ℕ) × (firstAnswer N ≡ plan s)
-    go none e q y = absurd (first-none N e q y)
-    go (some s) e q y = (s, (first-given N ok s) .1 e)
-
 -- "A reach made a flap as drawn leaves a plan exactly if its byte isn't 1, made a flap turned exactly if it isn't 0."
 pub bound-flap : (N : Network) → Accepted N → (p : List ℕ) → isPlan N p ≡ true → (k : ℕ) → k < gateCount N → (turned : Bool) →
     ((q : List ℕ) × (firstAnswer (flapAt N (getD (gates N) k 0) turned) ≡ plan q)) ↔ (boundByte N k ≡ cond turned 0 1 → ⊥)
@@ -311,7 +303,7 @@ bound-flap N ok p y k l turned = (λ a. hung .1 ((flap-plan N k l turned) .1 (gi
     below = let g = gate-at 0 (N .reaches) p k l in omega (arith, g .numbered, g .below)
 
     gives : ((q : List ℕ) × (firstAnswer (flapAt N (getD (gates N) k 0) turned) ≡ plan q)) ↔ ((q : List ℕ) × (isPlan (flapAt N (getD (gates N) k 0) turned) q ≡ true))
-    gives = first-gives (flapAt N (getD (gates N) k 0) turned) (flap-accepted N ok (getD (gates N) k 0) below turned)
+    gives = given-if-plan (flapAt N (getD (gates N) k 0) turned) (flap-accepted N ok (getD (gates N) k 0) below turned)
 
     hung : (boundByte N k ≡ cond turned 0 1 → ⊥) ↔ HungIn N k (cond turned 1 0)
     hung = not-alike N k l p y (cond turned 1 0) (cond turned 0 1) (one-way turned)

@@ -2,7 +2,7 @@
 -- Assumes nothing.
 use Prim.Native.Nat.{ℕ, zero, suc, _≤_}
 use native.Mathlib.Omega.{arith}
-use mathlib.Core.Path.{_≡_, refl, sym, ap, _∙_}
+use mathlib.Core.Path.{_≡_, refl, sym, ap, subst⁻¹, _∙_}
 use mathlib.Core.Bool.{Bool, true, false, cond, true≢false}
 use mathlib.Core.Logic.{_↔_}
 use mathlib.Core.Option.{Option, none, some, Option·some-ne-none}
@@ -18,14 +18,15 @@ use Rattle.network.specs.Networks.{Network, Accepted, maxReaches}
 use Rattle.network.specs.Settings.{isSetting, before, gateCount}
 use Rattle.network.specs.Plans.{isPlan, passable, firstPlan, nextPlan}
 use Rattle.network.specs.Bridges.{isBridge, lowestBridge}
-use Rattle.network.specs.Replies.{Outcome, plan, shutIn, lone, refused, refusalNumber, number, planIn, reachIn, marksIn, countIn, SameReply, shutInFinding, loneFinding, chosen, orLone, answer, firstAnswer, nextAnswer, firstOf, unless, roomFault}
+use Rattle.network.specs.Replies.{Outcome, plan, shutIn, lone, refused, refusalNumber, number, planIn, reachIn, marksIn, countIn, SameReply, shutInSide, bridgeSide, shutInFinding, loneFinding, chosen, orLone, answer, firstAnswer, nextAnswer, firstOf, unless, roomFault}
+use Rattle.network.specs.Certificates.{Trichotomy, has-plan, not-passable, has-bridge}
 use Rattle.lists.proofs.Bools.{clash}
 use Rattle.lists.proofs.Searches.{find-some, find-none}
 use Rattle.lists.proofs.Ranges.{range-has}
 use Rattle.network.proofs.Order.{first-is-plan, first-none, next-none, next-is-plan, next-is-later, next-same}
 use Rattle.network.proofs.Bridges.{bridge-below, bridge-blocks}
 use Rattle.network.proofs.Theorem.{theorem, plan-passable}
-use Rattle.network.specs.Marks.{markBytes}
+use Rattle.network.specs.Marks.{markBytes, marksOf, onesIn}
 use Rattle.network.proofs.Networks.{gates-fit}
 
 -- A plan is replied only where nothing is refused.
@@ -108,12 +109,7 @@ pub no-lowest : (N : Network) → lowestBridge N ≡ none → (i : ℕ) → isBr
 unfolding lowestBridge
 no-lowest N e i = bool-eq-false {b = isBridge N i} (λ y. clash y (find-none (isBridge N) e (range-has 0 (length (N .reaches)) (omega arith) (omega (arith, bridge-below N i y)))))
 
--- An accepted network has a plan and gets the plan that is asked for, or has none and gets its finding, whatever is asked for.
-pub data Trichotomy (N : Network) : Type 0 where
-  plans : (s : List ℕ) → isPlan N s ≡ true → ((p : Option (List ℕ)) → answer N p ≡ chosen p) → Trichotomy N
-  no-way : passable N ≡ false → ((s : List ℕ) → isPlan N s ≡ true → ⊥) → ((p : Option (List ℕ)) → answer N p ≡ shutInFinding N) → Trichotomy N
-  one-bridge : (i : ℕ) → lowestBridge N ≡ some i → passable N ≡ true → ((s : List ℕ) → isPlan N s ≡ true → ⊥) → ((p : Option (List ℕ)) → answer N p ≡ loneFinding N i) → Trichotomy N
-
+-- Which of the three an accepted network gets.
 pub trichotomy : (N : Network) → Accepted N → Trichotomy N
 unfolding answer
 trichotomy N ok = go (passable N) refl (lowestBridge N) refl
@@ -122,9 +118,9 @@ trichotomy N ok = go (passable N) refl (lowestBridge N) refl
     at b o e f p = ap (λ (x : Bool). cond x (orLone N (lowestBridge N) p) (shutInFinding N)) e ∙ ap (λ (x : Option ℕ). cond b (orLone N x p) (shutInFinding N)) f
 
     go : (b : Bool) → passable N ≡ b → (o : Option ℕ) → lowestBridge N ≡ o → Trichotomy N
-    go false n o f = no-way n (λ s e. clash (plan-passable N s e) n) (at false o n f)
-    go true y (some i) f = one-bridge i f y (λ s e. bridge-blocks N i (lowest-is-bridge N f) s e) (at true (some i) y f)
-    go true y none f = let p = (theorem N ok) .1 (y, no-lowest N f) in plans (p .0) (p .1) (at true none y f)
+    go false n o f = not-passable n (λ s e. clash (plan-passable N s e) n) (at false o n f)
+    go true y (some i) f = has-bridge i f y (λ s e. bridge-blocks N i (lowest-is-bridge N f) s e) (at true (some i) y f)
+    go true y none f = let p = (theorem N ok) .1 (y, no-lowest N f) in has-plan (p .0) (p .1) (at true none y f)
 
 -- a finding is no plan and no last plan
 finding-not-chosen : (N : Network) (p : Option (List ℕ)) → shutInFinding N ≡ chosen p → ⊥
@@ -142,9 +138,15 @@ pub given-iff : (N : Network) → Accepted N → (p q : Option (List ℕ)) → (
 given-iff N ok p q = go (trichotomy N ok)
   where
     go : Trichotomy N → (answer N p ≡ chosen q) ↔ (((s : List ℕ) × (isPlan N s ≡ true)) × (p ≡ q))
-    go (plans s e f) = (λ a. ((s, e), chosen-inj p q (sym (f p) ∙ a)), λ k. f p ∙ ap chosen (k .1))
-    go (no-way n none-is f) = (λ a. absurd (finding-not-chosen N q (sym (f p) ∙ a)), λ k. absurd (none-is (k .0 .0) (k .0 .1)))
-    go (one-bridge i e y none-is f) = (λ a. absurd (bridge-not-chosen N i q (sym (f p) ∙ a)), λ k. absurd (none-is (k .0 .0) (k .0 .1)))
+    go (has-plan s e f) = (λ a. ((s, e), chosen-inj p q (sym (f p) ∙ a)), λ k. f p ∙ ap chosen (k .1))
+    go (not-passable n none-is f) = (λ a. absurd (finding-not-chosen N q (sym (f p) ∙ a)), λ k. absurd (none-is (k .0 .0) (k .0 .1)))
+    go (has-bridge i e y none-is f) = (λ a. absurd (bridge-not-chosen N i q (sym (f p) ∙ a)), λ k. absurd (none-is (k .0 .0) (k .0 .1)))
+
+-- what first gives, by what it is given for
+pub data First (N : Network) : Outcome → Type 0 where
+  is-plan : (s : List ℕ) → firstPlan N ≡ some s → First N (plan s)
+  is-shut : passable N ≡ false → First N (shutIn (marksOf (shutInSide N)) (onesIn (marksOf (shutInSide N))))
+  is-bridge : (i : ℕ) → passable N ≡ true → lowestBridge N ≡ some i → First N (lone i (marksOf (bridgeSide N i)) (onesIn (marksOf (bridgeSide N i))))
 
 module _ (N : Network) (ok : Accepted N) where
   -- First gives a plan exactly if it is the first plan, and gives one wherever there is one. It never says last plan.
@@ -155,9 +157,30 @@ module _ (N : Network) (ok : Accepted N) where
     λ e. (given-iff N ok (firstPlan N) (some s)) .1 ((s, first-is-plan N e), e),
   )
 
+  pub given-if-plan : ((q : List ℕ) × (firstAnswer N ≡ plan q)) ↔ ((q : List ℕ) × (isPlan N q ≡ true))
+  given-if-plan = (λ a. (a .0, first-is-plan N ((first-given (a .0)) .0 (a .1))), λ q. go (firstPlan N) refl (q .0) (q .1))
+    where
+      go : (o : Option (List ℕ)) → firstPlan N ≡ o → (q : List ℕ) → isPlan N q ≡ true → (s : List ℕ) × (firstAnswer N ≡ plan s)
+      go none e q y = absurd (first-none N e q y)
+      go (some s) e q y = (s, (first-given s) .1 e)
+
   pub first-not-last : firstAnswer N ≡ refused LastPlan → ⊥
   unfolding firstAnswer
   first-not-last a = let k = (given-iff N ok (firstPlan N) none) .0 a in first-none N (k .1) (k .0 .0) (k .0 .1)
+
+  -- a plan or one of two findings, with what each is given for
+  pub first-cases : First N (firstAnswer N)
+  unfolding firstAnswer shutInFinding loneFinding
+  first-cases = go (trichotomy N ok)
+    where
+      pick : (s : List ℕ) → isPlan N s ≡ true → (o : Option (List ℕ)) → firstPlan N ≡ o → First N (chosen o)
+      pick s p none e = absurd (first-none N e s p)
+      pick s p (some t) e = is-plan t e
+
+      go : Trichotomy N → First N (answer N (firstPlan N))
+      go (has-plan s p f) = subst⁻¹ (First N) (f (firstPlan N)) (pick s p (firstPlan N) refl)
+      go (not-passable n k f) = subst⁻¹ (First N) (f (firstPlan N)) (is-shut n)
+      go (has-bridge i e y k f) = subst⁻¹ (First N) (f (firstPlan N)) (is-bridge i y e)
 
   module _ (s : List ℕ) where
     -- Next gives a plan exactly if it is the next plan of the setting.
@@ -199,9 +222,9 @@ module _ (N : Network) (ok : Accepted N) where
       same = next-same N s t hs ht order
 
       go : Trichotomy N → (answer N (nextPlan N s) ≡ answer N (nextPlan N t)) ↔ ((p : List ℕ) → isPlan N p ≡ true → before s p ≡ true → before t p ≡ false → ⊥)
-      go (plans q e f) = (λ a. same .0 (chosen-inj _ _ (sym (f (nextPlan N s)) ∙ a ∙ f (nextPlan N t))), λ h. ap (answer N) (same .1 h))
-      go (no-way n none-is f) = (λ a p e l m. none-is p e, λ h. f (nextPlan N s) ∙ sym (f (nextPlan N t)))
-      go (one-bridge i e y none-is f) = (λ a p e′ l m. none-is p e′, λ h. f (nextPlan N s) ∙ sym (f (nextPlan N t)))
+      go (has-plan q e f) = (λ a. same .0 (chosen-inj _ _ (sym (f (nextPlan N s)) ∙ a ∙ f (nextPlan N t))), λ h. ap (answer N) (same .1 h))
+      go (not-passable n none-is f) = (λ a p e l m. none-is p e, λ h. f (nextPlan N s) ∙ sym (f (nextPlan N t)))
+      go (has-bridge i e y none-is f) = (λ a p e′ l m. none-is p e′, λ h. f (nextPlan N s) ∙ sym (f (nextPlan N t)))
 
 -- ---- the first of two refusals
 

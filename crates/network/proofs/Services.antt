@@ -30,7 +30,8 @@ use Rattle.lists.proofs.Searches.{some-keep, every-make, every-at, find-is, fin
 use Rattle.lists.proofs.Ranges.{range-in}
 use Rattle.network.proofs.Ways.{plain-here, plain-after, shut-way, shut-plain, gated-in-service}
 use Rattle.network.proofs.Networks.{endsBelow, fault-none, tests-passed, same-basins}
-use Rattle.network.proofs.Bridges.{uncrossed, Alone, alone-facts, alone-test, bridge-below, bridge-gated}
+use Rattle.network.specs.Certificates.{Alone}
+use Rattle.network.proofs.Bridges.{uncrossed, alone-facts, alone-test, bridge-below, bridge-gated}
 use Rattle.network.proofs.Replies.{lowest-is-bridge, no-lowest}
 
 -- ---- a reach put back in service is the reach that it was

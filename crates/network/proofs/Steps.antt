@@ -18,7 +18,8 @@ use Rattle.network.proofs.Walks.{reached-walk, reached-refl}
 use Rattle.network.proofs.Cuts.{OneMore, TwoMore, strong-walks, walks-strong, detour, came-back, bridge, other-side}
 use Rattle.network.proofs.Ways.{arcs-has, split-in, split-own, split-rest, passingAt, ShutOut, shut-left-out}
 use Rattle.network.proofs.Networks.{end-a-in, end-b-in, arcs-in-basins}
-use Rattle.network.proofs.Bridges.{Alone, uncrossed, bridge-make}
+use Rattle.network.specs.Certificates.{Alone}
+use Rattle.network.proofs.Bridges.{uncrossed, bridge-make}
 
 -- a reach whose way is 0, 1 or 2 passes between its ends
 some-arc : (w a b : ℕ) → w ≤ 2 → List·Memᴰ (arc a b) (passing w a b) ⊎ List·Memᴰ (arc b a) (passing w a b)

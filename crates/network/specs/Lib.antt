@@ -7,6 +7,7 @@ pub mod Plans
 pub mod Bridges
 pub mod Marks
 pub mod Replies
+pub mod Certificates
 pub mod Services
 pub mod Choices
 pub mod Enlarged

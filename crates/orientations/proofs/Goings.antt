@@ -21,7 +21,8 @@ use Rattle.lists.proofs.Bools.{decide, clash}
 use Rattle.lists.proofs.Searches.{keep-same}
 use Rattle.network.proofs.Ways.{plain-small, gated-in-service, shut-plain, shut-way, ShutOut}
 use Rattle.network.proofs.Networks.{basin-below}
-use Rattle.network.proofs.Bridges.{Alone, alone-rest, alone-same, cut-of, bridge-parts}
+use Rattle.network.specs.Certificates.{Alone}
+use Rattle.network.proofs.Bridges.{alone-rest, alone-same, cut-of, bridge-parts}
 use Rattle.network.proofs.Steps.{orient-drawn, orient-turned, stuck-alone, stuck-other, stuck-bridge}
 use Rattle.tables.specs.Bytes.{bytesOf}
 use Rattle.orientations.specs.Least.{LeastPlan, Decided, isTried, Open, Shaped}

@@ -26,7 +26,8 @@ use Rattle.network.proofs.Marks.{marks-same}
 use Rattle.network.proofs.Walks.{reached-walk}
 use Rattle.network.proofs.Ways.{shut-out}
 use Rattle.network.proofs.Networks.{basin-in, basin-below, basin-wet, basins-kept, basins-found, walk-in-basins}
-use Rattle.network.proofs.Bridges.{Alone, LoneSide, alone-facts, alone-rest, alone-same, side-basins, cut-unique, bridge-below, bridge-blocks, bridge-side}
+use Rattle.network.specs.Certificates.{Alone}
+use Rattle.network.proofs.Bridges.{LoneSide, alone-facts, alone-rest, alone-same, side-basins, cut-unique, bridge-below, bridge-blocks, bridge-side}
 use Rattle.tables.proofs.Laws.{ways-unoriented}
 use Rattle.marks.specs.Sets.{markedSet}
 use Rattle.distances.specs.Distances.{unreached, noted}

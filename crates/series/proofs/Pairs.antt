@@ -22,7 +22,8 @@ use Rattle.network.proofs.Walks.{walk-inside, arc-to}
 use Rattle.network.proofs.Cuts.{strong-walks}
 use Rattle.network.proofs.Ways.{passingAt, arcs-in, ShutOut, shut-out, arc-in-service}
 use Rattle.network.proofs.Networks.{end-a-in, end-b-in, reach-alike}
-use Rattle.network.proofs.Bridges.{uncrossed-ends, Alone, cut-of, cut-parts, plan-gate-small}
+use Rattle.network.specs.Certificates.{Alone}
+use Rattle.network.proofs.Bridges.{uncrossed-ends, cut-of, cut-parts, plan-gate-small}
 use Rattle.network.proofs.Steps.{orient-drawn, orient-turned, stuck-alone}
 use Rattle.series.specs.Pairs.{reachEnd, toward, Crossing, CutPair, guidedWay}
 

@@ -2,7 +2,7 @@
 -- Assumes nothing.
 use Prim.Native.Nat.{ℕ}
 use native.Mathlib.Omega.{arith}
-use mathlib.Core.Path.{_≡_, refl, sym, ap, subst, subst⁻¹, _∙_}
+use mathlib.Core.Path.{_≡_, refl, sym, ap, subst, _∙_}
 use mathlib.Core.Bool.{true, false, true≢false}
 use mathlib.Core.List.{List, _++_, append-nil}
 use mathlib.Core.Option.{Option, none, some}
@@ -11,14 +11,12 @@ use lib.Seq.{take-at}
 use Rattle.network.specs.declared.Refusal.{Refusal}
 use Rattle.network.specs.Networks.{Network, tableFault, Accepted, maxReaches}
 use Rattle.network.specs.Settings.{gateCount}
-use Rattle.network.specs.Plans.{isPlan, passable, firstPlan}
-use Rattle.network.specs.Bridges.{lowestBridge}
-use Rattle.network.specs.Marks.{markBytes, marksOf, onesIn}
-use Rattle.network.specs.Replies.{Outcome, plan, shutIn, lone, shutInSide, bridgeSide, shutInFinding, loneFinding, chosen, answer, firstAnswer, unless, firstReply, firstOf}
+use Rattle.network.specs.Marks.{markBytes}
+use Rattle.network.specs.Replies.{Outcome, plan, shutIn, lone, shutInSide, bridgeSide, firstAnswer, unless, firstReply, firstOf}
 use Rattle.network.proofs.Networks.{accepted, gates-below}
 use Rattle.network.proofs.Marks.{length-marks}
-use Rattle.network.proofs.Order.{first-is-plan, first-none}
-use Rattle.network.proofs.Replies.{Trichotomy, plans, no-way, one-bridge, trichotomy, room-enough}
+use Rattle.network.proofs.Order.{first-is-plan}
+use Rattle.network.proofs.Replies.{room-enough, First, is-plan, is-shut, is-bridge, first-cases}
 use Rattle.file_records.specs.declared.WriteAnswer.{WriteAnswer}
 use Rattle.file_records.specs.declared.WriteAnswer.the-variants.{Refused as Unwritten}
 use Rattle.file_records.specs.Puts.{Wrote, roomFor, WroteWhole}
@@ -33,27 +31,7 @@ use Rattle.sheet_format.specs.Answers.{ReplyWritten}
 use Rattle.sheet_format.proofs.Sheets.{plan-long}
 use Rattle.file_records.proofs.Puts.{put-refused}
 
--- ---- what an accepted network gets: a plan or one of two findings
-
-pub data First (N : Network) : Outcome → Type 0 where
-  is-plan : (s : List ℕ) → firstPlan N ≡ some s → First N (plan s)
-  is-shut : passable N ≡ false → First N (shutIn (marksOf (shutInSide N)) (onesIn (marksOf (shutInSide N))))
-  is-bridge : (i : ℕ) → passable N ≡ true → lowestBridge N ≡ some i → First N (lone i (marksOf (bridgeSide N i)) (onesIn (marksOf (bridgeSide N i))))
-
-pub first-cases : (N : Network) → Accepted N → First N (firstAnswer N)
-unfolding firstAnswer shutInFinding loneFinding
-first-cases N ok = go (trichotomy N ok)
-  where
-    pick : (s : List ℕ) → isPlan N s ≡ true → (o : Option (List ℕ)) → firstPlan N ≡ o → First N (chosen o)
-    pick s p none e = absurd (first-none N e s p)
-    pick s p (some t) e = is-plan t e
-
-    go : Trichotomy N → First N (answer N (firstPlan N))
-    go (plans s p f) = subst⁻¹ (First N) (f (firstPlan N)) (pick s p (firstPlan N) refl)
-    go (no-way n k f) = subst⁻¹ (First N) (f (firstPlan N)) (is-shut n)
-    go (one-bridge i e y k f) = subst⁻¹ (First N) (f (firstPlan N)) (is-bridge i y e)
-
--- it is no refusal
+-- what first gives an accepted network is no refusal
 never : {N : Network} {o : Outcome} → First N o → (r : Refusal) → answerOf o ≡ A.Refused r → ⊥
 never (is-plan s e) r h = true≢false (cc)
 never (is-shut e) r h = true≢false (cc)
