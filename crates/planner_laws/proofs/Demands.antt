@@ -1,8 +1,9 @@
--- Demand 3 over the call of next and over a walker's step, from what the calls promise.
+-- Demand 2 over the call of first, and demand 3 over the call of next and over a walker's step, from what the calls promise.
 -- Assumes nothing.
 use Prim.Native.Nat.{ℕ}
-use mathlib.Core.Path.{_≡_, refl, sym, ap, subst⁻¹, _∙_}
-use mathlib.Core.Bool.{true}
+use mathlib.Core.Path.{_≡_, refl, sym, ap, subst, subst⁻¹, _∙_}
+use mathlib.Core.Bool.{true, false, true≢false}
+use mathlib.Core.Logic.{_↔_}
 use mathlib.Core.Option.{Option, none, some}
 use mathlib.Core.List.{List}
 use lib.ListN.{length, take, drop}
@@ -13,16 +14,22 @@ use Rattle.network.specs.Networks.{Network, tableFault, Accepted}
 use Rattle.network.specs.Settings.{gateCount, isSetting, settingFault}
 use Rattle.network.specs.Marks.{markBytes}
 use Rattle.network.specs.Replies.{Outcome, plan, shutIn, lone, refused, shutInFinding, loneFinding, chosen, answer, firstAnswer, nextAnswer, unless, roomFault, firstReply, nextReply, planAfter}
-use Rattle.network.specs.Plans.{isPlan, firstPlan, nextPlan}
+use Rattle.network.specs.Plans.{isPlan, passable, firstPlan, nextPlan}
+use Rattle.network.specs.Bridges.{isBridge}
 use Rattle.network.proofs.Marks.{length-marks}
-use Rattle.network.proofs.Order.{setting-length, plan-setting, first-is-plan, next-is-plan, next-is-later, next-is-earliest}
-use Rattle.network.proofs.Replies.{Trichotomy, plans, no-way, one-bridge, trichotomy, unless-plan, next-given, last-plan, given-if-later, demand-3}
+use Rattle.network.proofs.Order.{setting-length, plan-setting, first-is-plan, first-is-earliest, next-is-plan, next-is-later, next-is-earliest}
+use Rattle.network.specs.Certificates.{ShutInShown, BridgeShown, Trichotomy, has-plan, not-passable, has-bridge}
+use Rattle.lists.proofs.Bools.{clash}
+use Rattle.network.proofs.Bridges.{bridge-blocks}
+use Rattle.network.proofs.Theorem.{plan-passable}
+use Rattle.network.proofs.Certificates.{shut-in-shown, bridge-shown}
+use Rattle.network.proofs.Replies.{lowest-is-bridge, trichotomy, First, is-plan, is-shut, is-bridge, first-cases, first-given, given-if-plan, unless-plan, next-given, last-plan, given-if-later, demand-3}
 use Rattle.replies.specs.declared.Answer.{Answer}
 use Rattle.replies.specs.Answers.{Replied, FirstCall, NextCall}
 use Rattle.walker.specs.declared.Stepped.{Stepped}
 use Rattle.walker.specs.Walkers.{settingIn, stepReply, Stepping}
 use Rattle.walker.proofs.Steps.{step-setting, step-rest}
-use Rattle.planner_laws.specs.Demands.{readReply, Asked, NextShown, DemandThree, DemandOver, NextOfTwo, Walked}
+use Rattle.planner_laws.specs.Demands.{readReply, EnoughRoom, OneOfThree, a-plan, a-shut-in, a-lone, FirstShown, FirstOver, FirstAsked, Asked, NextShown, DemandThree, DemandOver, NextOfTwo, Walked}
 
 -- a reply whose plan and marks have the lengths that the network has
 data Sized (N : Network) : Outcome → Type 0 where
@@ -57,9 +64,9 @@ answer-sized N ok o h = go (trichotomy N ok)
     pick (some p) e = sized-plan (setting-length N p (plan-setting N p (h p e)))
 
     go : Trichotomy N → Sized N (answer N o)
-    go (plans q e f) = subst⁻¹ (Sized N) (f o) (pick o refl)
-    go (no-way n k f) = subst⁻¹ (Sized N) (f o) (sized-shut (length-marks _))
-    go (one-bridge i e y k f) = subst⁻¹ (Sized N) (f o) (sized-lone (length-marks _))
+    go (has-plan q e f) = subst⁻¹ (Sized N) (f o) (pick o refl)
+    go (not-passable n k f) = subst⁻¹ (Sized N) (f o) (sized-shut (length-marks _))
+    go (has-bridge i e y k f) = subst⁻¹ (Sized N) (f o) (sized-lone (length-marks _))
 
 first-sized : (N : Network) → Accepted N → Sized N (firstAnswer N)
 unfolding firstAnswer
@@ -87,6 +94,86 @@ pub first-read :
     (N : Network) {planBuffer marksBuffer plan′ marks′ : List ℕ} {r : Answer} → FirstCall N planBuffer marksBuffer r plan′ marks′ → readReply N r plan′ marks′ ≡ firstReply N (length planBuffer) (length marksBuffer)
 first-read N {planBuffer} {marksBuffer} = read-back N (firstReply N (length planBuffer) (length marksBuffer)) (first-reply-sized N (length planBuffer) (length marksBuffer))
 
+-- ---- demand 2
+
+-- where nothing is refused by number before the search
+room-none : (N : Network) {planBuffer marksBuffer : List ℕ} → EnoughRoom N planBuffer marksBuffer → roomFault N (length planBuffer) (length marksBuffer) ≡ none
+unfolding roomFault
+room-none N {planBuffer} {marksBuffer} a = rw (le-leb (gateCount N) (length planBuffer) (a .plan-room), le-leb markBytes (length marksBuffer) (a .marks-room))
+
+first-roomy : (N : Network) {planBuffer marksBuffer : List ℕ} → EnoughRoom N planBuffer marksBuffer → firstReply N (length planBuffer) (length marksBuffer) ≡ firstAnswer N
+unfolding firstReply
+first-roomy N a = rw (a .accepted, room-none N a)
+
+-- one finding has one certificate
+shut-same : {N : Network} {m m′ : List ℕ} {c c′ : ℕ} → shutIn m c ≡ shutIn m′ c′ → ShutInShown N m c → ShutInShown N m′ c′
+shut-same {N} {m} {m′} {c} {c′} e f =
+    let e₁ : m ≡ m′ = cc in
+    let e₂ : c ≡ c′ = cc in
+    subst (λ (x : List ℕ). ShutInShown N x c′) e₁ (subst (λ (x : ℕ). ShutInShown N m x) e₂ f)
+
+lone-same : {N : Network} {i i′ : ℕ} {m m′ : List ℕ} {c c′ : ℕ} → lone i m c ≡ lone i′ m′ c′ → BridgeShown N i m c → BridgeShown N i′ m′ c′
+lone-same {N} {i} {i′} {m} {m′} {c} {c′} e f =
+    let e₀ : i ≡ i′ = cc in
+    let e₁ : m ≡ m′ = cc in
+    let e₂ : c ≡ c′ = cc in
+    subst (λ (x : ℕ). BridgeShown N x m′ c′) e₀ (subst (λ (x : List ℕ). BridgeShown N i x c′) e₁ (subst (λ (x : ℕ). BridgeShown N i m x) e₂ f))
+
+module _ (N : Network) (ok : Accepted N) where
+  shown-by : {o : Outcome} → o ≡ firstAnswer N → OneOfThree o
+      → (((m : List ℕ) × (c : ℕ) × (o ≡ shutIn m c)) ↔ (passable N ≡ false)) → (((i : ℕ) × (m : List ℕ) × (c : ℕ) × (o ≡ lone i m c)) ↔ ((passable N ≡ true) × (i : ℕ) × (isBridge N i ≡ true)))
+      → ((m : List ℕ) (c : ℕ) → o ≡ shutIn m c → ShutInShown N m c) → ((i : ℕ) (m : List ℕ) (c : ℕ) → o ≡ lone i m c → BridgeShown N i m c) → FirstShown N o
+  shown-by e one is-shut-in is-lone shut lone-one =
+      record {
+        one-of-three = one;
+        is-first = λ p. (λ h. (first-given N ok p) .0 (sym e ∙ h), λ h. e ∙ (first-given N ok p) .1 h);
+        is-plan = λ p h. first-is-plan N ((first-given N ok p) .0 (sym e ∙ h));
+        is-earliest = λ p q h. first-is-earliest N ((first-given N ok p) .0 (sym e ∙ h)) q;
+        is-given = (λ a. (given-if-plan N ok) .0 (a .0, sym e ∙ a .1), λ q. let a = (given-if-plan N ok) .1 q in (a .0, e ∙ a .1));
+        is-shut-in = is-shut-in;
+        is-lone = is-lone;
+        shut-in-shown = shut;
+        lone-shown = lone-one;
+      }
+
+  of-cases : {o : Outcome} → o ≡ firstAnswer N → First N o → FirstShown N o
+  unfolding shutInFinding loneFinding
+  of-cases e (is-plan s f) =
+      let p = first-is-plan N f in
+      shown-by e (a-plan s)
+      (λ a. absurd (true≢false (cc)), λ n. clash (plan-passable N s p) n)
+      (λ a. absurd (true≢false (cc)), λ b. absurd (bridge-blocks N (b .1) (b .2) s p))
+      (λ m c h. absurd (true≢false (cc)))
+      (λ i m c h. absurd (true≢false (cc)))
+  of-cases e (is-shut n) =
+      let shown = shut-in-shown N ok n in
+      shown-by e (a-shut-in _ _)
+      (λ a. n, λ x. (_, _, refl))
+      (λ a. absurd (true≢false (cc)), λ b. clash (b .0) n)
+      (λ m c h. shut-same (sym (shown .2) ∙ h) (shown .3))
+      (λ i m c h. absurd (true≢false (cc)))
+  of-cases e (is-bridge i y l) =
+      let shown = bridge-shown N ok y i l in
+      shown-by e (a-lone i _ _)
+      (λ a. absurd (true≢false (cc)), λ n. clash y n)
+      (λ a. (y, i, lowest-is-bridge N l), λ b. (i, _, _, refl))
+      (λ m c h. absurd (true≢false (cc)))
+      (λ j m c h. lone-same (sym (shown .2) ∙ h) (shown .3))
+
+  pub first-shown : FirstShown N (firstAnswer N)
+  first-shown = of-cases refl (first-cases N ok)
+
+-- a call of first, on rows (`planner_rows::first_plan`) or on records (`planner::first_plan`): both promise `FirstCall` of the lent table's network, and that is all
+-- that is asked here
+module _ (N : Network) {planBuffer marksBuffer plan′ marks′ : List ℕ} {r : Answer} where
+  pub first-over : FirstCall N planBuffer marksBuffer r plan′ marks′ → FirstOver N planBuffer marksBuffer plan′ marks′ r
+  first-over c a = subst⁻¹ (FirstShown N) (first-read N c ∙ first-roomy N a) (first-shown N (a .accepted))
+
+  pub first-asked : FirstCall N planBuffer marksBuffer r plan′ marks′ → FirstAsked N planBuffer marksBuffer plan′ marks′ r
+  first-asked c = record { call = c; demand = first-over c }
+
+-- ---- demand 3
+
 module _ (N : Network) (s : List ℕ) {planBuffer marksBuffer : List ℕ} where
   -- what a caller of next reads is the reply of the definition, whatever the input
   pub next-read : {plan′ marks′ : List ℕ} {r : Answer} → NextCall N s planBuffer marksBuffer r plan′ marks′ → readReply N r plan′ marks′ ≡ nextReply N s (length planBuffer) (length marksBuffer)
@@ -94,9 +181,9 @@ module _ (N : Network) (s : List ℕ) {planBuffer marksBuffer : List ℕ} where
 
   -- where nothing is refused by number before the search
   next-roomy : Asked N s planBuffer marksBuffer → nextReply N s (length planBuffer) (length marksBuffer) ≡ nextAnswer N s
-  unfolding nextReply settingFault roomFault
+  unfolding nextReply settingFault
   next-roomy a =
-      rw (a .accepted, a .fits, le-leb (gateCount N) (length planBuffer) (a .plan-room), le-leb markBytes (length marksBuffer) (a .marks-room))
+      rw (a .enough .accepted, a .fits, room-none N (a .enough))
 
 next-shown : (N : Network) → Accepted N → (s : List ℕ) → NextShown N s (nextAnswer N s)
 next-shown N ok s =
@@ -122,7 +209,7 @@ module _ (N : Network) (s t : List ℕ) {plan₁ marks₁ plan₂ marks₂ plan�
   pub demand-over :
       NextCall N s plan₁ marks₁ r₁ plan₁′ marks₁′ → NextCall N t plan₂ marks₂ r₂ plan₂′ marks₂′ → DemandOver N s t plan₁ marks₁ plan₂ marks₂ plan₁′ marks₁′ plan₂′ marks₂′ r₁ r₂
   demand-over c d a b =
-      demand-three N s t (a .accepted) (a .fits) (b .fits) (next-read N s c ∙ next-roomy N s a) (next-read N t d ∙ next-roomy N t b)
+      demand-three N s t (a .enough .accepted) (a .fits) (b .fits) (next-read N s c ∙ next-roomy N s a) (next-read N t d ∙ next-roomy N t b)
 
   pub next-of-two :
       NextCall N s plan₁ marks₁ r₁ plan₁′ marks₁′ → NextCall N t plan₂ marks₂ r₂ plan₂′ marks₂′ → NextOfTwo N s t plan₁ marks₁ plan₂ marks₂ plan₁′ marks₁′ plan₂′ marks₂′ r₁ r₂

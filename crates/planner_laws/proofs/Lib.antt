@@ -1,2 +1,2 @@
--- Demand 3, from what the calls promise.
+-- Demands 2 and 3, from what the calls promise.
 pub mod Demands

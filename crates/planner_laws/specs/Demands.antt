@@ -1,4 +1,4 @@
--- Demand 3, said of what a caller of next or of a walker's step gets: the answer, and the plan or the marks in the lent buffers.
+-- Demands 2 and 3, said of what a caller of first, of next or of a walker's step gets: the answer, and the plan or the marks in the lent buffers.
 -- Assumes nothing.
 use Prim.Native.Nat.{ℕ, _≤_}
 use mathlib.Core.Path.{_≡_}
@@ -10,14 +10,16 @@ use lib.ListN.{length, take, drop}
 use Rattle.network.specs.declared.Refusal.the-variants.{LastPlan}
 use Rattle.network.specs.Networks.{Network, Accepted}
 use Rattle.network.specs.Settings.{gateCount, isSetting, before}
-use Rattle.network.specs.Plans.{isPlan, nextPlan}
+use Rattle.network.specs.Plans.{isPlan, passable, firstPlan, nextPlan}
+use Rattle.network.specs.Bridges.{isBridge}
 use Rattle.network.specs.Marks.{markBytes}
 use Rattle.network.specs.Replies.{Outcome, plan, shutIn, lone, refused}
+use Rattle.network.specs.Certificates.{ShutInShown, BridgeShown}
 use Rattle.replies.specs.declared.Verdict.{Verdict}
 use Rattle.replies.specs.declared.Verdict.the-variants.{Plan, ShutIn, Lone}
 use Rattle.replies.specs.declared.Answer.{Answer}
 use Rattle.replies.specs.declared.Answer.the-variants as A
-use Rattle.replies.specs.Answers.{NextCall}
+use Rattle.replies.specs.Answers.{FirstCall, NextCall}
 use Rattle.walker.specs.Walkers.{settingIn}
 
 -- The reply that a caller reads: the first bytes of the plan buffer, one for each gated reach, or the 32 bytes of marks.
@@ -30,12 +32,48 @@ abbrev pub readReply : Network → Answer → List ℕ → List ℕ → Outcome
 readReply N (A.Refused r) planBuffer marksBuffer = refused r
 readReply N (A.Given g) planBuffer marksBuffer = readVerdict N (g .verdict) planBuffer marksBuffer
 
--- An accepted network, a setting of it, and lent buffers long enough, whatever they hold.
-pub record Asked (N : Network) (s planBuffer marksBuffer : List ℕ) : Type 0 where
+-- An accepted network, and lent buffers long enough, whatever they hold.
+pub record EnoughRoom (N : Network) (planBuffer marksBuffer : List ℕ) : Type 0 where
   pub accepted : Accepted N
-  pub fits : isSetting N s ≡ true
   pub plan-room : gateCount N ≤ length planBuffer
   pub marks-room : markBytes ≤ length marksBuffer
+
+-- ---- demand 2
+
+-- "Each reply is a plan or one of two findings": exactly one of the three.
+pub data OneOfThree : Outcome → Type 0 where
+  a-plan : (p : List ℕ) → OneOfThree (plan p)
+  a-shut-in : (m : List ℕ) (c : ℕ) → OneOfThree (shutIn m c)
+  a-lone : (i : ℕ) (m : List ℕ) (c : ℕ) → OneOfThree (lone i m c)
+
+-- What a reply o of first says. A plan given is a plan, and none is earlier; one is given exactly where the network has one. 9 is said exactly where it is not passable, 10
+-- exactly where it is and has a lone reach; each comes with what somebody with the map checks, by the marks, the count and the reach of this very reply.
+pub record FirstShown (N : Network) (o : Outcome) : Type 0 where
+  pub one-of-three : OneOfThree o
+  pub is-first : (p : List ℕ) → (o ≡ plan p) ↔ (firstPlan N ≡ some p)
+  pub is-plan : (p : List ℕ) → o ≡ plan p → isPlan N p ≡ true
+  pub is-earliest : (p q : List ℕ) → o ≡ plan p → isPlan N q ≡ true → before q p ≡ false
+  pub is-given : ((p : List ℕ) × (o ≡ plan p)) ↔ ((q : List ℕ) × (isPlan N q ≡ true))
+  pub is-shut-in : ((m : List ℕ) × (c : ℕ) × (o ≡ shutIn m c)) ↔ (passable N ≡ false)
+  pub is-lone : ((i : ℕ) × (m : List ℕ) × (c : ℕ) × (o ≡ lone i m c)) ↔ ((passable N ≡ true) × (i : ℕ) × (isBridge N i ≡ true))
+  pub shut-in-shown : (m : List ℕ) (c : ℕ) → o ≡ shutIn m c → ShutInShown N m c
+  pub lone-shown : (i : ℕ) (m : List ℕ) (c : ℕ) → o ≡ lone i m c → BridgeShown N i m c
+
+-- Demand 2 over a call of first, with buffers that held anything: what its caller reads.
+abbrev pub FirstOver : Network → List ℕ → List ℕ → List ℕ → List ℕ → Answer → Type 0
+FirstOver N planBuffer marksBuffer plan′ marks′ r = EnoughRoom N planBuffer marksBuffer → FirstShown N (readReply N r plan′ marks′)
+
+-- What asking for the first plan promises: what first promises of any input, refused or not, and demand 2.
+pub record FirstAsked (N : Network) (planBuffer marksBuffer plan′ marks′ : List ℕ) (r : Answer) : Type 0 where
+  pub call : FirstCall N planBuffer marksBuffer r plan′ marks′
+  pub demand : FirstOver N planBuffer marksBuffer plan′ marks′ r
+
+-- ---- demand 3
+
+-- The same, and a setting of the network.
+pub record Asked (N : Network) (s planBuffer marksBuffer : List ℕ) : Type 0 where
+  pub enough : EnoughRoom N planBuffer marksBuffer
+  pub fits : isSetting N s ≡ true
 
 -- What one reply of next says: a plan given is the next plan of the setting, later than it; one is given wherever a plan is later; "last plan"
 -- is said exactly where a plan exists and none is later.

@@ -1,2 +1,2 @@
--- Demand 3, said of what a caller gets.
+-- Demands 2 and 3, said of what a caller gets.
 pub mod Demands
