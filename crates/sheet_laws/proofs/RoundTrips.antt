@@ -4,9 +4,9 @@
 -- Assumes nothing.
 use Prim.Native.Nat.{ℕ, _≤_}
 use native.Mathlib.Omega.{arith}
-use mathlib.Core.Path.{_≡_, refl, sym, ap, subst, _∙_}
+use mathlib.Core.Path.{_≡_, refl, sym, ap, subst, subst⁻¹, _∙_}
 use mathlib.Core.Bool.{Bool, true, false, cond, true≢false}
-use mathlib.Core.List.{List}
+use mathlib.Core.List.{List, [], _∷_, _++_}
 use mathlib.Core.Option.{Option, none, some}
 use lib.ListN.{length, take, drop, length-append}
 use lib.Seq.{take-at}
@@ -15,16 +15,18 @@ use Rattle.network.specs.declared.Refusal.{Refusal}
 use Rattle.network.specs.declared.Refusal.the-variants.{ShortBuffer}
 use Rattle.network.specs.Networks.{Network, tableFault, Accepted}
 use Rattle.network.specs.Plans.{isPlan}
-use Rattle.network.specs.Marks.{marksOf}
-use Rattle.network.specs.Replies.{Outcome, lone, bridgeSide, firstAnswer, firstOf, planFault}
+use Rattle.network.specs.Marks.{markBytes, marksOf, onesIn}
+use Rattle.network.specs.Replies.{Outcome, shutIn, lone, shutInSide, bridgeSide, firstAnswer, firstOf, planFault}
 use Rattle.lists.proofs.Bools.{clash}
 use Rattle.network.proofs.Bridges.{bridge-blocks}
 use Rattle.network.proofs.Order.{first-is-plan}
-use Rattle.network.proofs.Replies.{lowest-is-bridge, first-assoc, first-of-none}
+use Rattle.network.proofs.Marks.{length-marks}
+use Rattle.network.proofs.Replies.{lowest-is-bridge, First, is-plan, is-shut, is-bridge, first-cases, first-assoc, first-of-none}
 use Rattle.network.proofs.Theorem.{plan-passable}
 use Rattle.file_records.specs.declared.WriteAnswer.{WriteAnswer}
 use Rattle.file_records.specs.declared.WriteAnswer.the-variants.{Refused as Unwritten, Written}
 use lib.Pow.{areBytes}
+use Rattle.file_records.specs.Records.{endKind}
 use Rattle.file_records.specs.Puts.{Wrote, roomFor, WroteWhole}
 use Rattle.replies.specs.declared.CheckAnswer.{CheckAnswer}
 use Rattle.replies.specs.declared.CheckAnswer.the-variants as C
@@ -35,12 +37,14 @@ use Rattle.sheet_format.specs.declared.SheetAnswer.the-variants.{Refused, Read}
 use Rattle.sheet_format.specs.Sheets.{sheetOf, outcomeSheet, replySheet}
 use Rattle.sheet_format.specs.Readings.{SheetReading, sheetRefused, sheetSays, unlessFault, readRecords, readSheet, sheetWithRoom}
 use Rattle.sheet_format.specs.Answers.{sheetAnswer, settingRead, Got, sheetFault, replyFault, SheetRead, SheetWritten, ReplyWritten}
-use Rattle.sheet_laws.specs.Laws.{SheetWriteRead, sheetAgain, SheetReadWrite, checkedBack, SheetReadCheck, replyRead, ReplyWriteRead, Replies, says-plan, says-shut-in, says-lone}
+use Rattle.sheet_laws.specs.Laws.{SheetWriteRead, sheetAgain, SheetReadWrite, checkedBack, SheetReadCheck, replyRead, ReplyWriteRead, Replies, says-plan, says-shut-in, says-lone, marksOn, planOn, replyOn, SheetShown}
 use Rattle.sheet_format.proofs.Sheets.{read-write, write-read, was-read}
+use Rattle.planner_laws.specs.Demands.{FirstShown}
+use Rattle.planner_laws.proofs.Demands.{first-shown}
+use Rattle.file_records.proofs.Records.{word-bytes}
 use Rattle.file_records.proofs.Puts.{put-refused, unwritten, written, written-front}
 use Rattle.sheet_plans.proofs.Calls.{Plan, no-fault}
 use Rattle.sheet_format.proofs.Getting.{got-refused, refused-is}
-use Rattle.sheet_plans.proofs.Replies.{First, is-plan, is-shut, is-bridge, first-cases}
 
 -- ---- written, then read
 
@@ -217,3 +221,29 @@ module _ (N : Network) {out out′ setting : List ℕ} where
             (λ sound. read-reply N (first-of-none (tableFault N) (roomFor (replySheet N) (length out)) sound .0)) g;
         sheet = p .bytes;
       }
+
+-- ---- demand 2 for who holds only the sheet
+
+-- the marks on a finding sheet, before its end
+marks-on : (S : List ℕ) → take markBytes (marksOf S ++ (endKind ∷ [])) ≡ marksOf S
+marks-on S = take-at (marksOf S) (endKind ∷ []) markBytes (length-marks S)
+
+outcome-on : (N : Network) → Accepted N → {o : Outcome} → First N o → replyOn N (outcomeSheet N o) ≡ o
+unfolding replyOn
+outcome-on N ok (is-plan s e) = ap planOn (read-write N s ok (first-is-plan N e))
+outcome-on N ok (is-shut n) = ap (λ (m : List ℕ). shutIn m (onesIn m)) (marks-on (shutInSide N))
+outcome-on N ok (is-bridge i y e) =
+    ap (λ (j : ℕ). lone j (marksOn 3 (outcomeSheet N (lone i (marksOf (bridgeSide N i)) 0))) (onesIn (marksOn 3 (outcomeSheet N (lone i (marksOf (bridgeSide N i)) 0))))) (word-bytes i)
+    ∙ ap (λ (m : List ℕ). lone i m (onesIn m)) (marks-on (bridgeSide N i))
+
+-- The reply is read off its sheet as it was given,
+pub reply-on : (N : Network) → Accepted N → replyOn N (replySheet N) ≡ firstAnswer N
+unfolding replySheet
+reply-on N ok = outcome-on N ok (first-cases N ok)
+
+-- so who holds only the bytes that the reply writer wrote holds the first plan, or the finding with its certificate.
+pub reply-shown : (N : Network) {out out′ : List ℕ} {n : ℕ} → ReplyWritten N out (Written n) out′ → SheetShown N (take n out′)
+reply-shown N {out} {out′} {n} p =
+    let sound = written (replyFault N (length out)) (replySheet N) out out′ n p in
+    let ok = first-of-none (tableFault N) (roomFor (replySheet N) (length out)) sound .0 in
+    subst⁻¹ (FirstShown N) (ap (replyOn N) (written-front (replyFault N (length out)) (replySheet N) out out′ n p) ∙ reply-on N ok) (first-shown N ok)

@@ -2,22 +2,25 @@
 -- Assumes nothing.
 use Prim.Native.Nat.{ℕ}
 use mathlib.Core.Path.{_≡_}
-use mathlib.Core.Bool.{true, false}
+use mathlib.Core.Bool.{true, false, cond}
 use mathlib.Core.List.{List, _++_}
 use mathlib.Core.Option.{Option, some}
-use lib.ListN.{length, drop}
+use lib.ListN.{length, getD, take, drop}
+use lib.Dec.{eqb}
+use Rattle.lists.specs.Words.{wordOf}
 use Rattle.network.specs.declared.Refusal.{Refusal}
 use Rattle.network.specs.declared.Refusal.the-variants.{UnknownKind}
 use Rattle.network.specs.Networks.{Network}
 use Rattle.network.specs.Plans.{passable, firstPlan}
 use Rattle.network.specs.Bridges.{lowestBridge}
-use Rattle.network.specs.Marks.{marksOf}
+use Rattle.network.specs.Marks.{markBytes, marksOf, onesIn}
 use Rattle.network.specs.Replies.{Outcome, plan, shutIn, lone, refused as told, firstAnswer, shutInSide, bridgeSide}
 use Rattle.file_records.specs.declared.WriteAnswer.{WriteAnswer}
 use Rattle.replies.specs.declared.CheckAnswer.{CheckAnswer}
 use Rattle.replies.specs.declared.CheckAnswer.the-variants as C
 use Rattle.sheet_format.specs.declared.SheetAnswer.{SheetAnswer}
-use Rattle.sheet_format.specs.Sheets.{sheetOf, shutInSheet, loneSheet, replySheet}
+use Rattle.planner_laws.specs.Demands.{FirstShown}
+use Rattle.sheet_format.specs.Sheets.{shutInKind, loneKind, sheetOf, shutInSheet, loneSheet, replySheet}
 use Rattle.sheet_format.specs.Readings.{SheetReading, sheetRefused, sheetSays, unlessFault, readSheet, sheetWithRoom}
 use Rattle.sheet_format.specs.Answers.{settingRead, Got, sheetFault, replyFault}
 use Rattle.file_records.specs.Puts.{bytesWritten, Wrote, roomFor}
@@ -65,3 +68,26 @@ pub data Replies (N : Network) (f : List ℕ) : Type 0 where
   says-plan : (s : List ℕ) → firstPlan N ≡ some s → readSheet N f ≡ sheetSays s → Replies N f
   says-shut-in : passable N ≡ false → f ≡ shutInSheet (marksOf (shutInSide N)) → Replies N f
   says-lone : (i : ℕ) → passable N ≡ true → lowestBridge N ≡ some i → f ≡ loneSheet i (marksOf (bridgeSide N i)) → Replies N f
+
+-- ---- demand 2 for who holds only the sheet
+
+-- What stands on a finding sheet: after the kind the marks, on a lone one the reach number before them.
+abbrev pub marksOn : ℕ → List ℕ → List ℕ
+marksOn k f = take markBytes (drop k f)
+
+abbrev pub reachOn : List ℕ → ℕ
+reachOn f = wordOf (take 2 (drop 1 f))
+
+-- The reply that is read off a sheet of the network, by its first kind: that of the plan, or the finding with the count of its marks.
+abbrev pub planOn : SheetReading → Outcome
+planOn (sheetRefused r) = told r
+planOn (sheetSays s) = plan s
+
+unfoldable pub replyOn : Network → List ℕ → Outcome
+replyOn N f =
+    cond (eqb (getD f 0 0) shutInKind) (shutIn (marksOn 1 f) (onesIn (marksOn 1 f)))
+    (cond (eqb (getD f 0 0) loneKind) (lone (reachOn f) (marksOn 3 f) (onesIn (marksOn 3 f))) (planOn (readSheet N f)))
+
+-- The bytes of the sheet alone show what the reply of first does: the first plan, or the finding with what somebody with the map checks.
+abbrev pub SheetShown : Network → List ℕ → Type 0
+SheetShown N f = FirstShown N (replyOn N f)
