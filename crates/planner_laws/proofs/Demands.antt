@@ -15,7 +15,7 @@ use Rattle.network.specs.Settings.{gateCount, isSetting, settingFault}
 use Rattle.network.specs.Marks.{markBytes}
 use Rattle.network.specs.Replies.{Outcome, plan, shutIn, lone, refused, shutInFinding, loneFinding, chosen, answer, firstAnswer, nextAnswer, unless, roomFault, firstReply, nextReply, planAfter}
 use Rattle.network.specs.Plans.{isPlan, passable, firstPlan, nextPlan}
-use Rattle.network.specs.Bridges.{isBridge}
+use Rattle.network.specs.Bridges.{isBridge, lowestBridge}
 use Rattle.network.proofs.Marks.{length-marks}
 use Rattle.network.proofs.Order.{setting-length, plan-setting, first-is-plan, first-is-earliest, next-is-plan, next-is-later, next-is-earliest}
 use Rattle.network.specs.Certificates.{ShutInShown, BridgeShown, Trichotomy, has-plan, not-passable, has-bridge}
@@ -29,7 +29,7 @@ use Rattle.replies.specs.Answers.{Replied, FirstCall, NextCall}
 use Rattle.walker.specs.declared.Stepped.{Stepped}
 use Rattle.walker.specs.Walkers.{settingIn, stepReply, Stepping}
 use Rattle.walker.proofs.Steps.{step-setting, step-rest}
-use Rattle.planner_laws.specs.Demands.{readReply, EnoughRoom, OneOfThree, a-plan, a-shut-in, a-lone, FirstShown, FirstOver, FirstAsked, Asked, NextShown, DemandThree, DemandOver, NextOfTwo, Walked}
+use Rattle.planner_laws.specs.Demands.{readReply, EnoughRoom, OneOfThree, a-plan, a-shut-in, a-lone, FindingShown, FirstShown, FirstOver, FirstAsked, Asked, NextShown, DemandThree, DemandOver, NextOfTwo, Walked}
 
 -- a reply whose plan and marks have the lengths that the network has
 data Sized (N : Network) : Outcome → Type 0 where
@@ -120,48 +120,74 @@ lone-same {N} {i} {i′} {m} {m′} {c} {c′} e f =
     subst (λ (x : ℕ). BridgeShown N x m′ c′) e₀ (subst (λ (x : List ℕ). BridgeShown N i x c′) e₁ (subst (λ (x : ℕ). BridgeShown N i m x) e₂ f))
 
 module _ (N : Network) (ok : Accepted N) where
-  shown-by : {o : Outcome} → o ≡ firstAnswer N → OneOfThree o
-      → (((m : List ℕ) × (c : ℕ) × (o ≡ shutIn m c)) ↔ (passable N ≡ false)) → (((i : ℕ) × (m : List ℕ) × (c : ℕ) × (o ≡ lone i m c)) ↔ ((passable N ≡ true) × (i : ℕ) × (isBridge N i ≡ true)))
-      → ((m : List ℕ) (c : ℕ) → o ≡ shutIn m c → ShutInShown N m c) → ((i : ℕ) (m : List ℕ) (c : ℕ) → o ≡ lone i m c → BridgeShown N i m c) → FirstShown N o
-  shown-by e one is-shut-in is-lone shut lone-one =
+  -- a plan, or that none is later, is no finding, and only a network with a plan gets it
+  plan-shown : (s : List ℕ) → isPlan N s ≡ true → {o : Outcome} → ((m : List ℕ) (c : ℕ) → o ≡ shutIn m c → ⊥) → ((i : ℕ) (m : List ℕ) (c : ℕ) → o ≡ lone i m c → ⊥) → FindingShown N o
+  plan-shown s p not-shut not-lone =
       record {
-        one-of-three = one;
-        is-first = λ p. (λ h. (first-given N ok p) .0 (sym e ∙ h), λ h. e ∙ (first-given N ok p) .1 h);
-        is-plan = λ p h. first-is-plan N ((first-given N ok p) .0 (sym e ∙ h));
-        is-earliest = λ p q h. first-is-earliest N ((first-given N ok p) .0 (sym e ∙ h)) q;
-        is-given = (λ a. (given-if-plan N ok) .0 (a .0, sym e ∙ a .1), λ q. let a = (given-if-plan N ok) .1 q in (a .0, e ∙ a .1));
-        is-shut-in = is-shut-in;
-        is-lone = is-lone;
-        shut-in-shown = shut;
-        lone-shown = lone-one;
+        is-shut-in = (λ a. absurd (not-shut (a .0) (a .1) (a .2)), λ n. clash (plan-passable N s p) n);
+        is-lone = (λ a. absurd (not-lone (a .0) (a .1) (a .2) (a .3)), λ b. absurd (bridge-blocks N (b .1) (b .2) s p));
+        shut-in = λ m c h. absurd (not-shut m c h);
+        lone-reach = λ i m c h. absurd (not-lone i m c h);
       }
 
-  of-cases : {o : Outcome} → o ≡ firstAnswer N → First N o → FirstShown N o
-  unfolding shutInFinding loneFinding
-  of-cases e (is-plan s f) =
-      let p = first-is-plan N f in
-      shown-by e (a-plan s)
-      (λ a. absurd (true≢false (cc)), λ n. clash (plan-passable N s p) n)
-      (λ a. absurd (true≢false (cc)), λ b. absurd (bridge-blocks N (b .1) (b .2) s p))
-      (λ m c h. absurd (true≢false (cc)))
-      (λ i m c h. absurd (true≢false (cc)))
-  of-cases e (is-shut n) =
+  chosen-shown : (s : List ℕ) → isPlan N s ≡ true → (p : Option (List ℕ)) → FindingShown N (chosen p)
+  chosen-shown s e (some t) = plan-shown s e (λ m c h. true≢false (cc)) (λ i m c h. true≢false (cc))
+  chosen-shown s e none = plan-shown s e (λ m c h. true≢false (cc)) (λ i m c h. true≢false (cc))
+
+  -- the two findings
+  shut-shown : passable N ≡ false → FindingShown N (shutInFinding N)
+  shut-shown n =
       let shown = shut-in-shown N ok n in
-      shown-by e (a-shut-in _ _)
-      (λ a. n, λ x. (_, _, refl))
-      (λ a. absurd (true≢false (cc)), λ b. clash (b .0) n)
-      (λ m c h. shut-same (sym (shown .2) ∙ h) (shown .3))
-      (λ i m c h. absurd (true≢false (cc)))
-  of-cases e (is-bridge i y l) =
+      subst⁻¹ (FindingShown N) (shown .2)
+      (record {
+        is-shut-in = (λ a. n, λ x. (shown .0, shown .1, refl));
+        is-lone = (λ a. absurd (no-lone (a .3)), λ b. clash (b .0) n);
+        shut-in = λ m c h. shut-same h (shown .3);
+        lone-reach = λ i m c h. absurd (no-lone h);
+      })
+    where
+      no-lone : {i : ℕ} {m m′ : List ℕ} {c c′ : ℕ} → shutIn m c ≡ lone i m′ c′ → ⊥
+      no-lone e = true≢false (cc)
+
+  bridge-found : (i : ℕ) → lowestBridge N ≡ some i → passable N ≡ true → FindingShown N (loneFinding N i)
+  bridge-found i l y =
       let shown = bridge-shown N ok y i l in
-      shown-by e (a-lone i _ _)
-      (λ a. absurd (true≢false (cc)), λ n. clash y n)
-      (λ a. (y, i, lowest-is-bridge N l), λ b. (i, _, _, refl))
-      (λ m c h. absurd (true≢false (cc)))
-      (λ j m c h. lone-same (sym (shown .2) ∙ h) (shown .3))
+      subst⁻¹ (FindingShown N) (shown .2)
+      (record {
+        is-shut-in = (λ a. absurd (no-shut (a .2)), λ n. clash y n);
+        is-lone = (λ a. (y, i, lowest-is-bridge N l), λ b. (i, shown .0, shown .1, refl));
+        shut-in = λ m c h. absurd (no-shut h);
+        lone-reach = λ j m c h. lone-same h (shown .3);
+      })
+    where
+      no-shut : {i : ℕ} {m m′ : List ℕ} {c c′ : ℕ} → lone i m′ c′ ≡ shutIn m c → ⊥
+      no-shut e = true≢false (cc)
+
+  -- whatever plan is asked for
+  finding-shown : (p : Option (List ℕ)) → FindingShown N (answer N p)
+  finding-shown p = go (trichotomy N ok)
+    where
+      go : Trichotomy N → FindingShown N (answer N p)
+      go (has-plan s e f) = subst⁻¹ (FindingShown N) (f p) (chosen-shown s e p)
+      go (not-passable n k f) = subst⁻¹ (FindingShown N) (f p) (shut-shown n)
+      go (has-bridge i e y k f) = subst⁻¹ (FindingShown N) (f p) (bridge-found i e y)
+
+  one-of : {o : Outcome} → First N o → OneOfThree o
+  one-of (is-plan s e) = a-plan s
+  one-of (is-shut n) = a-shut-in _ _
+  one-of (is-bridge i y e) = a-lone i _ _
 
   pub first-shown : FirstShown N (firstAnswer N)
-  first-shown = of-cases refl (first-cases N ok)
+  unfolding firstAnswer
+  first-shown =
+      record {
+        one-of-three = one-of (first-cases N ok);
+        is-first = first-given N ok;
+        is-plan = λ p h. first-is-plan N ((first-given N ok p) .0 h);
+        is-earliest = λ p q h. first-is-earliest N ((first-given N ok p) .0 h) q;
+        is-given = given-if-plan N ok;
+        finding = finding-shown (firstPlan N);
+      }
 
 -- a call of first, on rows (`planner_rows::first_plan`) or on records (`planner::first_plan`): both promise `FirstCall` of the lent table's network, and that is all
 -- that is asked here
@@ -186,6 +212,7 @@ module _ (N : Network) (s : List ℕ) {planBuffer marksBuffer : List ℕ} where
       rw (a .enough .accepted, a .fits, room-none N (a .enough))
 
 next-shown : (N : Network) → Accepted N → (s : List ℕ) → NextShown N s (nextAnswer N s)
+unfolding nextAnswer
 next-shown N ok s =
     record {
       is-next = next-given N ok s;
@@ -194,6 +221,7 @@ next-shown N ok s =
       is-earliest = λ p q e. next-is-earliest N s ((next-given N ok s p) .0 e) q;
       is-given = given-if-later N ok s;
       is-last = last-plan N ok s;
+      finding = finding-shown N ok (nextPlan N s);
     }
 
 demand-three : (N : Network) (s t : List ℕ) → Accepted N → isSetting N s ≡ true → isSetting N t ≡ true → {o o′ : Outcome} → o ≡ nextAnswer N s → o′ ≡ nextAnswer N t → DemandThree N s t o o′

@@ -46,18 +46,22 @@ pub data OneOfThree : Outcome → Type 0 where
   a-shut-in : (m : List ℕ) (c : ℕ) → OneOfThree (shutIn m c)
   a-lone : (i : ℕ) (m : List ℕ) (c : ℕ) → OneOfThree (lone i m c)
 
--- What a reply o of first says. A plan given is a plan, and none is earlier; one is given exactly where the network has one. 9 is said exactly where it is not passable, 10
--- exactly where it is and has a lone reach; each comes with what somebody with the map checks, by the marks, the count and the reach of this very reply.
+-- What a reply o of first or of next says where there is no plan. 9 is said exactly where the network is not passable, 10 exactly where it is and has a lone reach; each
+-- comes with what somebody with the map checks, by the marks, the count and the reach of this very reply.
+pub record FindingShown (N : Network) (o : Outcome) : Type 0 where
+  pub is-shut-in : ((m : List ℕ) × (c : ℕ) × (o ≡ shutIn m c)) ↔ (passable N ≡ false)
+  pub is-lone : ((i : ℕ) × (m : List ℕ) × (c : ℕ) × (o ≡ lone i m c)) ↔ ((passable N ≡ true) × (i : ℕ) × (isBridge N i ≡ true))
+  pub shut-in : (m : List ℕ) (c : ℕ) → o ≡ shutIn m c → ShutInShown N m c
+  pub lone-reach : (i : ℕ) (m : List ℕ) (c : ℕ) → o ≡ lone i m c → BridgeShown N i m c
+
+-- What a reply o of first says: a plan or a finding; a plan given is a plan, and none is earlier; one is given exactly where the network has one.
 pub record FirstShown (N : Network) (o : Outcome) : Type 0 where
   pub one-of-three : OneOfThree o
   pub is-first : (p : List ℕ) → (o ≡ plan p) ↔ (firstPlan N ≡ some p)
   pub is-plan : (p : List ℕ) → o ≡ plan p → isPlan N p ≡ true
   pub is-earliest : (p q : List ℕ) → o ≡ plan p → isPlan N q ≡ true → before q p ≡ false
   pub is-given : ((p : List ℕ) × (o ≡ plan p)) ↔ ((q : List ℕ) × (isPlan N q ≡ true))
-  pub is-shut-in : ((m : List ℕ) × (c : ℕ) × (o ≡ shutIn m c)) ↔ (passable N ≡ false)
-  pub is-lone : ((i : ℕ) × (m : List ℕ) × (c : ℕ) × (o ≡ lone i m c)) ↔ ((passable N ≡ true) × (i : ℕ) × (isBridge N i ≡ true))
-  pub shut-in-shown : (m : List ℕ) (c : ℕ) → o ≡ shutIn m c → ShutInShown N m c
-  pub lone-shown : (i : ℕ) (m : List ℕ) (c : ℕ) → o ≡ lone i m c → BridgeShown N i m c
+  pub finding : FindingShown N o
 
 -- Demand 2 over a call of first, with buffers that held anything: what its caller reads.
 abbrev pub FirstOver : Network → List ℕ → List ℕ → List ℕ → List ℕ → Answer → Type 0
@@ -76,7 +80,7 @@ pub record Asked (N : Network) (s planBuffer marksBuffer : List ℕ) : Type 0 wh
   pub fits : isSetting N s ≡ true
 
 -- What one reply of next says: a plan given is the next plan of the setting, later than it; one is given wherever a plan is later; "last plan"
--- is said exactly where a plan exists and none is later.
+-- is said exactly where a plan exists and none is later; a finding is shown as first shows it.
 pub record NextShown (N : Network) (s : List ℕ) (o : Outcome) : Type 0 where
   pub is-next : (p : List ℕ) → (o ≡ plan p) ↔ (nextPlan N s ≡ some p)
   pub is-plan : (p : List ℕ) → o ≡ plan p → isPlan N p ≡ true
@@ -84,6 +88,7 @@ pub record NextShown (N : Network) (s : List ℕ) (o : Outcome) : Type 0 where
   pub is-earliest : (p q : List ℕ) → o ≡ plan p → isPlan N q ≡ true → before s q ≡ true → before q p ≡ false
   pub is-given : (q : List ℕ) → isPlan N q ≡ true → before s q ≡ true → (p : List ℕ) × (o ≡ plan p)
   pub is-last : (o ≡ refused LastPlan) ↔ (((p : List ℕ) × (isPlan N p ≡ true)) × ((q : List ℕ) → isPlan N q ≡ true → before s q ≡ true → ⊥))
+  pub finding : FindingShown N o
 
 -- No plan comes after s up to and including t.
 abbrev pub NoneBetween : Network → List ℕ → List ℕ → Type 0
