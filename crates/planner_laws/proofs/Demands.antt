@@ -3,7 +3,6 @@
 use Prim.Native.Nat.{ℕ}
 use mathlib.Core.Path.{_≡_, refl, sym, ap, subst, subst⁻¹, _∙_}
 use mathlib.Core.Bool.{true, false, true≢false}
-use mathlib.Core.Logic.{_↔_}
 use mathlib.Core.Option.{Option, none, some}
 use mathlib.Core.List.{List}
 use lib.ListN.{length, take, drop}
@@ -15,7 +14,7 @@ use Rattle.network.specs.Settings.{gateCount, isSetting, settingFault}
 use Rattle.network.specs.Marks.{markBytes}
 use Rattle.network.specs.Replies.{Outcome, plan, shutIn, lone, refused, shutInFinding, loneFinding, chosen, answer, firstAnswer, nextAnswer, unless, roomFault, firstReply, nextReply, planAfter}
 use Rattle.network.specs.Plans.{isPlan, passable, firstPlan, nextPlan}
-use Rattle.network.specs.Bridges.{isBridge, lowestBridge}
+use Rattle.network.specs.Bridges.{lowestBridge}
 use Rattle.network.proofs.Marks.{length-marks}
 use Rattle.network.proofs.Order.{setting-length, plan-setting, first-is-plan, first-is-earliest, next-is-plan, next-is-later, next-is-earliest}
 use Rattle.network.specs.Certificates.{ShutInShown, BridgeShown, Trichotomy, has-plan, not-passable, has-bridge}
