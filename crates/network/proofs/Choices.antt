@@ -3,10 +3,10 @@
 use Prim.Native.Nat.{ℕ, zero, suc, _+_, _≤_, _<_, compare·suc-suc}
 use native.Mathlib.Omega.{arith}
 use native.Mathlib.Decide.{ℕ-discrete}
-use mathlib.Core.Path.{_≡_, refl, sym, ap, _∙_}
+use mathlib.Core.Path.{_≡_, refl, sym, ap, ap₂, _∙_}
 use mathlib.Core.Bool.{Bool, true, false, cond, _&&_, _||_, and-comm, or-comm}
 use mathlib.Core.Logic.{_⊎_, inl, inr, ⊎-elim, _↔_}
-use mathlib.Core.List.{List, [], _∷_, _++_}
+use mathlib.Core.List.{List, [], _∷_, _++_, map}
 use mathlib.Core.Option.{some}
 use lib.ListN.{length, getD, set, length-set, length-replicate, length-map}
 use lib.Seq.{getD-set-same, getD-set-other}
@@ -19,7 +19,7 @@ use Rattle.network.specs.declared.State.the-variants.{InService, Shut}
 use Rattle.network.specs.declared.Reach.{Reach}
 use Rattle.lists.specs.Lists.{range, every, some?}
 use Rattle.lists.proofs.Bools.{decide, clash}
-use Rattle.lists.proofs.Searches.{every-at, every-fails, every-getD, keep-in, keep-has}
+use Rattle.lists.proofs.Searches.{every-at, every-fails, every-getD, keep-in, keep-has, keep-same}
 use Rattle.lists.proofs.Ranges.{length-range, map-range-at}
 use Rattle.network.specs.Networks.{Network, endsAt, isWet, basinsOf, Accepted}
 use Rattle.network.specs.Settings.{isGated, gatesFrom, gates, gateCount, isSetting, settings}
@@ -163,6 +163,16 @@ module _ (N : Network) where
     pub bound-turned : getD p k 2 ≡ 1 →
         boundByte N k ≡ cond (reached (without N (unoriented N) (getD (gates N) k 0)) ((reachAt N (getD (gates N) k 0)) .b) ((reachAt N (getD (gates N) k 0)) .a)) 2 1
     bound-turned e = bound-other 1 0 (omega arith) e ∙ ap (λ (c : Bool). cond c 2 1) (as-drawn N ok (unoriented N) (unoriented-oriented N) k l (unoriented-2 N k) passes)
+
+-- Networks with as many gates and the same plans have the same list of plans, and the same bound gates.
+pub same-plans : (N M : Network) → gateCount N ≡ gateCount M → ((s : List ℕ) → isPlan N s ≡ isPlan M s) → plans N ≡ plans M
+unfolding plans
+same-plans N M e f = rw e (keep-same (isPlan N) (isPlan M) (settings (gateCount M)) (λ s m. f s))
+
+pub same-bound : (N M : Network) → gateCount N ≡ gateCount M → plans N ≡ plans M → boundBytes N ≡ boundBytes M
+unfolding boundBytes boundByte
+same-bound N M e f =
+    ap₂ (λ (g : ℕ) (ps : List (List ℕ)). map (λ k. cond (every (λ p. eqb (getD p k 2) 0) ps) 0 (cond (every (λ p. eqb (getD p k 2) 1) ps) 1 2)) (range 0 g)) e f
 
 -- ---- a gated reach made a flap
 

@@ -4,31 +4,33 @@ use Prim.Native.Nat.{ℕ, _+_, _-_, _≤_, _<_}
 use native.Mathlib.Omega.{arith}
 use native.Mathlib.Decide.{decLt}
 use mathlib.Core.Path.{_≡_, refl, sym, ap, _∙_}
-use mathlib.Core.Bool.{Bool, true, false, cond, not, _&&_, false≢true}
+use mathlib.Core.Bool.{true, false, not, _&&_, false≢true}
 use mathlib.Core.Logic.{⊎-elim}
-use mathlib.Core.Option.{Option, none, some, Option·getD}
-use mathlib.Core.List.{List, [], _++_, append-nil, map}
-use lib.ListN.{length, getD}
-use lib.Dec.{ltb, eqb}
+use mathlib.Core.Option.{Option, Option·getD}
+use mathlib.Core.List.{List, [], _++_, append-nil}
+use lib.ListN.{getD}
+use lib.Dec.{ltb}
 use borrow.Author.Tests.{le-leb, ltb-true, lt-ltb, eq-eqb}
 use mathlib.Mathlib.Data.Bool.Basic.{and-elim-left, and-elim-right, and-intro, bool-eq-false}
 use Rattle.network.specs.declared.Refusal.the-variants.{LastPlan}
-use Rattle.lists.specs.Lists.{range, every, some?, find, keep, elem}
+use Rattle.lists.specs.Lists.{range, some?, find, keep, elem}
 use Rattle.lists.proofs.Bools.{clash}
-use Rattle.lists.proofs.Searches.{every-make, every-at, find-yes, find-same, keep-same, keep-append, keep-none}
+use Rattle.lists.proofs.Searches.{every-make, every-at, find-yes, keep-same, keep-append, keep-none}
 use Rattle.lists.proofs.Ranges.{range-add, range-in}
 use Rattle.network.specs.Networks.{Network, maxBasins, isWet, basinsOf, goodCount, goodEnds, Accepted}
-use Rattle.network.specs.Settings.{isGated, gateCount, isSetting, settingFault, before, settings}
+use Rattle.network.specs.Settings.{isGated, gateCount, isSetting, settingFault}
 use Rattle.network.specs.Orientations.{arcsUnder, unoriented}
 use Rattle.network.specs.Plans.{stronglyConnected, stronglyConnectedUnder, isPlan, passable, firstPlan, nextPlan}
-use Rattle.network.specs.Bridges.{sides, isCut, reachAt, crossesAlone, isBridge, lowestBridge}
+use Rattle.network.specs.Bridges.{sides, isCut, reachAt, crossesAlone, isBridge}
 use Rattle.network.specs.Marks.{marksOf, onesIn}
-use Rattle.network.specs.Replies.{plan, lone, refused, shutInBasin, shutInSide, bridgeSide, shutInFinding, loneFinding, orLone, answer, firstAnswer, nextAnswer, roomFault, firstReply, nextReply}
-use Rattle.network.specs.Choices.{plans, boundByte, boundBytes}
+use Rattle.network.specs.Replies.{plan, lone, refused, shutInBasin, shutInSide, bridgeSide, shutInFinding, loneFinding, answer, firstAnswer, nextAnswer, roomFault, firstReply, nextReply}
+use Rattle.network.specs.Choices.{plans, boundBytes}
 use Rattle.network.specs.Enlarged.{enlarged}
 use Rattle.network.proofs.Ways.{gate-at, gated-in-service}
 use Rattle.network.proofs.Networks.{endsBelow, fault-none, tests-passed, accepted, wet-by, basin-below, basin-wet, end-a-in}
-use Rattle.network.proofs.Replies.{first-given, last-plan}
+use Rattle.network.proofs.Order.{same-first, same-next}
+use Rattle.network.proofs.Replies.{same-answers, first-given, last-plan}
+use Rattle.network.proofs.Choices.{same-plans, same-bound}
 
 -- ---- more basins, and no reach at them
 
@@ -79,23 +81,17 @@ module _ (N : Network) (ok : Accepted N) (m : ℕ) (more : N .basins ≤ m) wher
   enlarged-passable = ap (λ (bs : List ℕ). stronglyConnected bs (arcsUnder N (unoriented N))) enlarged-basins
 
   pub enlarged-first : firstPlan (enlarged N m) ≡ firstPlan N
-  unfolding firstPlan
-  enlarged-first = find-same (isPlan (enlarged N m)) (isPlan N) (settings (gateCount N)) (λ s mem. enlarged-plan s)
+  enlarged-first = same-first (enlarged N m) N refl enlarged-plan
 
   pub enlarged-next : (s : List ℕ) → nextPlan (enlarged N m) s ≡ nextPlan N s
-  unfolding nextPlan
-  enlarged-next s = find-same (λ p. before s p && isPlan (enlarged N m) p) (λ p. before s p && isPlan N p) (settings (gateCount N)) (λ p mem. rw (enlarged-plan p))
+  enlarged-next = same-next (enlarged N m) N refl enlarged-plan
 
   -- the same plans, and so the same bound gates
   pub enlarged-plans : plans (enlarged N m) ≡ plans N
-  unfolding plans
-  enlarged-plans = keep-same (isPlan (enlarged N m)) (isPlan N) (settings (gateCount N)) (λ s mem. enlarged-plan s)
+  enlarged-plans = same-plans (enlarged N m) N refl enlarged-plan
 
   pub enlarged-bound : boundBytes (enlarged N m) ≡ boundBytes N
-  unfolding boundBytes boundByte
-  enlarged-bound =
-      ap (λ (ps : List (List ℕ)). map (λ k. cond (every (λ p. eqb (getD p k 2) 0) ps) 0 (cond (every (λ p. eqb (getD p k 2) 1) ps) 1 2)) (range 0 (gateCount N)))
-      enlarged-plans
+  enlarged-bound = same-bound (enlarged N m) N refl enlarged-plans
 
   -- the same findings, with the same marks
   pub enlarged-shut-in : shutInFinding (enlarged N m) ≡ shutInFinding N
@@ -113,13 +109,7 @@ module _ (N : Network) (ok : Accepted N) (m : ℕ) (more : N .basins ≤ m) wher
       enlarged-basins
 
   pub enlarged-answer : (p : Option (List ℕ)) → answer (enlarged N m) p ≡ answer N p
-  unfolding answer lowestBridge
-  enlarged-answer p = rw (enlarged-passable, find-same (isBridge (enlarged N m)) (isBridge N) (range 0 (length (N .reaches))) (λ i mem. enlarged-bridge i)) (go (passable N) (lowestBridge N))
-    where
-      go : (b : Bool) (o : Option ℕ) → cond b (orLone (enlarged N m) o p) (shutInFinding (enlarged N m)) ≡ cond b (orLone N o p) (shutInFinding N)
-      go false o = enlarged-shut-in
-      go true none = refl
-      go true (some i) = enlarged-lone i
+  enlarged-answer = same-answers (enlarged N m) N enlarged-passable enlarged-bridge enlarged-shut-in (λ i e. enlarged-lone i)
 
   -- what first and next reply to any input with an accepted table
   module _ (few : m ≤ maxBasins) where

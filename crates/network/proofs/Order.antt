@@ -238,3 +238,12 @@ next-together N s t e h n = find-same (later-plan N s) (later-plan N t) (setting
 pub next-same : (N : Network) (s t : List ℕ) → isSetting N s ≡ true → isSetting N t ≡ true → before t s ≡ false → (nextPlan N s ≡ nextPlan N t) ↔ ((p : List ℕ) → isPlan N p ≡ true → before s p ≡ true → before t p ≡ false → ⊥)
 next-same N s t hs ht h =
     (λ e p k l m. next-apart N s t p ht k l m e, next-together N s t (setting-length N s hs ∙ sym (setting-length N t ht)) h)
+
+-- Networks with as many gates and the same plans have the same first plan, and the same next plan of every setting.
+pub same-first : (N M : Network) → gateCount N ≡ gateCount M → ((s : List ℕ) → isPlan N s ≡ isPlan M s) → firstPlan N ≡ firstPlan M
+unfolding firstPlan
+same-first N M e f = rw e (find-same (isPlan N) (isPlan M) (settings (gateCount M)) (λ s m. f s))
+
+pub same-next : (N M : Network) → gateCount N ≡ gateCount M → ((s : List ℕ) → isPlan N s ≡ isPlan M s) → (s : List ℕ) → nextPlan N s ≡ nextPlan M s
+unfolding nextPlan
+same-next N M e f s = rw e (find-same (later-plan N s) (later-plan M s) (settings (gateCount M)) (λ p m. ap (λ (b : Bool). before s p && b) (f p)))

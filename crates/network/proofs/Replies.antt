@@ -21,7 +21,7 @@ use Rattle.network.specs.Bridges.{isBridge, lowestBridge}
 use Rattle.network.specs.Replies.{Outcome, plan, shutIn, lone, refused, refusalNumber, number, planIn, reachIn, marksIn, countIn, SameReply, shutInSide, bridgeSide, shutInFinding, loneFinding, chosen, orLone, answer, firstAnswer, nextAnswer, firstOf, unless, roomFault}
 use Rattle.network.specs.Certificates.{Trichotomy, has-plan, not-passable, has-bridge}
 use Rattle.lists.proofs.Bools.{clash}
-use Rattle.lists.proofs.Searches.{find-some, find-none}
+use Rattle.lists.proofs.Searches.{find-some, find-none, find-is, find-first, find-lowest}
 use Rattle.lists.proofs.Ranges.{range-has}
 use Rattle.network.proofs.Order.{first-is-plan, first-none, next-none, next-is-plan, next-is-later, next-same}
 use Rattle.network.proofs.Bridges.{bridge-below, bridge-blocks}
@@ -108,6 +108,29 @@ lowest-is-bridge N e = (find-some (isBridge N) (range 0 (length (N .reaches))) e
 pub no-lowest : (N : Network) → lowestBridge N ≡ none → (i : ℕ) → isBridge N i ≡ false
 unfolding lowestBridge
 no-lowest N e i = bool-eq-false {b = isBridge N i} (λ y. clash y (find-none (isBridge N) e (range-has 0 (length (N .reaches)) (omega arith) (omega (arith, bridge-below N i y)))))
+
+-- networks with the same lone reaches have the same lowest
+pub same-lowest : (N M : Network) → ((i : ℕ) → isBridge N i ≡ isBridge M i) → lowestBridge N ≡ lowestBridge M
+unfolding lowestBridge
+same-lowest N M f = go (lowestBridge M) refl
+  where
+    go : (o : Option ℕ) → lowestBridge M ≡ o → lowestBridge N ≡ o
+    go none e = find-is (isBridge N) (range 0 (length (N .reaches))) (λ i m. f i ∙ no-lowest M e i)
+    go (some i) e =
+        let lone = f i ∙ lowest-is-bridge M e in
+        find-lowest (isBridge N) 0 (length (N .reaches)) i (omega arith) (omega (arith, bridge-below N i lone)) lone
+        (λ j z less. f j ∙ find-first (isBridge M) 0 (length (M .reaches)) e j (omega arith) less)
+
+-- those that are passable alike and have the same findings get the same replies
+pub same-answers : (N M : Network) → passable N ≡ passable M → ((i : ℕ) → isBridge N i ≡ isBridge M i) → shutInFinding N ≡ shutInFinding M →
+    ((i : ℕ) → isBridge M i ≡ true → loneFinding N i ≡ loneFinding M i) → (p : Option (List ℕ)) → answer N p ≡ answer M p
+unfolding answer
+same-answers N M e f shut alone p = rw (e, same-lowest N M f) (go (passable M) (lowestBridge M) refl)
+  where
+    go : (b : Bool) (o : Option ℕ) → lowestBridge M ≡ o → cond b (orLone N o p) (shutInFinding N) ≡ cond b (orLone M o p) (shutInFinding M)
+    go false o g = shut
+    go true none g = refl
+    go true (some i) g = alone i (lowest-is-bridge M g)
 
 -- Which of the three an accepted network gets.
 pub trichotomy : (N : Network) → Accepted N → Trichotomy N

@@ -18,21 +18,24 @@ use Rattle.network.specs.declared.Reach.{Reach}
 use Rattle.network.specs.declared.Refusal.{Refusal}
 use Rattle.lists.specs.Lists.{range, some?, find, elem}
 use Rattle.network.specs.Networks.{Network, inService, kindIn, maxReaches, endsAt, isWet, basinsOf, goodLength, goodEnds, Accepted}
-use Rattle.network.specs.Settings.{isGated, gatesFrom, gateCount, isSetting, settingFault, before, settings}
+use Rattle.network.specs.Settings.{isGated, gatesFrom, gateCount, isSetting, settingFault}
 use Rattle.network.specs.Orientations.{Arc, way, after, ways, passing, arcs, arcsUnder, unoriented}
 use Rattle.network.specs.Plans.{stronglyConnected, stronglyConnectedUnder, isPlan, passable, firstPlan, nextPlan}
 use Rattle.network.specs.Bridges.{sides, isCut, crossesBy, noReach, reachAt, crossesAlone, isBridge, lowestBridge}
 use Rattle.network.specs.Replies.{Outcome, shutInBasin, shutInSide, bridgeSide, shutInFinding, loneFinding, chosen, orLone, answer, firstAnswer, nextAnswer, unless, roomFault, firstReply, nextReply}
+use Rattle.network.specs.Choices.{plans, boundBytes}
 use Rattle.network.specs.Services.{shutReach, backReach, shutAt, backAt, serviceReaches, serviceNet, serviceNumber, renumbered}
 use Rattle.lists.proofs.Bools.{decide, clash, same-test}
 use Rattle.lists.proofs.Lists.{length-cond}
-use Rattle.lists.proofs.Searches.{some-keep, every-make, every-at, find-is, find-same, find-first, find-lowest, keep-in, length-keep, KeptFrom, kept-at, kept-below, kept-rises, kept-from}
+use Rattle.lists.proofs.Searches.{some-keep, every-make, every-at, find-is, find-first, find-lowest, keep-in, length-keep, KeptFrom, kept-at, kept-below, kept-rises, kept-from}
 use Rattle.lists.proofs.Ranges.{range-in}
 use Rattle.network.proofs.Ways.{plain-here, plain-after, shut-way, shut-plain, gated-in-service}
 use Rattle.network.proofs.Networks.{endsBelow, fault-none, tests-passed, same-basins}
 use Rattle.network.specs.Certificates.{Alone}
 use Rattle.network.proofs.Bridges.{uncrossed, alone-facts, alone-test, bridge-below, bridge-gated}
+use Rattle.network.proofs.Order.{same-first, same-next}
 use Rattle.network.proofs.Replies.{lowest-is-bridge, no-lowest}
+use Rattle.network.proofs.Choices.{same-plans, same-bound}
 
 -- ---- a reach put back in service is the reach that it was
 
@@ -105,12 +108,17 @@ module _ (N : Network) where
   service-passable = ap₂ stronglyConnected service-basins service-unoriented
 
   pub service-first : firstPlan (serviceNet N) ≡ firstPlan N
-  unfolding firstPlan
-  service-first = rw service-gates (find-same (isPlan (serviceNet N)) (isPlan N) (settings (gateCount N)) (λ s m. service-plan s))
+  service-first = same-first (serviceNet N) N service-gates service-plan
 
   pub service-next : (s : List ℕ) → nextPlan (serviceNet N) s ≡ nextPlan N s
-  unfolding nextPlan
-  service-next s = rw service-gates (find-same (λ p. before s p && isPlan (serviceNet N) p) (λ p. before s p && isPlan N p) (settings (gateCount N)) (λ p m. rw (service-plan p)))
+  service-next = same-next (serviceNet N) N service-gates service-plan
+
+  -- the same plans, and so the same bound gates
+  pub service-plans : plans (serviceNet N) ≡ plans N
+  service-plans = same-plans (serviceNet N) N service-gates service-plan
+
+  pub service-bound : boundBytes (serviceNet N) ≡ boundBytes N
+  service-bound = same-bound (serviceNet N) N service-gates service-plans
 
   pub service-shut-in : shutInFinding (serviceNet N) ≡ shutInFinding N
   unfolding shutInFinding shutInSide shutInBasin
