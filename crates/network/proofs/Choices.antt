@@ -1,17 +1,18 @@
--- Document 02, item 2: what the byte of a bound gate says of all plans, which search decides it, and what a gated reach made a flap leaves.
+-- Document 02, item 2: what the byte of a bound gate says of all plans, which search decides it, what a gated reach made a flap leaves, and that a gated loop is
+-- not bound.
 -- Assumes nothing.
 use Prim.Native.Nat.{ℕ, zero, suc, _+_, _≤_, _<_, compare·suc-suc}
 use native.Mathlib.Omega.{arith}
 use native.Mathlib.Decide.{ℕ-discrete}
-use mathlib.Core.Path.{_≡_, refl, sym, ap, ap₂, _∙_}
+use mathlib.Core.Path.{_≡_, refl, sym, ap, ap₂, subst, _∙_}
 use mathlib.Core.Bool.{Bool, true, false, cond, _&&_, _||_, and-comm, or-comm}
 use mathlib.Core.Logic.{_⊎_, inl, inr, ⊎-elim, _↔_}
 use mathlib.Core.List.{List, [], _∷_, _++_, map}
 use mathlib.Core.Option.{some}
 use lib.ListN.{length, getD, set, length-set, length-replicate, length-map}
-use lib.Seq.{getD-set-same, getD-set-other}
+use lib.Seq.{getD-set-same, getD-set-other, set-getD}
 use lib.Dec.{leb, ltb, eqb}
-use borrow.Author.Tests.{eqb-true, eqb-false, le-leb}
+use borrow.Author.Tests.{eqb-true, eqb-false, eq-eqb, le-leb}
 use mathlib.Mathlib.Data.Bool.Basic.{and-elim-left, and-elim-right, and-intro}
 use Rattle.network.specs.declared.Kind.the-variants.{Gated, Flap, TwoWay}
 use Rattle.network.specs.declared.State.{State}
@@ -23,14 +24,14 @@ use Rattle.lists.proofs.Searches.{every-at, every-fails, every-getD, keep-in, k
 use Rattle.lists.proofs.Ranges.{length-range, map-range-at}
 use Rattle.network.specs.Networks.{Network, endsAt, isWet, basinsOf, Accepted}
 use Rattle.network.specs.Settings.{isGated, gatesFrom, gates, gateCount, isSetting, settings}
-use Rattle.network.specs.Orientations.{Arc, way, ways, passing, arcs, reached, unoriented}
-use Rattle.network.specs.Plans.{stronglyConnectedUnder, isPlan, passable, firstPlan, nextPlan}
+use Rattle.network.specs.Orientations.{Arc, arc, way, ways, passing, arcs, arcsUnder, reached, unoriented}
+use Rattle.network.specs.Plans.{stronglyConnected, stronglyConnectedUnder, isPlan, passable, firstPlan, nextPlan}
 use Rattle.network.specs.Bridges.{noReach, reachAt}
 use Rattle.network.specs.Replies.{plan, firstAnswer}
 use Rattle.network.specs.Choices.{plans, hungAlike, boundByte, boundBytes, flapReach, flapAt}
 use Rattle.network.proofs.Networks.{endsBelow, fault-none, tests-passed, same-basins}
 use Rattle.network.proofs.Bridges.{bridge-blocks}
-use Rattle.network.proofs.Ways.{gate-at, plain-here, plain-after, reachOf, Looser}
+use Rattle.network.proofs.Ways.{Gate, gate-at, plain-here, plain-after, reachOf, Looser}
 use Rattle.network.proofs.Order.{setting-length, plan-in, plan-setting, first-is-plan, next-is-plan}
 use Rattle.network.proofs.Replies.{given-if-plan}
 use Rattle.network.proofs.Theorem.{setting-byte, orient-set, unoriented-2, unoriented-oriented, looser-strong, plan-reaches, plan-passable, without, as-drawn, as-turned, complete}
@@ -317,3 +318,50 @@ bound-flap N ok p y k l turned = (λ a. hung .1 ((flap-plan N k l turned) .1 (gi
 
     hung : (boundByte N k ≡ cond turned 0 1 → ⊥) ↔ HungIn N k (cond turned 1 0)
     hung = not-alike N k l p y (cond turned 1 0) (cond turned 0 1) (one-way turned)
+
+-- ---- gated loops
+
+-- hung either way a loop passes the same
+loop-passes : (x a b : ℕ) → x ≤ 1 → a ≡ b → passing x a b ≡ arc a b ∷ []
+loop-passes zero a b l e = refl
+loop-passes (suc zero) a b l e = rw e
+loop-passes (suc (suc x)) a b l e = absurd (omega arith)
+
+loop-arcs : (t : List Reach) (ws : List ℕ) (i x y : ℕ) → x ≤ 1 → y ≤ 1 → (getD t i noReach) .a ≡ (getD t i noReach) .b → arcs t (set ws i x) ≡ arcs t (set ws i y)
+loop-arcs [] ws i x y l m e = refl
+loop-arcs (r ∷ t) [] i x y l m e = refl
+loop-arcs (r ∷ t) (w ∷ ws) zero x y l m e = ap (λ (A : List Arc). A ++ arcs t ws) (loop-passes x (r .a) (r .b) l e ∙ sym (loop-passes y (r .a) (r .b) m e))
+loop-arcs (r ∷ t) (w ∷ ws) (suc i) x y l m e = ap (λ (A : List Arc). passing w (r .a) (r .b) ++ A) (loop-arcs t ws i x y l m e)
+
+-- "A may equal B; such a loop still has both settings if gated."
+module _ (N : Network) (p : List ℕ) (is-plan : isPlan N p ≡ true) (k : ℕ) (l : k < gateCount N) (loop : (reachAt N (getD (gates N) k 0)) .a ≡ (reachAt N (getD (gates N) k 0)) .b) where
+  setting : isSetting N p ≡ true
+  setting = plan-setting N p is-plan
+
+  long : length p ≡ gateCount N
+  long = setting-length N p setting
+
+  -- a plan with the loop hung either way is a plan
+  pub loop-turned : (x : ℕ) → x ≤ 1 → isPlan N (set p k x) ≡ true
+  unfolding isPlan isSetting stronglyConnectedUnder
+  loop-turned x small = and-intro (and-intro (eq-eqb (length (set p k x)) (gateCount N) (length-set p k x ∙ long)) bytes) (ap (stronglyConnected (basinsOf N)) same ∙ plan-reaches N p is-plan)
+    where
+      bytes : every (λ z. leb z 1) (set p k x) ≡ true
+      bytes = every-set (λ z. leb z 1) p k (and-elim-right (eqb (length p) (gateCount N)) _ setting) (le-leb x 1 small)
+
+      gate : Gate 0 (N .reaches) p k
+      gate = gate-at 0 (N .reaches) p k l
+
+      same : arcsUnder N (set p k x) ≡ arcsUnder N p
+      same =
+          ap (arcs (N .reaches)) (gate .turn x (omega (arith, long)))
+          ∙ loop-arcs (N .reaches) (ways (N .reaches) p) (gate .reach) x (getD (ways (N .reaches) p) (gate .reach) 3) small (omega (arith, gate .byte, setting-byte N p setting k l))
+          (subst (λ (i : ℕ). (reachAt N i) .a ≡ (reachAt N i) .b) (omega (arith, gate .numbered)) loop)
+          ∙ ap (arcs (N .reaches)) (set-getD (ways (N .reaches) p) (gate .reach) 3)
+
+  hung-loop : (x : ℕ) → x ≤ 1 → HungIn N k x
+  hung-loop x small = record { setting = set p k x; is-plan = loop-turned x small; hung = getD-set-same p k x 2 (omega (arith, long)) }
+
+  -- so its byte is 2
+  pub loop-either : boundByte N k ≡ 2
+  loop-either = omega (arith, byte-small N k, (not-turned N k l p is-plan) .1 (hung-loop 0 (omega arith)), (not-drawn N k l p is-plan) .1 (hung-loop 1 (omega arith)))
