@@ -14,3 +14,4 @@ pub mod Order
 pub mod Services
 pub mod Choices
 pub mod Enlarged
+pub mod Served

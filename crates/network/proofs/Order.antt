@@ -8,7 +8,7 @@ use mathlib.Core.List.{List, [], _∷_, map, List·Memᴰ, List·Memᴰ·head, L
 use mathlib.Core.Option.{Option, none, some}
 use native.Mathlib.Nat.{eq-or-lt-of-le}
 use native.Mathlib.Omega.{arith}
-use lib.ListN.{length}
+use lib.ListN.{length, replicate}
 use lib.Dec.{leb, ltb, eqb}
 use borrow.Author.Tests.{ltb-true, ltb-false, leb-true, eqb-true, eq-eqb, lt-ltb}
 use mathlib.Mathlib.Data.Bool.Basic.{and-elim-left, and-elim-right, and-intro, or-inl, or-inr, bool-eq-false, eq-true-of-not-eq-false}
@@ -57,6 +57,13 @@ before-trans (x ∷ s) (y ∷ t) (z ∷ u) h k =
 
 pub before-asym : (s t : List ℕ) → before s t ≡ true → before t s ≡ false
 before-asym s t h = bool-eq-false {b = before t s} (λ k. clash (before-trans s t s h k) (before-irrefl s))
+
+-- No list is before one of zeros.
+pub before-zeros : (s : List ℕ) (n : ℕ) → before s (replicate n 0) ≡ false
+before-zeros [] n = refl
+before-zeros (x ∷ s) zero = refl
+before-zeros (x ∷ s) (suc n) =
+    bool-eq-false {b = before (x ∷ s) (0 ∷ replicate n 0)} (λ k. ⊎-elim (λ l. omega arith) (λ r. clash (r .1) (before-zeros s n)) (before-cons x 0 s (replicate n 0) k))
 
 total-rest : (x y : ℕ) (s t : List ℕ) → (y ≡ x) ⊎ (y < x) → Compared s t → Compared (x ∷ s) (y ∷ t)
 total-rest x y s t (inr l) r = inr (inr (before-less y x t s l))
