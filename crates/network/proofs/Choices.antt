@@ -295,7 +295,7 @@ every-set t (y ∷ l) zero e f = and-intro f (and-elim-right (t y) _ e)
 every-set t (y ∷ l) (suc i) e f = and-intro (and-elim-left (t y) _ e) (every-set t l i (and-elim-right (t y) _ e) f)
 
 -- a reach made a flap has the same ends, and so an accepted network stays accepted
-flap-ends : (n : ℕ) (turned : Bool) (r : Reach) → endsBelow n r ≡ true → endsBelow n (flapReach turned r) ≡ true
+pub flap-ends : (n : ℕ) (turned : Bool) (r : Reach) → endsBelow n r ≡ true → endsBelow n (flapReach turned r) ≡ true
 flap-ends n false r e = e
 flap-ends n true r e = and-comm (ltb (r .b) n) (ltb (r .a) n) ∙ e
 

@@ -15,3 +15,4 @@ pub mod Services
 pub mod Choices
 pub mod Enlarged
 pub mod Served
+pub mod TwoWays

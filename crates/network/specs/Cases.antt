@@ -1,5 +1,5 @@
 -- The marked cases 1 to 11 of document 01 in one table, cases with shut reaches in another, cases with dry basins in a third, and the bytes of bound gates in a
--- fourth. proofs/Cases.antt computes them from the definitions.
+-- fourth; in a fifth, two-way reaches as two flaps. proofs/Cases.antt computes them from the definitions.
 -- Assumes nothing.
 use Prim.Native.Nat.{ℕ, _-_}
 use mathlib.Core.Path.{_≡_}
@@ -15,6 +15,7 @@ use Rattle.network.specs.Marks.{markBytes}
 use Rattle.network.specs.Services.{shutReach}
 use Rattle.network.specs.Replies.{Outcome, plan, shutIn, lone, refused, firstReply, nextReply}
 use Rattle.network.specs.Choices.{boundIn}
+use Rattle.network.specs.TwoWays.{twoFlapsAt}
 
 -- "G gated, F flap, T two-way."
 abbrev pub G : ℕ → ℕ → Reach
@@ -117,6 +118,15 @@ dryCases =
     row (net 5 (F 3 1 ∷ [])) (shutIn (firstByte 2) 1) [] ∷
     -- Case 7 on the basins 1, 3 and 4 of six.
     row (net 6 (G 1 3 ∷ G 3 4 ∷ G 4 1 ∷ [])) (plan (0 ∷ 0 ∷ 0 ∷ [])) (comes (0 ∷ 0 ∷ 0 ∷ []) (plan (1 ∷ 1 ∷ 1 ∷ [])) ∷ comes (1 ∷ 1 ∷ 1 ∷ []) (refused LastPlan) ∷ []) ∷ []
+
+-- Cases with a two-way reach as "two flaps, one each way".
+abbrev pub twoWayCases : List Case
+twoWayCases =
+    -- Cases 4 and 10: the replies are the same.
+    row (twoFlapsAt (net 2 (T 0 1 ∷ [])) 0) (plan []) (comes [] (refused LastPlan) ∷ []) ∷
+    row (twoFlapsAt (net 3 (G 0 1 ∷ T 1 2 ∷ [])) 1) (lone 0 (firstByte 6) 2) [] ∷
+    -- Case 8 with a two-way reach for its flap: plans 0 and 1.
+    row (twoFlapsAt (net 2 (T 1 0 ∷ G 0 1 ∷ [])) 0) (plan (0 ∷ [])) (comes (0 ∷ []) (plan (1 ∷ [])) ∷ comes (1 ∷ []) (refused LastPlan) ∷ []) ∷ []
 
 -- A network and the bytes that it gets, one for each gated reach in service, if it has a plan (document 02, item 2).
 pub record BoundCase : Type 0 where

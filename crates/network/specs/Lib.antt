@@ -11,4 +11,5 @@ pub mod Certificates
 pub mod Services
 pub mod Choices
 pub mod Enlarged
+pub mod TwoWays
 pub mod Cases
