@@ -16,21 +16,23 @@ use lib.Dec.{eqb}
 use borrow.Author.Tests.{le-leb, lt-ltb, eqb-true, eq-eqb}
 use Rattle.lists.specs.Lists.{range, some?, find, keep}
 use Rattle.lists.proofs.Bools.{or-cases, decide, clash, same-test}
-use Rattle.lists.proofs.Ranges.{range-has, range-in, map-range-same}
-use Rattle.lists.proofs.Searches.{every-make, some-make, some-has, some-at, find-some, find-none, find-first, find-same, keep-same}
+use Rattle.lists.proofs.Ranges.{range-has, range-in}
+use Rattle.lists.proofs.Searches.{every-make, some-make, some-has, some-at, find-some, find-none, find-first}
 use Rattle.network.specs.declared.Kind.the-variants.{Gated, Flap, TwoWay}
 use Rattle.network.specs.declared.State.{State}
 use Rattle.network.specs.declared.State.the-variants.{InService, Shut}
 use Rattle.network.specs.declared.Reach.{Reach}
 use Rattle.network.specs.Networks.{Network, net, inService, endsAt, isWet, basinsOf, maxBasins, maxReaches, Accepted}
-use Rattle.network.specs.Settings.{gateCount, isSetting, before, settings}
+use Rattle.network.specs.Settings.{gateCount, isSetting}
 use Rattle.network.specs.Orientations.{arc, arcsUnder, Walk, stay, step, unoriented, ways}
 use Rattle.network.specs.Plans.{stronglyConnectedUnder, isPlan, passable, firstPlan, nextPlan}
 use Rattle.network.specs.Bridges.{noReach, reachAt}
-use Rattle.network.specs.Choices.{plans, boundByte, boundBytes}
+use Rattle.network.specs.Choices.{boundBytes}
 use Rattle.network.proofs.Walks.{walk-trans, walk-within, walk-alike}
 use Rattle.network.proofs.Ways.{shut-out}
 use Rattle.network.proofs.Cuts.{strong-walks, walks-strong}
+use Rattle.network.proofs.Order.{same-first, same-next}
+use Rattle.network.proofs.Choices.{same-plans, same-bound}
 use Rattle.network.proofs.Networks.{endsBelow, fault-none, accepted, wet-make, wet-by, basin-in, basin-wet, basin-below, arcs-in-basins}
 use Rattle.components.specs.Components.{isTwoWay, twoWayArcs, connected, representative, isRepresentative, componentNumber, componentCount, isSingleton}
 use Rattle.components.specs.Contracted.{noneBefore, stays, contractedReach, contractedFrom, contracted}
@@ -301,24 +303,13 @@ module _ (N : Network) where
 
     -- so it has the same first plan, the same next plan of every setting, and the same bound gates
     pub contracted-first : firstPlan (contracted N) ≡ firstPlan N
-    unfolding firstPlan
-    contracted-first = rw contracted-gates (find-same (isPlan (contracted N)) (isPlan N) (settings (gateCount N)) (λ s m. contracted-plan s))
+    contracted-first = same-first (contracted N) N contracted-gates contracted-plan
 
     pub contracted-next : (s : List ℕ) → nextPlan (contracted N) s ≡ nextPlan N s
-    unfolding nextPlan
-    contracted-next s = rw contracted-gates (find-same (λ p. before s p && isPlan (contracted N) p) (λ p. before s p && isPlan N p) (settings (gateCount N)) (λ p m. ap (λ (b : Bool). before s p && b) (contracted-plan p)))
-
-    contracted-plans : plans (contracted N) ≡ plans N
-    unfolding plans
-    contracted-plans = rw contracted-gates (keep-same (isPlan (contracted N)) (isPlan N) (settings (gateCount N)) (λ s m. contracted-plan s))
-
-    contracted-byte : (k : ℕ) → boundByte (contracted N) k ≡ boundByte N k
-    unfolding boundByte
-    contracted-byte k = rw contracted-plans
+    contracted-next = same-next (contracted N) N contracted-gates contracted-plan
 
     pub contracted-bound : boundBytes (contracted N) ≡ boundBytes N
-    unfolding boundBytes
-    contracted-bound = rw contracted-gates (map-range-same (boundByte (contracted N)) (boundByte N) 0 (gateCount N) (λ k l m. contracted-byte k))
+    contracted-bound = same-bound (contracted N) N contracted-gates (same-plans (contracted N) N contracted-gates contracted-plan)
 
 -- ---- contracting again
 
