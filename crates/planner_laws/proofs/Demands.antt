@@ -191,11 +191,11 @@ module _ (N : Network) (ok : Accepted N) where
 -- a call of first, on rows (`planner_rows::first_plan`) or on records (`planner::first_plan`): both promise `FirstCall` of the lent table's network, and that is all
 -- that is asked here
 module _ (N : Network) {planBuffer marksBuffer plan′ marks′ : List ℕ} {r : Answer} where
-  pub first-over : FirstCall N planBuffer marksBuffer r plan′ marks′ → FirstOver N planBuffer marksBuffer plan′ marks′ r
-  first-over c a = subst⁻¹ (FirstShown N) (first-read N c ∙ first-roomy N a) (first-shown N (a .accepted))
+  pub first-demand : FirstCall N planBuffer marksBuffer r plan′ marks′ → FirstOver N planBuffer marksBuffer plan′ marks′ r
+  first-demand c a = subst⁻¹ (FirstShown N) (first-read N c ∙ first-roomy N a) (first-shown N (a .accepted))
 
   pub first-asked : FirstCall N planBuffer marksBuffer r plan′ marks′ → FirstAsked N planBuffer marksBuffer plan′ marks′ r
-  first-asked c = record { call = c; demand = first-over c }
+  first-asked c = record { call = c; demand = first-demand c }
 
 -- ---- demand 3
 
