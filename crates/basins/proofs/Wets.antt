@@ -18,7 +18,7 @@ use Rattle.network.proofs.Networks.{WetBy, wet-make, wet-by}
 use Rattle.tables.specs.Rows.{netOf}
 use Rattle.tables.proofs.Laws.{row-length, table-at}
 use Rattle.half_edges.specs.Ends.{halves, endOf}
-use Rattle.half_edges.specs.Chains.{none, Last, nothing, last}
+use Rattle.half_edges.specs.Chains.{noHalf, Last, nothing, last}
 use Rattle.half_edges.proofs.Halves.{end-even, end-odd}
 use Rattle.half_edges.proofs.Hands.{Current, current, from-hand}
 use Rattle.basins.specs.Wet.{Tabled}
@@ -90,15 +90,15 @@ module _ {n : ℕ} {ks xs ys head next : List ℕ} (t : Tabled n ks xs ys head n
   unserved-start v l = record { x = halves xs; within = omega arith; chain = t .index .heads v l; done = λ k a b s. absurd (omega arith) }
 
   module _ {v h : ℕ} (u : Unserved ks xs ys v h) where
-    pub in-hand : (h ≡ none → ⊥) → Current xs ys (u .x) v h
+    pub in-hand : (h ≡ noHalf → ⊥) → Current xs ys (u .x) v h
     in-hand some = current some (u .chain)
 
     -- its reach is in service
-    pub unserved-wet : (h ≡ none → ⊥) → serving ks h ≡ true → true ≡ isWet (netOf n ks xs ys) v
+    pub unserved-wet : (h ≡ noHalf → ⊥) → serving ks h ≡ true → true ≡ isWet (netOf n ks xs ys) v
     unserved-wet some p = let k = in-hand some in sym (half-wet v h (omega (arith, k .below, u .within)) (k .stands) p)
 
     -- or shut
-    pub unserved-more : (h ≡ none → ⊥) → serving ks h ≡ false → Unserved ks xs ys v (getD next h 0)
+    pub unserved-more : (h ≡ noHalf → ⊥) → serving ks h ≡ false → Unserved ks xs ys v (getD next h 0)
     unserved-more some p =
         record {
           x = h;
@@ -111,7 +111,7 @@ module _ {n : ℕ} {ks xs ys head next : List ℕ} (t : Tabled n ks xs ys head n
         k = in-hand some
 
     -- none is left
-    pub unserved-dry : h ≡ none → false ≡ isWet (netOf n ks xs ys) v
+    pub unserved-dry : h ≡ noHalf → false ≡ isWet (netOf n ks xs ys) v
     unserved-dry e = sym (bool-eq-false {b = isWet (netOf n ks xs ys) v} wet)
       where
         go : (s : Served v) → Last xs ys (u .x) v h → Dec (s .half < u .x) → ⊥

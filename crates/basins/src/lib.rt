@@ -9,7 +9,7 @@ ghost use Rattle.tables.specs.Rows.{netOf};
 ghost use Rattle.distances.specs.Distances.{noted};
 ghost use Rattle.basins.specs.Wet.{Tabled, anyBasin, isUnnoted, Lowest, isOther, sideNote, OthersNoted, FarSideNoted};
 use distances::UNREACHED;
-use half_edges::NONE;
+use half_edges::NO_HALF;
 
 // Whether basin v is wet: whether a reach in service has a half-edge there. Only the contract names the basin count and the ends.
 pub fn is_wet(
@@ -26,7 +26,7 @@ pub fn is_wet(
     ensures { λ r. ⌜ r ≡ isWet (netOf n (now (kinds .entry)) (now (a .entry)) (now (b .entry))) v ⌝ }
 {
     let mut h = head[v];
-    while h != NONE {
+    while h != NO_HALF {
         if kinds[h as usize / 2] < 3 {
             return true;
         }

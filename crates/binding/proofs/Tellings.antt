@@ -17,7 +17,7 @@ use Rattle.network.specs.Bridges.{noReach}
 use Rattle.network.specs.Choices.{boundByte, boundBytes}
 use Rattle.network.proofs.Networks.{not-gated, gates-below}
 use Rattle.network.proofs.Order.{setting-length, plan-setting}
-use Rattle.network.proofs.Theorem.{setting-byte, without}
+use Rattle.network.proofs.Theorem.{setting-byte, arcsWithout}
 use Rattle.network.proofs.Ways.{gate-way}
 use Rattle.network.proofs.Choices.{bound-length, bound-getD, bound-drawn, bound-turned}
 use Rattle.tables.specs.Rows.{netOf, gatesIn}
@@ -64,7 +64,7 @@ module _ {n : ℕ} {ks xs ys ws bytes₀ : List ℕ} (t : Tellable n ks xs ys ws
   room = omega (arith, length-take (gatesIn ks) bytes₀, setting-length N p (plan-setting N p (t .planned .is-plan)), count-is)
 
   -- without reach i, as the network says it and as the ways do
-  left-out : (i : ℕ) → without N (unoriented N) i ≡ arcs (tableOf ks xs ys) (set ws i 3)
+  left-out : (i : ℕ) → arcsWithout N (unoriented N) i ≡ arcs (tableOf ks xs ys) (set ws i 3)
   left-out i =
       ap (λ (v : List ℕ). arcs (tableOf ks xs ys) (set v i 3))
       (ways-unoriented (tableOf ks xs ys) (gateCount N) ∙ row-ways ks xs ys (t .planned .ends-a) (t .planned .ends-b) _ ∙ sym (t .unoriented))

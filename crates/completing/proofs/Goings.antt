@@ -20,7 +20,7 @@ use Rattle.tables.proofs.Laws.{row-length, row-a}
 use Rattle.orientations.specs.Least.{isTried}
 use Rattle.orientations.specs.Partials.{Bridgeless}
 use Rattle.orientations.proofs.Least.{bytes-ways}
-use Rattle.orientations.proofs.Goings.{Going, begun-either, going-held, going-drawn, going-turned, going-end, bridge-cut, is-bridge}
+use Rattle.orientations.proofs.Goings.{Going, begun-either, going-held, going-drawn, going-turned, going-end, bridge-alone, is-bridge}
 use Rattle.orienting.specs.Tries.{leftOut, ledRound}
 use Rattle.orienting.proofs.Rows.{row-arcs, row-below, row-led, row-led-turned, row-gated}
 use Rattle.series.specs.Guides.{Guides}
@@ -64,7 +64,7 @@ module _ (n : ℕ) (ks xs ys : List ℕ) (ea : length xs ≡ length ks) (eb : le
         let ba = row-led n ks xs ys ea eb ws i l ∙ p in
         let ab = row-led-turned n ks xs ys ea eb ws i l ∙ p′ in
         bridge-at below (is-bridge N ok fs ws i below (w .begun) g ba ab) (w .clear)
-        (bridge-cut N ok fs ws i below (w .begun) g ba ab (noted seen)
+        (bridge-alone N ok fs ws i below (w .begun) g ba ab (noted seen)
         (λ v k. f v k ∙ sym (ap₂ (λ (A : List Arc) (u : ℕ). reached A u v) (row-arcs n ks xs ys ea eb (set ws i 3)) (row-a ks xs ys ea eb i l))))
 
   -- a reach that is no gate is no bridge

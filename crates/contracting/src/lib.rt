@@ -41,7 +41,7 @@ fn note_after(kind: u8, note: u8) -> u8
 }
 
 // Writes what stays of each reach to the front of the new rows, in reach order, and returns how many stay.
-pub fn fill(
+pub fn fill_kept(
     kinds: &[u8],
     a: &[u16],
     b: &[u16],

@@ -71,14 +71,14 @@ pub value-taken :
 value-taken kinds k n rest m h = rw (m, h, le-leb 2 (suc (suc (length rest))) (omega arith))
 
 -- the search for a kind among those that may come: it is one of all if it is one of those from i on
-abbrev pub Sought : ℕ → List ℕ → ℕ → Type 0
-Sought k kinds i = elem k kinds ≡ elem k (drop i kinds)
+abbrev pub SoughtFrom : ℕ → List ℕ → ℕ → Type 0
+SoughtFrom k kinds i = elem k kinds ≡ elem k (drop i kinds)
 
-module _ (k : ℕ) (kinds : List ℕ) (i : ℕ) (s : Sought k kinds i) where
+module _ (k : ℕ) (kinds : List ℕ) (i : ℕ) (s : SoughtFrom k kinds i) where
   pub sought-here : i < length kinds → k ≡ getD kinds i 0 → true ≡ elem k kinds
   sought-here l e = sym (s ∙ rw (drop-cons kinds i 0 l, eq-eqb k (getD kinds i 0) e))
 
-  pub sought-more : i < length kinds → (k ≡ getD kinds i 0 → ⊥) → Sought k kinds (i + 1)
+  pub sought-more : i < length kinds → (k ≡ getD kinds i 0 → ⊥) → SoughtFrom k kinds (i + 1)
   sought-more l n = s ∙ rw (drop-cons kinds i 0 l, ne-eqb k (getD kinds i 0) n, add-one)
 
   pub sought-none : length kinds ≤ i → false ≡ elem k kinds

@@ -9,7 +9,7 @@ use borrow.Author.Count.{below-more}
 use lib.ListN.{length, getD, set, drop, replicate, length-append, length-drop, length-set, length-replicate, getD-replicate, List·getD-append}
 use lib.Seq.{getD-set-same, getD-set-other}
 use Rattle.half_edges.specs.Ends.{halves, endOf}
-use Rattle.half_edges.specs.Chains.{none, Last, nothing, last, Linked, Table}
+use Rattle.half_edges.specs.Chains.{noHalf, Last, nothing, last, Linked, Table}
 use Rattle.half_edges.proofs.Halves.{end-even, end-odd}
 
 module _ (n : ℕ) (xs ys : List ℕ) where
@@ -20,10 +20,10 @@ module _ (n : ℕ) (xs ys : List ℕ) where
       last (omega arith) e (λ h l m. below-more (λ k. c < k → endOf xs ys k ≡ v → ⊥) x (λ k s t. f k t s) (λ _. other) h m l)
 
   -- with no half-edge linked, every basin has none
-  pub linked-none : (head next : List ℕ) → n ≤ length head → halves xs ≤ length next → Linked 0 n xs ys (replicate n none ++ drop n head) next
+  pub linked-none : (head next : List ℕ) → n ≤ length head → halves xs ≤ length next → Linked 0 n xs ys (replicate n noHalf ++ drop n head) next
   linked-none head next hr nr =
       record {
-        heads = λ v l. nothing (List·getD-append (replicate n none) (drop n head) 0 v (rw length-replicate l) ∙ getD-replicate n v none 0 l) (λ h b. absurd (omega arith));
+        heads = λ v l. nothing (List·getD-append (replicate n noHalf) (drop n head) 0 v (rw length-replicate l) ∙ getD-replicate n v noHalf 0 l) (λ h b. absurd (omega arith));
         nexts = λ h b. absurd (omega arith);
         head-room = simp (length-append, length-replicate, length-drop) (omega arith);
         next-room = nr;

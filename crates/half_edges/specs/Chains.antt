@@ -7,12 +7,12 @@ use lib.ListN.{length, getD}
 use Rattle.half_edges.specs.Ends.{halves, endOf}
 
 -- What stands where there is no half-edge.
-abbrev pub none : ℕ
-none = 65535
+abbrev pub noHalf : ℕ
+noHalf = 65535
 
--- c is the last half-edge below x that stands at v, or `none` where there is no such half-edge.
+-- c is the last half-edge below x that stands at v, or `noHalf` where there is no such half-edge.
 pub data Last (xs ys : List ℕ) (x v c : ℕ) : Type 0 where
-  nothing : c ≡ none → ((h : ℕ) → h < x → endOf xs ys h ≡ v → ⊥) → Last xs ys x v c
+  nothing : c ≡ noHalf → ((h : ℕ) → h < x → endOf xs ys h ≡ v → ⊥) → Last xs ys x v c
   last : c < x → endOf xs ys c ≡ v → ((h : ℕ) → c < h → h < x → endOf xs ys h ≡ v → ⊥) → Last xs ys x v c
 
 -- The half-edges below x are linked: head has the last one at each basin below n, next the one before each.
@@ -26,10 +26,10 @@ pub record Linked (x n : ℕ) (xs ys head next : List ℕ) : Type 0 where
 abbrev pub Index : ℕ → List ℕ → List ℕ → List ℕ → List ℕ → Type 0
 Index n xs ys head next = Linked (halves xs) n xs ys head next
 
--- A table that an index can hold: as many ends B as ends A, all below n, and no half-edge with the number `none`.
+-- A table that an index can hold: as many ends B as ends A, all below n, and no half-edge with the number `noHalf`.
 pub record Table (n : ℕ) (xs ys : List ℕ) : Type 0 where
   pub paired : length ys ≡ length xs
-  pub few : halves xs < none
+  pub few : halves xs < noHalf
   pub ends-a : (i : ℕ) → i < length xs → getD xs i 0 < n
   pub ends-b : (i : ℕ) → i < length xs → getD ys i 0 < n
 

@@ -12,10 +12,10 @@ ghost use Rattle.half_edges.specs.Chains.{Index, Indexable};
 pub const HALF_EDGES: usize = 2 * MAX_REACHES;
 
 // What stands where there is no half-edge.
-pub const NONE: u16 = 65535;
+pub const NO_HALF: u16 = 65535;
 
 // Fills row[0..n] with x.
-pub fn fill(n: usize, x: u16, row: &mut [u16])
+pub fn fill_row(n: usize, x: u16, row: &mut [u16])
     requires { ⌜ n ≤ length (now row) ⌝ }
     ensures { λ _. ⌜ now (row .exit) ≡ replicate n x ++ drop n (now (row .entry)) ⌝ }
 {
@@ -42,7 +42,7 @@ pub fn index(n: usize, a: &[u16], b: &[u16], head: &mut [u16], next: &mut [u16])
     requires { ⌜ Indexable n (now a) (now b) (now head) (now next) ⌝ }
     ensures { λ _. ⌜ Index n (now (a .entry)) (now (b .entry)) (now (head .exit)) (now (next .exit)) ⌝ }
 {
-    fill(n, NONE, head);
+    fill_row(n, NO_HALF, head);
     let mut i = 0;
     while i < a.len() {
         link(head, next, a[i], (2 * i) as u16);

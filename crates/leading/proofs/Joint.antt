@@ -17,8 +17,8 @@ use Rattle.half_edges.specs.Chains.{Index, Table}
 use Rattle.search.specs.Searches.{Unseen, unseen, first}
 use Rattle.search.specs.Fronts.{Searching}
 use Rattle.search.proofs.Counts.{unseen-le, unseen-set}
-use Rattle.search.proofs.Fronts.{fresh-cleared, begins, scans, shut}
-use Rattle.leading.specs.Leads.{ownSeen, lane, Sided, Spreadable, Spread, met, on, Begun, Both}
+use Rattle.search.proofs.Fronts.{fresh-cleared, begins, scans, unseen-unreached}
+use Rattle.leading.specs.Leads.{ownSeen, lane, Sided, Spreadable, Spread, met, on, BothBegun, BothSearching}
 use Rattle.leading.proofs.Lanes.{own-seen, own-unseen, own-noted, own-blank, own-set, own-same, lane-length, lane-set}
 
 -- a search goes on if what it queued stands in another queue of the same length
@@ -40,8 +40,8 @@ requeued e f s =
     }
 
 -- the other one first
-pub swapped : {A B : List Arc} {n c d : ℕ} {up down : Bool} {seen queue : List ℕ} {done tail done′ tail′ : ℕ} → Both A B n c d up down seen queue done tail done′ tail′
-    → Both B A n d c down up seen queue done′ tail′ done tail
+pub swapped : {A B : List Arc} {n c d : ℕ} {up down : Bool} {seen queue : List ℕ} {done tail done′ tail′ : ℕ} → BothSearching A B n c d up down seen queue done tail done′ tail′
+    → BothSearching B A n d c down up seen queue done′ tail′ done tail
 swapped p =
     record {
       mine = p .other;
@@ -52,7 +52,7 @@ swapped p =
       queue-length = p .queue-length;
     }
 
-module _ {A B : List Arc} {n c d : ℕ} {up : Bool} {seen queue : List ℕ} {done tail done′ tail′ : ℕ} (p : Both A B n c d up (not up) seen queue done tail done′ tail′) where
+module _ {A B : List Arc} {n c d : ℕ} {up : Bool} {seen queue : List ℕ} {done tail done′ tail′ : ℕ} (p : BothSearching A B n c d up (not up) seen queue done tail done′ tail′) where
   -- what a scan of the basin in hand requires
   pub spreadable : {xs ys head next : List ℕ} (ws : List ℕ) → Table n xs ys → length xs ≤ length ws → Index n xs ys head next → done < tail → c < unreached → (c ≡ d → ⊥)
       → Spreadable n xs ys ws head next seen queue done tail up c d
@@ -75,7 +75,7 @@ module _ {A B : List Arc} {n c d : ℕ} {up : Bool} {seen queue : List ℕ} {don
   module _ {seen′ queue′ : List ℕ} {r : ℕ} where
     -- a turn of the one, in which they have not met
     pub both-on : ((u w : ℕ) → Next A u w → w < n) → done < tail → length seen′ ≡ length seen → length queue′ ≡ length queue
-        → Spread A (getD (lane up queue) done 0) up n c d seen queue tail seen′ queue′ r → r ≤ n → Both A B n c d up (not up) seen′ queue′ (done + 1) r done′ tail′
+        → Spread A (getD (lane up queue) done 0) up n c d seen queue tail seen′ queue′ r → r ≤ n → BothSearching A B n c d up (not up) seen′ queue′ (done + 1) r done′ tail′
     both-on f l m q (met _ _ _ _ e) low = absurd (omega arith)
     both-on f l m q (on _ o) low =
         record {
@@ -99,7 +99,7 @@ module _ {A B : List Arc} {n c d : ℕ} {up : Bool} {seen queue : List ℕ} {don
   pub both-shut : ((u w : ℕ) → Next A u w → w < n) → c < n → d < n → (c ≡ d → ⊥) → tail ≤ done → false ≡ reached A c d
   both-shut f b g apart l =
       let in-seen : d < length seen = omega (arith, p .seen-length) in
-      shut d f b g l (p .mine) (own-unseen c seen d in-seen (λ e. apart (sym e ∙ own-noted d seen d in-seen (p .other .started))))
+      unseen-unreached d f b g l (p .mine) (own-unseen c seen d in-seen (λ e. apart (sym e ∙ own-noted d seen d in-seen (p .other .started))))
 
 -- ---- how they begin
 
@@ -172,7 +172,7 @@ module _ (n : ℕ) where
       up-lane : lane true ends ≡ set (lane true (set queue₀ 0 start)) 0 goal
       up-lane = subst (λ (m : ℕ). lane true (set (set queue₀ 0 start) m goal) ≡ set (lane true (set queue₀ 0 start)) 0 goal) (omega (arith, long, length-set queue₀ 0 start)) (lane-set true (set queue₀ 0 start) 0 goal (omega (arith, length-set queue₀ 0 start)))
 
-      both-begin : {A B : List Arc} → Both A B n start goal false true (set half goal goal) ends 0 1 0 1
+      both-begin : {A B : List Arc} → BothSearching A B n start goal false true (set half goal goal) ends 0 1 0 1
       both-begin =
           record {
             mine = rw (start-sees, down-lane) (begun-alone (lane false (set queue₀ (n - 1) goal)) (lane-length false (set queue₀ (n - 1) goal) ∙ length-set queue₀ (n - 1) goal ∙ long) b);
@@ -183,6 +183,6 @@ module _ (n : ℕ) where
             queue-length = length-set (set queue₀ 0 start) (n - 1) goal ∙ length-set queue₀ 0 start ∙ long;
           }
 
-pub begun : {A B : List Arc} {n start goal : ℕ} {seen queue : List ℕ} (queue₀ : List ℕ) → Begun n start goal queue₀ seen queue → start < n → goal < n → (start ≡ goal → ⊥) → n < unreached → length queue₀ ≡ n
-    → Both A B n start goal false true seen queue 0 1 0 1
+pub begun : {A B : List Arc} {n start goal : ℕ} {seen queue : List ℕ} (queue₀ : List ℕ) → BothBegun n start goal queue₀ seen queue → start < n → goal < n → (start ≡ goal → ⊥) → n < unreached → length queue₀ ≡ n
+    → BothSearching A B n start goal false true seen queue 0 1 0 1
 begun {n = n} {start = start} {goal = goal} queue₀ g b h apart few long = rw (g .notes, g .waiting) (both-begin n start goal b h apart few queue₀ long)

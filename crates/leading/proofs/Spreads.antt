@@ -11,7 +11,7 @@ use lib.ListN.{length, getD, set, length-set}
 use lib.Seq.{getD-set-same, getD-set-other}
 use Rattle.distances.specs.Distances.{unreached}
 use Rattle.half_edges.specs.Ends.{arcsOf, halves, endOf, otherOf, leaves}
-use Rattle.half_edges.specs.Chains.{none, Last}
+use Rattle.half_edges.specs.Chains.{noHalf, Last}
 use Rattle.half_edges.proofs.Halves.{half-arc}
 use Rattle.half_edges.proofs.Hands.{Current}
 use Rattle.search.specs.Searches.{Seen, Unseen, unseen, Visited, first, again}
@@ -116,7 +116,7 @@ module _ {xs ys ws : List ℕ} {u : ℕ} {up : Bool} {n c d : ℕ} {seen₀ queu
         }
 
   -- the end: all are done
-  pub spread-on : {seen queue : List ℕ} {end h : ℕ} → halves xs < none → h ≡ none → tail + unseen seen₀ ≤ n → Spreading xs ys ws u up n c d seen₀ queue₀ tail seen queue end h
+  pub spread-on : {seen queue : List ℕ} {end h : ℕ} → halves xs < noHalf → h ≡ noHalf → tail + unseen seen₀ ≤ n → Spreading xs ys ws u up n c d seen₀ queue₀ tail seen queue end h
       → Spread (arcsOf xs ys ws) u up n c d seen₀ queue₀ tail seen queue end
   spread-on few e room s =
       on (omega (arith, s .counted)) (record { scanned = scanned few e (s .scanning); others = s .others; lanes = s .lanes; counted = s .counted; sides = s .sides })

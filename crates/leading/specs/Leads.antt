@@ -66,12 +66,12 @@ pub data Spread (A : List Arc) (u : ℕ) (up : Bool) (n c d : ℕ) (seen queue :
   on : r ≤ n → SpreadOn A u up n c d seen queue tail seen′ queue′ r → Spread A u up n c d seen queue tail seen′ queue′ r
 
 -- How both begin.
-pub record Begun (n start goal : ℕ) (queue seen′ queue′ : List ℕ) : Type 0 where
+pub record BothBegun (n start goal : ℕ) (queue seen′ queue′ : List ℕ) : Type 0 where
   pub notes : seen′ ≡ set (set (replicate n unreached) start start) goal goal
   pub waiting : queue′ ≡ set (set queue 0 start) (n - 1) goal
 
 -- Both are under way: the search from c along the arcs A, and that from d along B, each with rows of its own; and together they have queued no more basins than there are.
-pub record Both (A B : List Arc) (n c d : ℕ) (up down : Bool) (seen queue : List ℕ) (done tail other-done other-tail : ℕ) : Type 0 where
+pub record BothSearching (A B : List Arc) (n c d : ℕ) (up down : Bool) (seen queue : List ℕ) (done tail other-done other-tail : ℕ) : Type 0 where
   pub mine : Searching A n c (ownSeen c seen) (lane up queue) done tail
   pub other : Searching B n d (ownSeen d seen) (lane down queue) other-done other-tail
   pub sides : Sided n c d seen
@@ -88,4 +88,4 @@ pub record Underway (n : ℕ) (xs ys ws head next : List ℕ) (start goal : ℕ)
   pub starts : start < n
   pub goals : goal < n
   pub apart : start ≡ goal → ⊥
-  pub both : Both (arcsOf xs ys ws) (arcsOf xs ys (map flipWay ws)) n start goal false true seen queue 0 1 0 1
+  pub both : BothSearching (arcsOf xs ys ws) (arcsOf xs ys (map flipWay ws)) n start goal false true seen queue 0 1 0 1

@@ -9,9 +9,9 @@ ghost use Rattle.distances.specs.Distances.{unreached};
 ghost use Rattle.network.specs.Orientations.{reached};
 ghost use Rattle.half_edges.specs.Ends.{arcsOf, sided};
 ghost use Rattle.search.specs.Searches.{Searchable, unseen};
-ghost use Rattle.leading.specs.Leads.{placeOf, lane, NotedBy, Begun, Spreadable, Spread, Underway};
+ghost use Rattle.leading.specs.Leads.{placeOf, lane, NotedBy, BothBegun, Spreadable, Spread, Underway};
 use distances::UNREACHED;
-use half_edges::NONE;
+use half_edges::NO_HALF;
 
 // The place in a queue of n of what a search queued k-th: from the front or, upstream, from the back.
 fn place(n: usize, k: usize, up: bool) -> usize
@@ -70,7 +70,7 @@ fn scan(
 {
     let mut end = tail;
     let mut h = head[queue[place(n, k, up)] as usize];
-    while h != NONE {
+    while h != NO_HALF {
         let half = h;
         h = next[half as usize];
         if !search::passes(ways, half, up) {
@@ -164,9 +164,9 @@ fn begin(n: usize, start: u16, goal: u16, seen: &mut [u16], queue: &mut [u16])
     requires { ⌜ goal < n ⌝ }
     requires { ⌜ length (now seen) ≡ n ⌝ }
     requires { ⌜ length (now queue) ≡ n ⌝ }
-    ensures { λ _. ⌜ Begun n start goal (now (queue .entry)) (now (seen .exit)) (now (queue .exit)) ⌝ }
+    ensures { λ _. ⌜ BothBegun n start goal (now (queue .entry)) (now (seen .exit)) (now (queue .exit)) ⌝ }
 {
-    half_edges::fill(n, UNREACHED, seen);
+    half_edges::fill_row(n, UNREACHED, seen);
     seen[start as usize] = start;
     seen[goal as usize] = goal;
     queue[0] = start;

@@ -21,7 +21,7 @@ use Rattle.network.proofs.Replies.{trichotomy}
 use Rattle.file_records.specs.Records.{Front, broken, whole, bodyOf, withBody, takeRecord, endKind}
 use lib.Pow.{areBytes}
 use Rattle.netfile_format.specs.Files.{Reading, refused, read, headDue, reachDue, onRecord, atEnd, goodInner, recordReach, withReach, inside, readReaches, readFile}
-use Rattle.netfile_format.proofs.Files.{write-read}
+use Rattle.netfile_format.proofs.Files.{file-write-read}
 use Rattle.lines.specs.Listings.{maxBytes, maxPlans, refusalLine, replyLines, readingLines, listing}
 use Rattle.listing.specs.Laws.{Printed, one-line, plans}
 use Rattle.listing_state.proofs.Starts.{bytes-first}
@@ -113,4 +113,4 @@ printed file bytes = go (readFile (take maxBytes file)) refl
 
     go : (x : Reading) → readFile (take maxBytes file) ≡ x → Printed file
     go (refused r) e = refusal-printed file r (refused-by r (subst Fair e (file-fair (take maxBytes file)))) (ap readingLines e)
-    go (read N) e = of-network N e (trichotomy N (write-read (take maxBytes file) N (bytes-first maxBytes file bytes) e .accepted))
+    go (read N) e = of-network N e (trichotomy N (file-write-read (take maxBytes file) N (bytes-first maxBytes file bytes) e .accepted))

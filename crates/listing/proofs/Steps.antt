@@ -126,8 +126,8 @@ module _ (l : Lister) (ks xs ys ws : List ℕ) (left g : ℕ) (held : g ≡ gate
 
   -- a step that was taken: the bytes before the next plan's gate stand, and the state after it
   module _ {ws′ : List ℕ} {r : ℕ} (a : Advanced N ks s ws′ r) where
-    pub front : FrontStands ks ws′ r (l .setting)
-    front t = go a
+    pub step-front : FrontStands ks ws′ r (l .setting)
+    step-front t = go a
       where
         go : Advanced N ks s ws′ r → take (gatesBefore ks r) (l .setting) ≡ take (gatesBefore ks r) (bytesRow ks ws′)
         go (moved d e is oriented) = front-stands d
@@ -159,10 +159,10 @@ pub record Known (n : ℕ) (ks fs xs ys : List ℕ) (d : Due) (s us ws head next
   pub spare : length us ≡ length ws
   pub stands : Standing n ks fs xs ys d s ws
 
-pub known : {n : ℕ} {ks fs xs ys : List ℕ} {d : Due} {s us ws head next seen queue : List ℕ} {r : Bool} → Kept n ks fs xs ys d s us ws head next seen queue r → r ≡ true
+pub kept-known : {n : ℕ} {ks fs xs ys : List ℕ} {d : Due} {s us ws head next seen queue : List ℕ} {r : Bool} → Kept n ks fs xs ys d s us ws head next seen queue r → r ≡ true
     → Known n ks fs xs ys d s us ws head next seen queue
-known (unknown y) t = clash t y
-known (kept y ready full spare stands) t = record { ready = ready; tried-row = full; spare = spare; stands = stands }
+kept-known (unknown y) t = clash t y
+kept-known (kept y ready full spare stands) t = record { ready = ready; tried-row = full; spare = spare; stands = stands }
 
 -- working memory that was prepared, with all gates tried
 pub primed-kept : {n : ℕ} {ks fs xs ys s us ws ws₀ head head₀ next next₀ seen queue : List ℕ} {r : Bool} (d : Due) → Spare ks ws₀ head₀ next₀ → length ws ≡ length ws₀ → length us ≡ length ws

@@ -21,8 +21,8 @@ use Rattle.netfile_format.specs.declared.ReadAnswer.the-variants.{Refused, Read
 use lib.Pow.{areBytes}
 use Rattle.netfile_format.specs.Files.{Reading, refused, read, readFile}
 use Rattle.netfile_format.specs.Answers.{withRoom, reachesRead, NetworkRead}
-use Rattle.netfile_format.proofs.Files.{write-read}
-use Rattle.netfile_format.proofs.Calls.{room-kept, answer-refused, Counted, counted, same-network}
+use Rattle.netfile_format.proofs.Files.{file-write-read}
+use Rattle.netfile_format.proofs.Calls.{room-kept, reading-refused, Counted, counted, same-network}
 use Rattle.listing_state.specs.declared.Lister.{Lister}
 use Rattle.listing_state.specs.declared.Started.{Started}
 use Rattle.lines.specs.Listings.{maxBytes, maxPlans, replyLines, readingLines, listing}
@@ -31,8 +31,8 @@ use Rattle.listing_state.specs.Parts.{FirstLine, RefusalLine}
 use Rattle.listing_state.proofs.States.{first-roomy, refusal-pending}
 
 -- what is read of them is read of the first 8,000
-pub first-read : (file : List ℕ) {n : ℕ} {kinds a b kinds′ a′ b′ : List ℕ} {r : ReadAnswer} → n ≡ min (length file) maxBytes → NetworkRead (take n file) kinds a b r kinds′ a′ b′ → NetworkRead (take maxBytes file) kinds a b r kinds′ a′ b′
-first-read file {kinds} {a} {b} {kinds′} {a′} {b′} {r} e c =
+pub front-read : (file : List ℕ) {n : ℕ} {kinds a b kinds′ a′ b′ : List ℕ} {r : ReadAnswer} → n ≡ min (length file) maxBytes → NetworkRead (take n file) kinds a b r kinds′ a′ b′ → NetworkRead (take maxBytes file) kinds a b r kinds′ a′ b′
+front-read file {kinds} {a} {b} {kinds′} {a′} {b′} {r} e c =
     subst (λ f. NetworkRead f kinds a b r kinds′ a′ b′) (ap (λ (k : ℕ). take k file) e ∙ take-min maxBytes file) c
 
 pub bytes-first : (m : ℕ) (file : List ℕ) → areBytes file ≡ true → areBytes (take m file) ≡ true
@@ -44,7 +44,7 @@ module _ (file kinds a b kinds′ a′ b′ : List ℕ) where
   -- the file is refused
   pub start-refused : (r : Refusal) (l : Lister) → NetworkRead (take maxBytes file) kinds a b (Refused r) kinds′ a′ b′ → RefusalLine (refusalNumber r) l → Starting file kinds a b (record { lister = l; reaches = 0 }) kinds′ a′ b′
   start-refused r l c state =
-      let none-read : fileRead file kinds a b ≡ refused r = answer-refused _ r (sym (c .answer)) in
+      let none-read : fileRead file kinds a b ≡ refused r = reading-refused _ r (sym (c .answer)) in
       record { rows = c .rows; counted = rw none-read; to-print = rw none-read (refusal-pending _ _ l state) }
 
   module _ (n m : ℕ) (c : NetworkRead (take maxBytes file) kinds a b (Read n m) kinds′ a′ b′) where
@@ -69,7 +69,7 @@ module _ (file kinds a b kinds′ a′ b′ : List ℕ) where
         }
       where
         good-table : Accepted (C .network)
-        good-table = write-read (take maxBytes file) (C .network) bytes (room-kept _ (readFile (take maxBytes file)) (C .network) (C .is)) .accepted
+        good-table = file-write-read (take maxBytes file) (C .network) bytes (room-kept _ (readFile (take maxBytes file)) (C .network) (C .is)) .accepted
 
 -- ---- what a caller of the start knows
 
@@ -88,7 +88,7 @@ module _ (file kinds a b kinds′ a′ b′ : List ℕ) (r : Started) (s : Start
     room-enough : (x : Reading) → readFile (take maxBytes file) ≡ x → withRoom (roomOf kinds a b) x ≡ x
     room-enough (refused e) h = refl
     room-enough (read N) h =
-        rw (le-leb (length (N .reaches)) (roomOf kinds a b) (omega (arith, accepted N (write-read (take maxBytes file) N (bytes-first maxBytes file bytes) h .accepted) .few-reaches)))
+        rw (le-leb (length (N .reaches)) (roomOf kinds a b) (omega (arith, accepted N (file-write-read (take maxBytes file) N (bytes-first maxBytes file bytes) h .accepted) .few-reaches)))
 
     pub started-listing : pending (r .lister) (take (r .reaches) kinds′) (take (r .reaches) a′) (take (r .reaches) b′) ≡ listing file
     unfolding listing

@@ -10,7 +10,7 @@ use mathlib.Core.List.{List, map}
 use lib.Pow.{pow-mono}
 use mathlib.Mathlib.Data.Bool.Basic.{bool-eq-false}
 use Rattle.lists.specs.Lists.{range, elem}
-use Rattle.network.specs.Marks.{bit, digits}
+use Rattle.network.specs.Marks.{bit, binaryOf}
 use Rattle.lists.proofs.Searches.{keep-in, elem-in, elem-keep}
 use Rattle.lists.proofs.Ranges.{range-has, range-in}
 use Rattle.distances.specs.Distances.{noted}
@@ -33,17 +33,17 @@ module _ (n : ℕ) (seen : List ℕ) (b : ℕ) where
 
 module _ (p : ℕ → Bool) where
   -- n digits make a number below 2 ^ n
-  digits-below : (i n : ℕ) → digits (map p (range i n)) < 2 ^ n
+  digits-below : (i n : ℕ) → binaryOf (map p (range i n)) < 2 ^ n
   digits-below i zero = omega arith
   digits-below i (suc n) = rw pow-suc (omega (arith, bit-lt (p i), digits-below (suc i) n))
 
   -- as long as a digit of eight is left, they make a number below 128
-  pub digits-room : (i j : ℕ) → j < 8 → digits (map p (range i j)) < 128
+  pub digits-room : (i j : ℕ) → j < 8 → binaryOf (map p (range i j)) < 128
   digits-room i j h = omega (arith, digits-below i j, pow-mono {i = j} {j = 7} (omega arith))
 
   -- one more digit, below those that are taken
   pub digits-more : (first j : ℕ) → j < 8
-      → 2 * digits (map p (range (first + 8 - j) j)) + bit (p (first + 7 - j)) ≡ digits (map p (range (first + 8 - (j + 1)) (j + 1)))
+      → 2 * binaryOf (map p (range (first + 8 - j) j)) + bit (p (first + 7 - j)) ≡ binaryOf (map p (range (first + 8 - (j + 1)) (j + 1)))
   digits-more first j h =
       let this : first + 8 - (j + 1) ≡ first + 7 - j = omega arith in
       let next : first + 8 - j ≡ suc (first + 7 - j) = omega arith in

@@ -6,7 +6,7 @@ ghost use mathlib.Core.List.{_++_};
 ghost use Prim.Native.Nat.{_+_, _≤_, _<_};
 ghost use lib.ListN.{length, take, drop};
 ghost use Rattle.lists.specs.Lists.{elem};
-ghost use Rattle.network.specs.Marks.{markBytes, bit, markByte, marksOf, onesIn};
+ghost use Rattle.network.specs.Marks.{markBytes, bit, markByte, marksOf, markCount};
 ghost use Rattle.lists.specs.Words.{wordOf};
 ghost use Rattle.marks.specs.Sets.{markedSet};
 use distances::UNREACHED;
@@ -71,7 +71,7 @@ fn word_at(marks: &[u8], at: usize) -> u64
 // The count of marked basins: the ones in the bytes of marks, taken as 64-bit words.
 pub fn count_marks(marks: &[u8]) -> u16
     requires { ⌜ markBytes ≤ length (now marks) ⌝ }
-    ensures { λ r. ⌜ r ≡ onesIn (take markBytes (now (marks .entry))) ⌝ }
+    ensures { λ r. ⌜ r ≡ markCount (take markBytes (now (marks .entry))) ⌝ }
 {
     let mut total = 0;
     let mut at = 0;

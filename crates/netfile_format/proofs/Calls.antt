@@ -24,13 +24,13 @@ use Rattle.netfile_format.specs.Answers.{readAnswer, withRoom, reachesRe
 use Rattle.file_records.specs.declared.WriteAnswer.{WriteAnswer}
 use Rattle.file_records.specs.Puts.{Wrote, roomFor, WroteWhole}
 use Rattle.network.specs.Replies.{firstOf}
-use Rattle.netfile_format.proofs.Files.{write-read, length-file, reaches-again, span-again}
+use Rattle.netfile_format.proofs.Files.{file-write-read, length-file, reaches-again, span-again}
 use Rattle.lists.proofs.Lists.{sets-after}
 use Rattle.file_records.proofs.Puts.{put-refused, put-short, put-whole}
 
-pub answer-refused : (x : Reading) (r : Refusal) → readAnswer x ≡ Refused r → x ≡ refused r
-answer-refused (refused e) r h = cc
-answer-refused (read N) r h = cc
+pub reading-refused : (x : Reading) (r : Refusal) → readAnswer x ≡ Refused r → x ≡ refused r
+reading-refused (refused e) r h = cc
+reading-refused (read N) r h = cc
 
 -- a reading whose answer is two counts is a network with these counts
 pub record Counted (x : Reading) (n m : ℕ) : Type 0 where
@@ -59,7 +59,7 @@ module _ (file kinds a b : List ℕ) where
   untouched = record { kind-row = refl; a-row = refl; b-row = refl }
 
   pub call-refused : (r : Refusal) → readAnswer (readFile file) ≡ Refused r → NetworkRead file kinds a b (Refused r) kinds a b
-  call-refused r h = call-of kinds a b (refused r) (rw (answer-refused (readFile file) r h)) untouched
+  call-refused r h = call-of kinds a b (refused r) (rw (reading-refused (readFile file) r h)) untouched
 
   module _ (n m : ℕ) (h : readAnswer (readFile file) ≡ Read n m) where
     C : Counted (readFile file) n m
@@ -73,7 +73,7 @@ module _ (file kinds a b : List ℕ) where
 
     module _ (bytes : areBytes file ≡ true) (l : m ≤ roomOf kinds a b) where
       written : file ≡ fileOf (C .network)
-      written = write-read file (C .network) bytes (C .is) .bytes
+      written = file-write-read file (C .network) bytes (C .is) .bytes
 
       -- what the records of a table are read as by f
       of-table : {A : Type 0} (f : ℕ → List ℕ → A) → f m (drop 3 file) ≡ f (length (C .network .reaches)) (reachRecords (C .network .reaches) ++ (9 ∷ []))

@@ -100,8 +100,8 @@ read-reaches n (suc left) (r ∷ t) l h =
         ∙ rw (s .left, and-elim-left (endsBelow n r) _ h, e)
 
 -- An accepted network that is written is read again as it was.
-pub read-write : (N : Network) → Accepted N → readFile (fileOf N) ≡ read N
-read-write N h =
+pub file-read-write : (N : Network) → Accepted N → readFile (fileOf N) ≡ read N
+file-read-write N h =
     head-step (fileOf N) 1 (omega arith) (value-taken headDue 1 (N .basins) (reachRecords (N .reaches) ++ (9 ∷ [])) refl body-head) .next
     ∙ rw (word-bytes (N .basins), good N h .count)
     (read-reaches (N .basins) maxReaches (N .reaches) (leb-true (length (N .reaches)) maxReaches (good N h .few)) (good N h .ends))
@@ -237,8 +237,8 @@ pub record WasWritten (f : List ℕ) (N : Network) : Type 0 where
   pub accepted : Accepted N
 
 -- A file that is read as a network is the one that is written for it, and the network is accepted.
-pub write-read : (f : List ℕ) (N : Network) → areBytes f ≡ true → readFile f ≡ read N → WasWritten f N
-write-read f N b e = go (takenAnswer (takeRecord headDue f)) refl
+pub file-write-read : (f : List ℕ) (N : Network) → areBytes f ≡ true → readFile f ≡ read N → WasWritten f N
+file-write-read f N b e = go (takenAnswer (takeRecord headDue f)) refl
   where
     n : ℕ
     n = wordOf (take 2 (drop 1 f))
@@ -269,7 +269,7 @@ write-read f N b e = go (takenAnswer (takeRecord headDue f)) refl
 
 -- Two files that are read as one network are the same bytes.
 pub same-file : (f g : List ℕ) (N : Network) → areBytes f ≡ true → areBytes g ≡ true → readFile f ≡ read N → readFile g ≡ read N → f ≡ g
-same-file f g N p q d e = write-read f N p d .bytes ∙ sym (write-read g N q e .bytes)
+same-file f g N p q d e = file-write-read f N p d .bytes ∙ sym (file-write-read g N q e .bytes)
 
 -- the length of a network file: the head and the end take four bytes
 pub length-file : (N : Network) → length (fileOf N) ≡ 4 + length (reachRecords (N .reaches))

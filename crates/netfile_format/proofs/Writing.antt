@@ -16,7 +16,7 @@ use Rattle.network.specs.Networks.{Network, inService, kindIn}
 use Rattle.network.specs.Bridges.{noReach}
 use Rattle.network.specs.Tables.{stateOf, tableOf}
 use Rattle.network.proofs.Networks.{state-in-service, state-shut}
-use Rattle.tables.proofs.Laws.{reachOf, table-at}
+use Rattle.tables.proofs.Laws.{reachOfNumbers, table-at}
 use Rattle.file_records.specs.Records.{twoBytes}
 use Rattle.netfile_format.specs.Files.{reachKind, stateRecord, reachRecord, reachRecords, fileOf}
 use Rattle.netfile_format.specs.Answers.{stateLength}
@@ -62,14 +62,14 @@ module _ (l l₁ : List ℕ) (at k kind a b : ℕ) (e : k ≡ reachKind (kindIn 
   abbrev ends : List ℕ
   ends = twoBytes a ++ twoBytes b
 
-  pub put-in-service : kind < 3 → l₁ ≡ sets l at (k ∷ ends) → l₁ ≡ sets l at (reachRecord (reachOf kind a b))
+  pub put-in-service : kind < 3 → l₁ ≡ sets l at (k ∷ ends) → l₁ ≡ sets l at (reachRecord (reachOfNumbers kind a b))
   put-in-service h p =
-      let is : k ∷ ends ≡ reachRecord (reachOf kind a b) = rw (record-in (stateOf kind) ends, state-in-service kind h, e) in
+      let is : k ∷ ends ≡ reachRecord (reachOfNumbers kind a b) = rw (record-in (stateOf kind) ends, state-in-service kind h, e) in
       p ∙ ap (sets l at) is
 
-  pub put-shut : 3 ≤ kind → l₁ ≡ sets l at (5 ∷ ends) → set l₁ (at + 5) k ≡ sets l at (reachRecord (reachOf kind a b))
+  pub put-shut : 3 ≤ kind → l₁ ≡ sets l at (5 ∷ ends) → set l₁ (at + 5) k ≡ sets l at (reachRecord (reachOfNumbers kind a b))
   put-shut h p =
-      let is : (5 ∷ ends) ++ (k ∷ []) ≡ reachRecord (reachOf kind a b) = rw (record-in (stateOf kind) ends, state-shut kind h, e) in
+      let is : (5 ∷ ends) ++ (k ∷ []) ≡ reachRecord (reachOfNumbers kind a b) = rw (record-in (stateOf kind) ends, state-shut kind h, e) in
       ap (λ m. set m (at + 5) k) p ∙ sets-after l at (at + 5) (5 ∷ ends) (k ∷ []) (omega arith) ∙ ap (sets l at) is
 
 -- ---- the records of a table
@@ -83,7 +83,7 @@ module _ (ks ys zs : List ℕ) (i : ℕ) (l : i < length (tableOf ks ys zs)) whe
   t = tableOf ks ys zs
 
   abbrev r : Reach
-  r = reachOf (getD ks i 0) (getD ys i 0) (getD zs i 0)
+  r = reachOfNumbers (getD ks i 0) (getD ys i 0) (getD zs i 0)
 
   -- those of the first reaches, with one more
   records-more : reachRecords (take (i + 1) t) ≡ reachRecords (take i t) ++ reachRecord r
@@ -112,7 +112,7 @@ module _ (ks ys zs : List ℕ) {out₀ out : List ℕ} {i at : ℕ} (p : Putting
   putting-fits h = omega (arith, p .place, p .long, length-more ks ys zs i l, length-front (tableOf ks ys zs) (i + 1))
 
   pub putting-more :
-      (out′ : List ℕ) (m : ℕ) → out′ ≡ sets out at (reachRecord (reachOf (getD ks i 0) (getD ys i 0) (getD zs i 0))) → m ≡ stateLength (stateOf (getD ks i 0))
+      (out′ : List ℕ) (m : ℕ) → out′ ≡ sets out at (reachRecord (reachOfNumbers (getD ks i 0) (getD ys i 0) (getD zs i 0))) → m ≡ stateLength (stateOf (getD ks i 0))
       → PuttingReaches (tableOf ks ys zs) out₀ out′ (i + 1) (at + m)
   putting-more out′ m e q =
       record {

@@ -24,8 +24,8 @@ use Rattle.network.specs.Replies.{firstOf}
 use Rattle.netfile_laws.specs.Laws.{networkAgain, NetworkWriteRead, TableWriteRead, fileAgain, NetworkReadWrite, TableReadWrite}
 use Rattle.network.proofs.Replies.{first-of-none}
 use Rattle.file_records.proofs.Puts.{put-refused, unwritten, written, written-front}
-use Rattle.netfile_format.proofs.Files.{read-write, WasWritten, write-read}
-use Rattle.netfile_format.proofs.Calls.{answer-refused, Counted, answer-read, room-kept, counted, same-network}
+use Rattle.netfile_format.proofs.Files.{file-read-write, WasWritten, file-write-read}
+use Rattle.netfile_format.proofs.Calls.{reading-refused, Counted, answer-read, room-kept, counted, same-network}
 
 -- ---- written, then read
 
@@ -37,7 +37,7 @@ module _ (N : Network) {out out′ : List ℕ} where
   written-again room {n} w =
       let sound : writeFault N (length out) ≡ none = written (writeFault N (length out)) (fileOf N) out out′ n w in
       ap (λ f. withRoom room (readFile f)) (written-front (writeFault N (length out)) (fileOf N) out out′ n w)
-      ∙ ap (withRoom room) (read-write N (first-of-none (tableFault N) (roomFor (fileOf N) (length out)) sound .0))
+      ∙ ap (withRoom room) (file-read-write N (first-of-none (tableFault N) (roomFor (fileOf N) (length out)) sound .0))
       ∙ ap (λ o. networkAgain o room N) (sym sound)
 
   -- over rows
@@ -70,7 +70,7 @@ module _ (N : Network) {out out′ : List ℕ} where
 
 module _ (file out : List ℕ) where
   unread : (x : Reading) {r : Refusal} → Refused r ≡ readAnswer x → Wrote (fileAgain x file (length out)) file out (Unwritten r) out
-  unread x {r} e = put-refused file out r (ap (λ y. fileAgain y file (length out)) (answer-refused x r (sym e)))
+  unread x {r} e = put-refused file out r (ap (λ y. fileAgain y file (length out)) (reading-refused x r (sym e)))
 
   -- the network that was read with so much room is accepted, so that only the room is left to be judged, and its file is the file
   file-again :
@@ -82,7 +82,7 @@ module _ (file out : List ℕ) where
       (subst (λ o. Wrote (firstOf o (roomFor (fileOf (C .network)) (length out))) (fileOf (C .network)) out r out′) (was .accepted) w))
     where
       was : WasWritten file (C .network)
-      was = write-read file (C .network) bytes (room-kept room (readFile file) (C .network) (C .is))
+      was = file-write-read file (C .network) bytes (room-kept room (readFile file) (C .network) (C .is))
 
 module _ {file out : List ℕ} where
   -- over rows

@@ -5,7 +5,7 @@ ghost use Rattle.tables.specs.Rows.{netOf};
 ghost use Rattle.netfile_laws.specs.Laws.{NetworkWriteRead, NetworkReadWrite};
 
 // A network that is written is read again as it was.
-pub fn write_then_read(
+pub fn write_then_read_network(
     basins: u16,
     kinds: &[u8],
     a: &[u16],
@@ -28,7 +28,7 @@ pub fn write_then_read(
 }
 
 // A file that is read is written again byte for byte.
-pub fn read_then_write(
+pub fn read_then_write_network(
     file: &[u8],
     kinds: &mut [u8],
     a: &mut [u16],

@@ -151,7 +151,7 @@ pub fn check_network(file: &[u8]) -> ReadAnswer
 }
 
 // The first n reaches of a file go to the rows.
-pub fn fill(file: &[u8], n: usize, kinds: &mut [u8], a: &mut [u16], b: &mut [u16])
+pub fn fill_rows(file: &[u8], n: usize, kinds: &mut [u8], a: &mut [u16], b: &mut [u16])
     requires { ⌜ Fills (now file) n (now kinds) (now a) (now b) ⌝ }
     ensures { λ _. ⌜
         RowsFilled (reachesAt n (drop 3 (now (file .entry)))) (now (kinds .entry)) (now (a .entry)) (now (b .entry))

@@ -21,7 +21,7 @@ pub fn read_network(file: &[u8], kinds: &mut [u8], a: &mut [u16], b: &mut [u16])
             if tables::row_count(kinds, a, b) < reaches {
                 return ReadAnswer::Refused(Refusal::ShortBuffer);
             }
-            netfile_reading::fill(file, reaches, kinds, a, b);
+            netfile_reading::fill_rows(file, reaches, kinds, a, b);
             ReadAnswer::Read { basins, reaches }
         }
     }

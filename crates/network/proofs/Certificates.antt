@@ -22,7 +22,7 @@ use Rattle.network.specs.Settings.{isGated}
 use Rattle.network.specs.Orientations.{Arc, arc, way, ways, passing, arcsUnder, reached, unoriented}
 use Rattle.network.specs.Plans.{reachesAll, stronglyConnectedUnder, passable}
 use Rattle.network.specs.Bridges.{crossesBy, reachAt, isBridge, lowestBridge}
-use Rattle.network.specs.Marks.{markBytes, marksOf, marked, onesIn}
+use Rattle.network.specs.Marks.{markBytes, marksOf, marked, markCount}
 use Rattle.network.specs.Replies.{shutIn, lone, shutInBasin, shutInSide, bridgeSide, shutInFinding, loneFinding}
 use Rattle.network.specs.Certificates.{NoPlan, FlapInto, InwardSide, ShutInShown, Alone, LoneAcross, BridgeShown}
 use Rattle.lists.proofs.Bools.{decide, clash, same-test}
@@ -55,10 +55,10 @@ module _ (N : Network) (ok : Accepted N) (S : List ℕ) (basins : (b : ℕ) → 
       go (no n) = clash e (unmarked-past S b (omega arith))
 
   -- the count is the number of marked basins
-  pub marked-count : onesIn (marksOf S) ≡ length (keep (marked (marksOf S)) (basinsOf N))
+  pub marked-count : markCount (marksOf S) ≡ length (keep (marked (marksOf S)) (basinsOf N))
   marked-count =
-      ap onesIn (marks-same S (keep (λ b. elem b S) (basinsOf N)) (λ b l. same b))
-      ∙ ap (λ (l : List ℕ). onesIn (marksOf l)) (basins-kept N (λ b. elem b S))
+      ap markCount (marks-same S (keep (λ b. elem b S) (basinsOf N)) (λ b l. same b))
+      ∙ ap (λ (l : List ℕ). markCount (marksOf l)) (basins-kept N (λ b. elem b S))
       ∙ count-is (λ b. isWet N b && elem b S) (N .basins) (omega (arith, (accepted N ok) .few-basins))
       ∙ ap (λ (l : List ℕ). length l) (sym (basins-kept N (λ b. elem b S)) ∙ keep-same (λ b. elem b S) (marked (marksOf S)) (basinsOf N) (λ b m. sym (marked-in b m)))
     where
@@ -197,8 +197,8 @@ shut-in-shown N ok n =
           flap-into N u (marked (marksOf S)) j l (mark _ (end-a-in N ok j l serves)) (mark _ (end-b-in N ok j l serves)) y;
     } in (
       marksOf S,
-      onesIn (marksOf S),
-      ap (λ (l : List ℕ). shutIn (marksOf l) (onesIn (marksOf l))) is,
+      markCount (marksOf S),
+      ap (λ (l : List ℕ). shutIn (marksOf l) (markCount (marksOf l))) is,
       record {
         side = side;
         only-basins = marked-basin N ok S basins;
@@ -223,7 +223,7 @@ bridge-shown N ok pass i low =
     let lowest = lowest-in N (end-a-in N ok i l (gated-in-service ((reachAt N i) .state) (bridge-gated N i is-bridge))) in
     let out : marked (marksOf S) (lowestBasin N) ≡ false = marked-in N ok S basins (lowestBasin N) lowest ∙ found .without in (
       marksOf S,
-      onesIn (marksOf S),
+      markCount (marksOf S),
       refl,
       record {
         side = side;

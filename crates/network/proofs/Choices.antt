@@ -34,7 +34,7 @@ use Rattle.network.proofs.Bridges.{bridge-blocks}
 use Rattle.network.proofs.Ways.{Gate, gate-at, plain-here, plain-after, reachOf, Looser}
 use Rattle.network.proofs.Order.{setting-length, plan-in, plan-setting, first-is-plan, next-is-plan}
 use Rattle.network.proofs.Replies.{given-if-plan}
-use Rattle.network.proofs.Theorem.{setting-byte, orient-set, unoriented-2, unoriented-oriented, looser-strong, plan-reaches, plan-passable, without, as-drawn, as-turned, complete}
+use Rattle.network.proofs.Theorem.{setting-byte, orient-set, unoriented-2, unoriented-oriented, looser-strong, plan-reaches, plan-passable, arcsWithout, as-drawn, as-turned, completion}
 
 -- a plan that hangs the k-th gate so
 pub record HungIn (N : Network) (k x : ℕ) : Type 0 where
@@ -133,7 +133,7 @@ module _ (N : Network) where
     hung-strong x small = (
       λ c. looser-strong N (c .setting) (set (unoriented N) k x) (looser-one (c .setting) x (c .hung)) (plan-reaches N (c .setting) (c .is-plan)),
       λ e.
-          let c = complete N ok (λ i b. bridge-blocks N i b p y) (set (unoriented N) k x) (orient-set N (unoriented N) k x (omega arith) (unoriented-oriented N)) e in
+          let c = completion N ok (λ i b. bridge-blocks N i b p y) (set (unoriented N) k x) (orient-set N (unoriented N) k x (omega arith) (unoriented-oriented N)) e in
           record { setting = c .setting; is-plan = c .is-plan; hung = ⊎-elim (λ free. absurd (omega (arith, here x))) (λ same. sym same ∙ here x) (c .looser k) },
     )
 
@@ -158,11 +158,11 @@ module _ (N : Network) where
 
     -- What one search decides: a gate that the plan p hangs as drawn is bound unless its end A leads to its end B without it; turned, unless B leads to A.
     pub bound-drawn : getD p k 2 ≡ 0 →
-        boundByte N k ≡ cond (reached (without N (unoriented N) (getD (gates N) k 0)) ((reachAt N (getD (gates N) k 0)) .a) ((reachAt N (getD (gates N) k 0)) .b)) 2 0
+        boundByte N k ≡ cond (reached (arcsWithout N (unoriented N) (getD (gates N) k 0)) ((reachAt N (getD (gates N) k 0)) .a) ((reachAt N (getD (gates N) k 0)) .b)) 2 0
     bound-drawn e = bound-other 0 1 (omega arith) e ∙ ap (λ (c : Bool). cond c 2 0) (as-turned N ok (unoriented N) (unoriented-oriented N) k l (unoriented-2 N k) passes)
 
     pub bound-turned : getD p k 2 ≡ 1 →
-        boundByte N k ≡ cond (reached (without N (unoriented N) (getD (gates N) k 0)) ((reachAt N (getD (gates N) k 0)) .b) ((reachAt N (getD (gates N) k 0)) .a)) 2 1
+        boundByte N k ≡ cond (reached (arcsWithout N (unoriented N) (getD (gates N) k 0)) ((reachAt N (getD (gates N) k 0)) .b) ((reachAt N (getD (gates N) k 0)) .a)) 2 1
     bound-turned e = bound-other 1 0 (omega arith) e ∙ ap (λ (c : Bool). cond c 2 1) (as-drawn N ok (unoriented N) (unoriented-oriented N) k l (unoriented-2 N k) passes)
 
 -- Networks with as many gates and the same plans have the same list of plans, and the same bound gates.

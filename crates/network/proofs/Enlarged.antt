@@ -22,7 +22,7 @@ use Rattle.network.specs.Settings.{isGated, gateCount, isSetting, settin
 use Rattle.network.specs.Orientations.{arcsUnder, unoriented}
 use Rattle.network.specs.Plans.{stronglyConnected, stronglyConnectedUnder, isPlan, passable, firstPlan, nextPlan}
 use Rattle.network.specs.Bridges.{sides, isCut, reachAt, crossesAlone, isBridge}
-use Rattle.network.specs.Marks.{marksOf, onesIn}
+use Rattle.network.specs.Marks.{marksOf, markCount}
 use Rattle.network.specs.Replies.{plan, lone, refused, shutInBasin, shutInSide, bridgeSide, shutInFinding, loneFinding, answer, firstAnswer, nextAnswer, roomFault, firstReply, nextReply}
 use Rattle.network.specs.Choices.{plans, boundBytes}
 use Rattle.network.specs.Enlarged.{enlarged}
@@ -105,7 +105,7 @@ module _ (N : Network) (ok : Accepted N) (m : ℕ) (more : N .basins ≤ m) wher
   pub enlarged-lone : (i : ℕ) → loneFinding (enlarged N m) i ≡ loneFinding N i
   unfolding loneFinding bridgeSide crossesAlone
   enlarged-lone i =
-      ap (λ (bs : List ℕ). let marks = marksOf (Option·getD (find (λ S. not (elem (getD bs 0 0) S) && (isCut bs S && crossesAlone N S i)) (sides bs)) []) in lone i marks (onesIn marks))
+      ap (λ (bs : List ℕ). let marks = marksOf (Option·getD (find (λ S. not (elem (getD bs 0 0) S) && (isCut bs S && crossesAlone N S i)) (sides bs)) []) in lone i marks (markCount marks))
       enlarged-basins
 
   pub enlarged-answer : (p : Option (List ℕ)) → answer (enlarged N m) p ≡ answer N p

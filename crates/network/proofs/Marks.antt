@@ -12,7 +12,7 @@ use lib.Dec.{eqb}
 use lib.Count.{ones, ones-cat, ones-step}
 use mathlib.Mathlib.Data.Bool.Basic.{bool-eq-false}
 use Rattle.lists.specs.Lists.{range, keep, elem}
-use Rattle.network.specs.Marks.{markBytes, bit, digits, markByte, marksOf, bitAt, marked, onesIn}
+use Rattle.network.specs.Marks.{markBytes, bit, binaryOf, markByte, marksOf, bitAt, marked, markCount}
 use Rattle.lists.specs.Words.{wordOf}
 use Rattle.lists.proofs.Searches.{keep-in, elem-in, elem-keep, keep-same, keep-none, count-append}
 use Rattle.lists.proofs.Ranges.{range-in, range-add, map-range-at, map-range-same}
@@ -23,7 +23,7 @@ pub bit-lt : (x : Bool) → bit x < 2
 bit-lt true = omega arith
 bit-lt false = omega arith
 
-digits-lt : (xs : List Bool) → digits xs < 2 ^ length xs
+digits-lt : (xs : List Bool) → binaryOf xs < 2 ^ length xs
 digits-lt [] = omega arith
 digits-lt (x ∷ xs) = rw pow-suc (omega (arith, bit-lt x, digits-lt xs))
 
@@ -41,7 +41,7 @@ low-digit x n = omega (arith, bit-lt x)
 rest-digits : (x : Bool) (n : ℕ) → (bit x + 2 * n) / 2 ≡ n
 rest-digits x n = omega (arith, bit-lt x)
 
-bit-of-digits : (j : ℕ) (xs : List Bool) → bitAt j (digits xs) ≡ getD xs j false
+bit-of-digits : (j : ℕ) (xs : List Bool) → bitAt j (binaryOf xs) ≡ getD xs j false
 bit-of-digits j [] = bit-of-zero j
 bit-of-digits zero (x ∷ xs) = rw low-digit (bit-is x)
 bit-of-digits (suc j) (x ∷ xs) = rw rest-digits (bit-of-digits j xs)
@@ -53,13 +53,13 @@ count-one true x xs = omega arith
 count-one false x xs = omega arith
 
 -- as many as there are ones in the number whose digits the test gives
-ones-of-digits : (p : ℕ → Bool) (xs : List ℕ) → ones (digits (map p xs)) ≡ length (keep p xs)
+ones-of-digits : (p : ℕ → Bool) (xs : List ℕ) → ones (binaryOf (map p xs)) ≡ length (keep p xs)
 unfolding ones
 ones-of-digits p [] = refl
 ones-of-digits p (x ∷ xs) = rw (ones-step, low-digit, rest-digits, ones-of-digits p xs, count-one)
 
 -- The ones in the n bytes of marks from byte k on count the members of S from 8 * k on, up to 8 * n further.
-ones-of-bytes : (S : List ℕ) (k n : ℕ) → onesIn (map (markByte S) (range k n)) ≡ length (keep (λ b. elem b S) (range (8 * k) (8 * n)))
+ones-of-bytes : (S : List ℕ) (k n : ℕ) → markCount (map (markByte S) (range k n)) ≡ length (keep (λ b. elem b S) (range (8 * k) (8 * n)))
 ones-of-bytes S k zero = refl
 ones-of-bytes S k (suc n) =
     let is : ℕ → Bool = λ b. elem b S in
@@ -109,7 +109,7 @@ unmarked-past S b h = rw (past-marks S (b / 8) (omega arith)) (bit-of-zero (b % 
 pub marks-same : (S S′ : List ℕ) → ((b : ℕ) → b < 8 * markBytes → elem b S ≡ elem b S′) → marksOf S ≡ marksOf S′
 unfolding marksOf
 marks-same S S′ h = map-range-same (markByte S) (markByte S′) 0 markBytes
-    (λ k _ u. ap digits (map-range-same (λ b. elem b S) (λ b. elem b S′) (8 * k) 8 (λ b _ v. h b (omega arith))))
+    (λ k _ u. ap binaryOf (map-range-same (λ b. elem b S) (λ b. elem b S′) (8 * k) 8 (λ b _ v. h b (omega arith))))
 
 -- Sets with the same marks have the same basins.
 pub marks-inj : (S S′ : List ℕ) → marksOf S ≡ marksOf S′ → (b : ℕ) → b < 8 * markBytes → elem b S ≡ elem b S′
@@ -130,22 +130,22 @@ count-below p n d =
     rw range-add (count-append is (range 0 n) (range (0 + n) d) ∙ omega (arith, ap length inside, ap length outside))
 
 -- The same in k bytes that have a bit for every basin below n.
-count-in-bytes : (p : ℕ → Bool) (n k : ℕ) → n ≤ 8 * k → onesIn (map (markByte (keep p (range 0 n))) (range 0 k)) ≡ length (keep p (range 0 n))
+count-in-bytes : (p : ℕ → Bool) (n k : ℕ) → n ≤ 8 * k → markCount (map (markByte (keep p (range 0 n))) (range 0 k)) ≡ length (keep p (range 0 n))
 count-in-bytes p n k h =
     let more : 8 * k ≡ n + (8 * k - n) = omega arith in
     ones-of-bytes (keep p (range 0 n)) 0 k ∙ rw more (count-below p n (8 * k - n))
 
 -- The ones in the marks of a set of basins are as many as its basins.
-pub count-is : (p : ℕ → Bool) (n : ℕ) → n ≤ 8 * markBytes → onesIn (marksOf (keep p (range 0 n))) ≡ length (keep p (range 0 n))
+pub count-is : (p : ℕ → Bool) (n : ℕ) → n ≤ 8 * markBytes → markCount (marksOf (keep p (range 0 n))) ≡ length (keep p (range 0 n))
 unfolding marksOf
 count-is p n h = count-in-bytes p n markBytes h
 
 -- ---- words
 
 -- The ones of a word are the ones of its bytes.
-pub word-ones : (xs : List ℕ) → ((i : ℕ) → getD xs i 0 < 256) → ones (wordOf xs) ≡ onesIn xs
+pub word-ones : (xs : List ℕ) → ((i : ℕ) → getD xs i 0 < 256) → ones (wordOf xs) ≡ markCount xs
 unfolding ones
 word-ones [] h = refl
 word-ones (x ∷ xs) h =
     let turned : x + 256 * wordOf xs ≡ wordOf xs * 2 ^ 8 + x = omega arith in
-    rw (turned, ones-cat 8 (wordOf xs) x (h 0), word-ones xs (λ i. h (suc i))) (add-comm (onesIn xs) (ones x))
+    rw (turned, ones-cat 8 (wordOf xs) x (h 0), word-ones xs (λ i. h (suc i))) (add-comm (markCount xs) (ones x))

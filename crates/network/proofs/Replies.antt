@@ -26,7 +26,7 @@ use Rattle.lists.proofs.Ranges.{range-has}
 use Rattle.network.proofs.Order.{first-is-plan, first-none, next-none, next-is-plan, next-is-later, next-same}
 use Rattle.network.proofs.Bridges.{bridge-below, bridge-blocks}
 use Rattle.network.proofs.Theorem.{theorem, plan-passable}
-use Rattle.network.specs.Marks.{markBytes, marksOf, onesIn}
+use Rattle.network.specs.Marks.{markBytes, marksOf, markCount}
 use Rattle.network.proofs.Networks.{gates-fit}
 
 -- A plan is replied only where nothing is refused.
@@ -168,8 +168,8 @@ given-iff N ok p q = go (trichotomy N ok)
 -- what first gives, by what it is given for
 pub data First (N : Network) : Outcome → Type 0 where
   is-plan : (s : List ℕ) → firstPlan N ≡ some s → First N (plan s)
-  is-shut : passable N ≡ false → First N (shutIn (marksOf (shutInSide N)) (onesIn (marksOf (shutInSide N))))
-  is-bridge : (i : ℕ) → passable N ≡ true → lowestBridge N ≡ some i → First N (lone i (marksOf (bridgeSide N i)) (onesIn (marksOf (bridgeSide N i))))
+  is-shut : passable N ≡ false → First N (shutIn (marksOf (shutInSide N)) (markCount (marksOf (shutInSide N))))
+  is-bridge : (i : ℕ) → passable N ≡ true → lowestBridge N ≡ some i → First N (lone i (marksOf (bridgeSide N i)) (markCount (marksOf (bridgeSide N i))))
 
 module _ (N : Network) (ok : Accepted N) where
   -- First gives a plan exactly if it is the first plan, and gives one wherever there is one. It never says last plan.

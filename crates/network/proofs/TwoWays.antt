@@ -24,7 +24,7 @@ use Rattle.network.specs.Settings.{isGated, gatesFrom, gates, gateCount,
 use Rattle.network.specs.Orientations.{Arc, arc, way, after, ways, passing, arcs, arcsUnder, reached, unoriented}
 use Rattle.network.specs.Plans.{stronglyConnectedUnder, isPlan, passable, firstPlan, nextPlan}
 use Rattle.network.specs.Bridges.{sides, isCut, crossesBy, noReach, reachAt, crossesAlone, isBridge, lowestBridge}
-use Rattle.network.specs.Marks.{marksOf, onesIn}
+use Rattle.network.specs.Marks.{marksOf, markCount}
 use Rattle.network.specs.Replies.{shutIn, shutInBasin, shutInSide, bridgeSide, shutInFinding, loneFinding, answer, firstAnswer, nextAnswer, roomFault, firstReply, nextReply}
 use Rattle.network.specs.Choices.{plans, boundBytes, flapReach, flapAt}
 use Rattle.network.specs.TwoWays.{twoFlapsAt}
@@ -204,7 +204,7 @@ module _ (N : Network) (i : ℕ) (l : i < length (N .reaches)) (two-way : (reach
   pub two-flaps-shut-in : shutInFinding M ≡ shutInFinding N
   unfolding shutInFinding shutInSide shutInBasin
   two-flaps-shut-in =
-      ap₂ (λ (bs : List ℕ) (R : ℕ → ℕ → Bool). let m = marksOf (keep (R (Option·getD (find (λ u. not (every (R u) bs)) bs) 0)) bs) in shutIn m (onesIn m))
+      ap₂ (λ (bs : List ℕ) (R : ℕ → ℕ → Bool). let m = marksOf (keep (R (Option·getD (find (λ u. not (every (R u) bs)) bs) 0)) bs) in shutIn m (markCount m))
       two-flaps-basins (ap (λ (g : ℕ). reached (arcsUnder M (replicate g 2))) two-flaps-count ∙ same-reached (unoriented N))
 
   -- ---- lone reaches

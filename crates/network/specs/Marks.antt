@@ -17,13 +17,13 @@ bit true = 1
 bit false = 0
 
 -- The number whose binary digits are these, lowest first.
-abbrev pub digits : List Bool → ℕ
-digits [] = 0
-digits (x ∷ xs) = bit x + 2 * digits xs
+abbrev pub binaryOf : List Bool → ℕ
+binaryOf [] = 0
+binaryOf (x ∷ xs) = bit x + 2 * binaryOf xs
 
 -- "Basin b is bit b mod 8, lowest bit first, of byte b div 8; unused bits are 0": byte k of the marks of the basins S.
 abbrev pub markByte : List ℕ → ℕ → ℕ
-markByte S k = digits (map (λ b. elem b S) (range (8 * k) 8))
+markByte S k = binaryOf (map (λ b. elem b S) (range (8 * k) 8))
 
 unfoldable pub marksOf : List ℕ → List ℕ
 marksOf S = map (markByte S) (range 0 markBytes)
@@ -38,6 +38,6 @@ unfoldable pub marked : List ℕ → ℕ → Bool
 marked m b = bitAt (b % 8) (getD m (b / 8) 0)
 
 -- "The count of marked basins is the number of ones in the 32 bytes."
-abbrev pub onesIn : List ℕ → ℕ
-onesIn [] = 0
-onesIn (x ∷ m) = ones x + onesIn m
+abbrev pub markCount : List ℕ → ℕ
+markCount [] = 0
+markCount (x ∷ m) = ones x + markCount m

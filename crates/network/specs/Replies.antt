@@ -15,7 +15,7 @@ use Rattle.network.specs.Settings.{gateCount, settingFault}
 use Rattle.network.specs.Orientations.{arcsUnder, reached, unoriented}
 use Rattle.network.specs.Plans.{reachesAll, isPlan, passable, firstPlan, nextPlan}
 use Rattle.network.specs.Bridges.{sides, isCut, crossesAlone, lowestBridge}
-use Rattle.network.specs.Marks.{markBytes, marksOf, onesIn}
+use Rattle.network.specs.Marks.{markBytes, marksOf, markCount}
 
 -- The number of a refusal that returns the number only.
 abbrev pub refusalNumber : Refusal → ℕ
@@ -96,10 +96,10 @@ bridgeSide N i = Option·getD (find (λ S. not (elem (lowestBasin N) S) && (isCu
 
 -- The two findings. "Both replies also hold a count: the count of marked basins."
 unfoldable pub shutInFinding : Network → Outcome
-shutInFinding N = let m = marksOf (shutInSide N) in shutIn m (onesIn m)
+shutInFinding N = let m = marksOf (shutInSide N) in shutIn m (markCount m)
 
 unfoldable pub loneFinding : Network → ℕ → Outcome
-loneFinding N i = let m = marksOf (bridgeSide N i) in lone i m (onesIn m)
+loneFinding N i = let m = marksOf (bridgeSide N i) in lone i m (markCount m)
 
 -- 9 "the network is not passable", 10 "it is passable and has a lone reach", else the plan that is asked for, or 11 if there is none.
 abbrev pub chosen : Option (List ℕ) → Outcome

@@ -134,8 +134,8 @@ module _ (N : Network) (ok : Accepted N) (fs ws : List ℕ) (i : ℕ) (below : i
           (stuck-other N ok ws i below (b .full) serves (shaped-out (N .reaches) ws (b .shaped)) (begun-small N fs ws i b) either ba ab)
           (alone-rest N (reached (arcs (N .reaches) (set ws i 3)) ((reachAt N i) .b)) i (stuck-alone N ok ws i below (b .full) serves (shaped-out (N .reaches) ws (b .shaped)) (begun-small N fs ws i b) either ba ab))
 
-      pub bridge-cut : (side : ℕ → Bool) → ((v : ℕ) → v < N .basins → side v ≡ reached (arcs (N .reaches) (set ws i 3)) ((reachAt N i) .a) v) → crossesAlone N (keep side (basinsOf N)) i ≡ true
-      bridge-cut side told =
+      pub bridge-alone : (side : ℕ → Bool) → ((v : ℕ) → v < N .basins → side v ≡ reached (arcs (N .reaches) (set ws i 3)) ((reachAt N i) .a) v) → crossesAlone N (keep side (basinsOf N)) i ≡ true
+      bridge-alone side told =
           subst⁻¹ (λ (S : List ℕ). crossesAlone N S i ≡ true)
           (keep-same side (reached (arcs (N .reaches) (set ws i 3)) ((reachAt N i) .a)) (basinsOf N) (λ v m. told v (basin-below N v m)))
           ((cut-of N ok i below (reached (arcs (N .reaches) (set ws i 3)) ((reachAt N i) .a)) alone-on) .alone)

@@ -104,8 +104,8 @@ module _ (N : Network) where
   t = N .reaches
 
   -- ways that leave each reach as it is, or either way, reach no less
-  pub looser-strong : (us ws : List ℕ) → ((j : ℕ) → j < length t → (getD ws j 3 ≡ 2) ⊎ (getD ws j 3 ≡ getD us j 3)) → stronglyConnected (basinsOf N) (arcs t us) ≡ true → stronglyConnected (basinsOf N) (arcs t ws) ≡ true
-  looser-strong us ws f = strong-within (basinsOf N) (arcs t us) (arcs t ws) within
+  pub looser-ways-strong : (us ws : List ℕ) → ((j : ℕ) → j < length t → (getD ws j 3 ≡ 2) ⊎ (getD ws j 3 ≡ getD us j 3)) → stronglyConnected (basinsOf N) (arcs t us) ≡ true → stronglyConnected (basinsOf N) (arcs t ws) ≡ true
+  looser-ways-strong us ws f = strong-within (basinsOf N) (arcs t us) (arcs t ws) within
     where
       within : Within (arcs t us) (arcs t ws)
       within y m =
@@ -119,7 +119,7 @@ module _ (N : Network) where
   -- a plan that fits reaches no more than ws does
   pub fits-strong : (q ws : List ℕ) → isPlan N q ≡ true → Fits N q ws → stronglyConnected (basinsOf N) (arcs t ws) ≡ true
   unfolding stronglyConnectedUnder
-  fits-strong q ws e f = looser-strong (ways t q) ws f (plan-reaches N q e)
+  fits-strong q ws e f = looser-ways-strong (ways t q) ws f (plan-reaches N q e)
 
   pub plan-order : (p q : List ℕ) → isPlan N p ≡ true → isPlan N q ≡ true → before (ways t p) (ways t q) ≡ before p q
   plan-order p q e f = ways-order 0 t p q (setting-length N p (plan-setting N p e)) (setting-length N q (plan-setting N q f))

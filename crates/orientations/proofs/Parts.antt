@@ -18,14 +18,14 @@ use Rattle.lists.proofs.Bools.{decide, clash}
 use Rattle.network.proofs.Ways.{length-ways, plain-way, gate-way}
 use Rattle.orientations.specs.Least.{isTried, NoneFrom}
 use Rattle.orientations.specs.Partials.{StronglyConnected, NotStronglyConnected, Tries, Begun, Binds, upTo, NoPart}
-use Rattle.orientations.proofs.Least.{looser-strong, same-plain}
+use Rattle.orientations.proofs.Least.{looser-ways-strong, same-plain}
 use Rattle.orientations.proofs.Goings.{begun-oriented}
 use Rattle.orientations.proofs.Nexts.{gate-byte, oriented-length, oriented-below, oriented-tried, oriented-held, oriented-all, oriented-more, oriented-plain, oriented-shaped, none-held, none-turned, none-lost}
 
 module _ (N : Network) where
   -- a gate that is left either way again loses nothing
   pub connected-free : (ws : List ℕ) (i x : ℕ) → getD ws i 3 ≡ 2 → StronglyConnected N (set ws i x) → StronglyConnected N ws
-  connected-free ws i x free = looser-strong N (set ws i x) ws at
+  connected-free ws i x free = looser-ways-strong N (set ws i x) ws at
     where
       at : (j : ℕ) → j < length (N .reaches) → (getD ws j 3 ≡ 2) ⊎ (getD ws j 3 ≡ getD (set ws i x) j 3)
       at j l = go (ℕ-discrete j i)
@@ -90,7 +90,7 @@ module _ (N : Network) (s us : List ℕ) (is : us ≡ ways (N .reaches) s) (fs :
 
   -- with fewer gates oriented no less is reached
   pub connected-lower : (i j : ℕ) → StronglyConnected N (upTo fs us i) → j ≤ i → i ≤ length (N .reaches) → StronglyConnected N (upTo fs us j)
-  connected-lower i j str k l = subst⁻¹ (λ (v : List ℕ). StronglyConnected N (upTo fs v j)) is (looser-strong N (upTo fs (ways (N .reaches) s) i) (upTo fs (ways (N .reaches) s) j) at (subst (λ (v : List ℕ). StronglyConnected N (upTo fs v i)) is str))
+  connected-lower i j str k l = subst⁻¹ (λ (v : List ℕ). StronglyConnected N (upTo fs v j)) is (looser-ways-strong N (upTo fs (ways (N .reaches) s) i) (upTo fs (ways (N .reaches) s) j) at (subst (λ (v : List ℕ). StronglyConnected N (upTo fs v i)) is str))
     where
       at : (m : ℕ) → m < length (N .reaches) → (getD (upTo fs (ways (N .reaches) s) j) m 3 ≡ 2) ⊎ (getD (upTo fs (ways (N .reaches) s) j) m 3 ≡ getD (upTo fs (ways (N .reaches) s) i) m 3)
       at m ml = go (decLt m j) (decide (isTried fs m))

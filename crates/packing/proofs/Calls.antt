@@ -66,9 +66,9 @@ module _ {M : Type 1} (𝓤 : URA M) (H : Heap 𝓤) (A : Atoms 𝓤) (T : Ended
       (comm∗ 𝓤 (wand 𝓤 R (Q (y .0 .4))) R))
       (apply∗ 𝓤 R (Q (y .0 .4)))
 
-  pub ending : Given 𝓤 H A → (x : Bound 𝓤 H A S) (g : c (x .0) (x .3) .ghost) (u : Val) (r : Res S (x .0)) (ws : Lasts T (x .0) (x .3)) → ent 𝓤 (emp 𝓤) (c (x .0) (x .3) .ensures g r (atExit T (x .0) (x .3) ws))
+  pub call-end : Given 𝓤 H A → (x : Bound 𝓤 H A S) (g : c (x .0) (x .3) .ghost) (u : Val) (r : Res S (x .0)) (ws : Lasts T (x .0) (x .3)) → ent 𝓤 (emp 𝓤) (c (x .0) (x .3) .ensures g r (atExit T (x .0) (x .3) ws))
       → ent 𝓤 (⋆ 𝓤 H A (raw (alive 𝓤 H A S (x .0) (x .1)) ∷ ‵ (lasts T (x .0) (x .3) ws) ∷ ‵ (typeAt (S .result) (x .0) .own r (u ∷ [])) ∷ [])) (Promise 𝓤 H A T c .post (x, g) u)
-  ending W x g u r ws says =
+  call-end W x g u r ws says =
       let Said : Lasts T (x .0) (x .3) → SProp 𝓤 = λ zs. sep 𝓤 (sem 𝓤 H A (lasts T (x .0) (x .3) zs)) (c (x .0) (x .3) .ensures g r (atExit T (x .0) (x .3) zs)) in
       qed W (raw (alive 𝓤 H A S (x .0) (x .1)) ∷ ‵ (lasts T (x .0) (x .3) ws) ∷ ‵ (typeAt (S .result) (x .0) .own r (u ∷ [])) ∷ []) ∵ updating ! $ at-once ! $
       show ! (λ (r′ : Res S (x .0)). sep 𝓤 (Back 𝓤 H A S x u r′) (ensured 𝓤 H A T c (x .0) (x .3) g r′)) r $ move ! (0 ∷ 2 ∷ []) $ join ! $ frame ! $ show ! Said ws $

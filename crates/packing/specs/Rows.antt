@@ -26,11 +26,11 @@ pub record PackedInto (t : List Reach) (kinds a b : List ℕ) (r : ℕ) (kinds�
   pub b-in : b′ ≡ rowInto (λ x. x .b) t b r
 
 -- The reach that stands in three rows at i, and a table whose first k records are the rows' reaches, and the others as they were.
-abbrev pub reachAt : List ℕ → List ℕ → List ℕ → ℕ → Reach
-reachAt kinds a b i = record { state = stateOf (getD kinds i 0); a = getD a i 0; b = getD b i 0 }
+abbrev pub rowsReach : List ℕ → List ℕ → List ℕ → ℕ → Reach
+rowsReach kinds a b i = record { state = stateOf (getD kinds i 0); a = getD a i 0; b = getD b i 0 }
 
 abbrev pub tableInto : List ℕ → List ℕ → List ℕ → List Reach → ℕ → List Reach
-tableInto kinds a b t k = map (reachAt kinds a b) (range 0 k) ++ drop k t
+tableInto kinds a b t k = map (rowsReach kinds a b) (range 0 k) ++ drop k t
 
 -- What the first n reaches of three rows leave in a table.
 pub record UnpackedFrom (n : ℕ) (kinds a b : List ℕ) (t t′ : List Reach) : Type 0 where

@@ -14,7 +14,7 @@ use Rattle.network.specs.Plans.{stronglyConnectedUnder}
 use Rattle.network.specs.Replies.{Outcome, firstOf, checkFault, firstAnswer, nextAnswer, roomFault, firstReply, nextReply}
 use Rattle.tables.specs.Rows.{netOf}
 use Rattle.tables.proofs.Cuts.{cut-net, cut-gates}
-use Rattle.refusals.proofs.Dues.{room-left, fitting}
+use Rattle.refusals.proofs.Dues.{room-left, unrefused-fits}
 use Rattle.seeking.proofs.Levels.{cut-level}
 use Rattle.replies.specs.declared.Answer.{Answer}
 use Rattle.replies.specs.declared.CheckAnswer.{CheckAnswer}
@@ -36,17 +36,17 @@ module _ (n : ℕ) (ks xs ys : List ℕ) (m : ℕ) (e : m ≡ length (tableOf ks
 -- ---- the reply of the cut rows is the reply of the network
 
 module _ {N N′ : Network} (same : N′ ≡ N) where
-  pub first-given : {plan marks plan′ marks′ : List ℕ} {r : Answer} (p q : ℕ) → firstOf (tableFault N) (roomFault N p q) ≡ none
+  pub first-replied : {plan marks plan′ marks′ : List ℕ} {r : Answer} (p q : ℕ) → firstOf (tableFault N) (roomFault N p q) ≡ none
       → Replied (firstAnswer N′) plan marks plan′ marks′ r → Replied (firstReply N p q) plan marks plan′ marks′ r
-  first-given {plan} {marks} {plan′} {marks′} {r} p q ok w =
+  first-replied {plan} {marks} {plan′} {marks′} {r} p q ok w =
       subst⁻¹ (λ (o : Outcome). Replied o plan marks plan′ marks′ r) (first-by N p q ok)
       (subst (λ (M : Network). Replied (firstAnswer M) plan marks plan′ marks′ r) same w)
 
-  pub next-given : {plan marks plan′ marks′ : List ℕ} {r : Answer} (s : List ℕ) (p q : ℕ) → firstOf (checkFault N s) (roomFault N p q) ≡ none
+  pub next-replied : {plan marks plan′ marks′ : List ℕ} {r : Answer} (s : List ℕ) (p q : ℕ) → firstOf (checkFault N s) (roomFault N p q) ≡ none
       → Replied (nextAnswer N′ s) plan marks plan′ marks′ r → Replied (nextReply N s p q) plan marks plan′ marks′ r
-  next-given {plan} {marks} {plan′} {marks′} {r} s p q ok w =
+  next-replied {plan} {marks} {plan′} {marks′} {r} s p q ok w =
       subst⁻¹ (λ (o : Outcome). Replied o plan marks plan′ marks′ r) (next-by N s p q ok)
       (subst (λ (M : Network). Replied (nextAnswer M s) plan marks plan′ marks′ r) same w)
 
   pub check-given : (s : List ℕ) {b : Bool} {v : CheckAnswer} → checkFault N s ≡ none → b ≡ stronglyConnectedUnder N′ s → v ≡ yesOr b → CheckCall N s v
-  check-given s {b} ok e f = subst⁻¹ (CheckCall N s) f (check-fitting N s b ok (fitting N s ok .1) (e ∙ ap (λ (M : Network). stronglyConnectedUnder M s) same))
+  check-given s {b} ok e f = subst⁻¹ (CheckCall N s) f (check-fitting N s b ok (unrefused-fits N s ok .1) (e ∙ ap (λ (M : Network). stronglyConnectedUnder M s) same))

@@ -17,7 +17,7 @@ use Rattle.replies.specs.declared.Reply.{Reply}
 use Rattle.replies.specs.declared.Answer.the-variants.{Given}
 use Rattle.replies.specs.Answers.{Replied}
 use Rattle.replies.specs.Reports.{Reported}
-use Rattle.replies.proofs.Reported.{written}
+use Rattle.replies.proofs.Reported.{reported-reply}
 
 -- what the search for the first plan noted
 pub first-noted : {N : Network} {ws seen : List ℕ} {f : Found} → FirstFound N ws seen f → SideNoted N seen f
@@ -33,4 +33,4 @@ first-fits N ok (found-plan p e m) = omega arith
 pub first-written : {n : ℕ} {ks xs ys : List ℕ} → Level n ks xs ys → {ws seen : List ℕ} {f : Found} {plan marks plan′ marks′ : List ℕ} {r : Reply} → length ws ≡ length ks → FirstFound (netOf n ks xs ys) ws seen f
     → Reported n ks ws seen f plan marks plan′ marks′ r → Replied (firstAnswer (netOf n ks xs ys)) plan marks plan′ marks′ (Given r)
 first-written {n} {ks} {xs} {ys} l {plan} {marks} {plan′} {marks′} {r} full found done =
-    subst⁻¹ (λ (o : Outcome). Replied o plan marks plan′ marks′ (Given r)) (first-outcome (netOf n ks xs ys) found) (written n ks xs ys (l .ends-a) (l .ends-b) full (first-noted found) done)
+    subst⁻¹ (λ (o : Outcome). Replied o plan marks plan′ marks′ (Given r)) (first-outcome (netOf n ks xs ys) found) (reported-reply n ks xs ys (l .ends-a) (l .ends-b) full (first-noted found) done)

@@ -17,7 +17,7 @@ use Rattle.replies.specs.declared.Reply.{Reply}
 use Rattle.replies.specs.declared.Answer.the-variants.{Given}
 use Rattle.replies.specs.Answers.{Replied}
 use Rattle.replies.specs.Reports.{Reported}
-use Rattle.replies.proofs.Reported.{written}
+use Rattle.replies.proofs.Reported.{reported-reply}
 
 -- what the search for it found, if that is to be written down
 pub record NextAt (N : Network) (s ws seen : List ℕ) (f : Found) : Type 0 where
@@ -40,4 +40,4 @@ next-last {N} {s} {ws} {seen} e n = last-found (subst (NextFound N s ws seen) e 
 pub next-written : {n : ℕ} {ks xs ys : List ℕ} → Level n ks xs ys → {s ws seen : List ℕ} {f : Found} {plan marks plan′ marks′ : List ℕ} {r : Reply} → length ws ≡ length ks → NextAt (netOf n ks xs ys) s ws seen f
     → Reported n ks ws seen f plan marks plan′ marks′ r → Replied (nextAnswer (netOf n ks xs ys) s) plan marks plan′ marks′ (Given r)
 next-written {n} {ks} {xs} {ys} l {plan} {marks} {plan′} {marks′} {r} full at done =
-    subst⁻¹ (λ (o : Outcome). Replied o plan marks plan′ marks′ (Given r)) (at .replies) (written n ks xs ys (l .ends-a) (l .ends-b) full (at .noted) done)
+    subst⁻¹ (λ (o : Outcome). Replied o plan marks plan′ marks′ (Given r)) (at .replies) (reported-reply n ks xs ys (l .ends-a) (l .ends-b) full (at .noted) done)

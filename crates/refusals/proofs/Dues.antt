@@ -43,9 +43,9 @@ setting-fits N s e = go (isSetting N s) refl e
     go false f e = absurd (Option·some-ne-none BadSetting e)
 
 -- what the check of a setting does not refuse is a setting of an accepted table
-pub fitting : (N : Network) (s : List ℕ) → checkFault N s ≡ none → Accepted N × (isSetting N s ≡ true)
+pub unrefused-fits : (N : Network) (s : List ℕ) → checkFault N s ≡ none → Accepted N × (isSetting N s ≡ true)
 unfolding checkFault
-fitting N s e = let d = first-of-none (tableFault N) (settingFault N s) e in (d .0, setting-fits N s (d .1))
+unrefused-fits N s e = let d = first-of-none (tableFault N) (settingFault N s) e in (d .0, setting-fits N s (d .1))
 
 -- the basin count does not enter
 pub setting-any : (n : ℕ) (ks xs ys s : List ℕ) → settingFault (netOf 0 ks xs ys) s ≡ settingFault (netOf n ks xs ys) s

@@ -7,7 +7,7 @@ use lib.ListN.{length, take, drop}
 use lib.Seq.{take-at}
 use Rattle.network.specs.Tables.{tableOf}
 use Rattle.network.specs.Replies.{shutInSide, bridgeSide, shutInFinding, loneFinding}
-use Rattle.network.specs.Marks.{markBytes, marksOf, onesIn}
+use Rattle.network.specs.Marks.{markBytes, marksOf, markCount}
 use Rattle.network.proofs.Marks.{length-marks}
 use Rattle.tables.specs.Rows.{netOf, gatesIn, bytesRow}
 use Rattle.tables.proofs.Laws.{row-length, row-bytes, row-gates}
@@ -24,8 +24,8 @@ use Rattle.replies.specs.Reports.{MarksWritten, Reported, wrote-shut, wr
 use Rattle.replies.proofs.Answers.{replied}
 
 -- the count of what was written
-pub marks-written : (S : List ℕ) {marks marks′ : List ℕ} {r : ℕ} → marks′ ≡ marksOf S ++ drop markBytes marks → r ≡ onesIn (take markBytes marks′) → MarksWritten S marks marks′ r
-marks-written S {marks} e f = record { bytes = e; count = f ∙ ap (λ (v : List ℕ). onesIn (take markBytes v)) e ∙ ap onesIn (take-at (marksOf S) (drop markBytes marks) markBytes (length-marks S)) }
+pub marks-written : (S : List ℕ) {marks marks′ : List ℕ} {r : ℕ} → marks′ ≡ marksOf S ++ drop markBytes marks → r ≡ markCount (take markBytes marks′) → MarksWritten S marks marks′ r
+marks-written S {marks} e f = record { bytes = e; count = f ∙ ap (λ (v : List ℕ). markCount (take markBytes v)) e ∙ ap markCount (take-at (marksOf S) (drop markBytes marks) markBytes (length-marks S)) }
 
 -- what was found, by cases
 module _ {n : ℕ} {ks ws seen plan marks : List ℕ} {f : Found} where
@@ -45,20 +45,20 @@ module _ {n : ℕ} {ks ws seen plan marks : List ℕ} {f : Found} where
 
 -- what was written down, with what was noted, is the reply
 module _ (n : ℕ) (ks xs ys : List ℕ) (ea : length xs ≡ length ks) (eb : length ys ≡ length ks) where
-  pub written : {ws seen : List ℕ} {f : Found} {plan marks plan′ marks′ : List ℕ} {r : Reply} → length ws ≡ length ks → SideNoted (netOf n ks xs ys) seen f → Reported n ks ws seen f plan marks plan′ marks′ r
+  pub reported-reply : {ws seen : List ℕ} {f : Found} {plan marks plan′ marks′ : List ℕ} {r : Reply} → length ws ≡ length ks → SideNoted (netOf n ks xs ys) seen f → Reported n ks ws seen f plan marks plan′ marks′ r
       → Replied (outcomeOf (netOf n ks xs ys) ws f) plan marks plan′ marks′ (Given r)
   unfolding shutInFinding loneFinding
-  written {seen} {marks} full noted (wrote-shut m) =
+  reported-reply {seen} {marks} full noted (wrote-shut m) =
       replied
-      (ap (λ (c : ℕ). given (ShutIn (record { reach = 0; count = c }))) (m .count ∙ ap onesIn noted))
+      (ap (λ (c : ℕ). given (ShutIn (record { reach = 0; count = c }))) (m .count ∙ ap markCount noted))
       refl
       (m .bytes ∙ ap₂ (λ (x : List ℕ) (k : ℕ). x ++ drop k marks) noted (sym (length-marks (shutInSide (netOf n ks xs ys)))))
-  written {seen} {marks} full noted (wrote-lone {r = i} m) =
+  reported-reply {seen} {marks} full noted (wrote-lone {r = i} m) =
       replied
-      (ap (λ (c : ℕ). given (Lone (record { reach = i; count = c }))) (m .count ∙ ap onesIn noted))
+      (ap (λ (c : ℕ). given (Lone (record { reach = i; count = c }))) (m .count ∙ ap markCount noted))
       refl
       (m .bytes ∙ ap₂ (λ (x : List ℕ) (k : ℕ). x ++ drop k marks) noted (sym (length-marks (bridgeSide (netOf n ks xs ys) i))))
-  written {ws} {plan} full noted (wrote-plan e) =
+  reported-reply {ws} {plan} full noted (wrote-plan e) =
       replied
       refl
       (e ∙ ap₂ (λ (x : List ℕ) (k : ℕ). x ++ drop k plan) (sym (row-bytes ks xs ys ea eb ws)) (sym (bytes-length 0 (tableOf ks xs ys) ws (full ∙ sym (row-length ks xs ys ea eb)) ∙ row-gates ks xs ys ea eb 0)))

@@ -4,7 +4,7 @@ use Prim.Native.Nat.{ℕ, _≤_, _<_}
 use mathlib.Core.Path.{_≡_}
 use mathlib.Core.List.{List, _++_}
 use lib.ListN.{length, drop}
-use Rattle.network.specs.Marks.{markBytes, marksOf, onesIn}
+use Rattle.network.specs.Marks.{markBytes, marksOf, markCount}
 use Rattle.network.specs.Replies.{plan}
 use Rattle.tables.specs.Rows.{gatesIn, bytesRow}
 use Rattle.marks.specs.Sets.{markedSet}
@@ -18,7 +18,7 @@ use Rattle.seeking.specs.Found.{reachFound}
 -- The marks of S stand in the first bytes, and r is their count.
 pub record MarksWritten (S marks marks′ : List ℕ) (r : ℕ) : Type 0 where
   pub bytes : marks′ ≡ marksOf S ++ drop markBytes marks
-  pub count : r ≡ onesIn (marksOf S)
+  pub count : r ≡ markCount (marksOf S)
 
 -- An accepted table of rows of one length, and lent buffers that are long enough.
 pub record Lent (n : ℕ) (ks xs ys plan marks : List ℕ) : Type 0 where

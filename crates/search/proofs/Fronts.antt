@@ -311,7 +311,7 @@ noted-reached {A} {n} {start} seen f b few m v l =
 -- ---- one of two searches, from both ends
 
 -- the queue is empty, and the goal is not seen: it is not reached
-pub shut : {A : List Arc} {n start at tail : ℕ} {seen queue : List ℕ} (goal : ℕ) → ((u w : ℕ) → Next A u w → w < n) → start < n → goal < n → tail ≤ at
+pub unseen-unreached : {A : List Arc} {n start at tail : ℕ} {seen queue : List ℕ} (goal : ℕ) → ((u w : ℕ) → Next A u w → w < n) → start < n → goal < n → tail ≤ at
     → Searching A n start seen queue at tail → Unseen seen goal → false ≡ reached A start goal
-shut {A} {start} {seen} goal f b g l s z =
+unseen-unreached {A} {start} {seen} goal f b g l s z =
     sym (bool-eq-false {b = reached A start goal} (λ e. let x : Seen seen goal = ends f b l s (reached-walk A start goal e) in omega (arith, x, z)))

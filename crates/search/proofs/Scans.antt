@@ -9,7 +9,7 @@ use native.Mathlib.Omega.{arith}
 use lib.ListN.{length}
 use Rattle.lists.proofs.Bools.{clash}
 use Rattle.half_edges.specs.Ends.{arcsOf, halves, endOf, otherOf, leaves, Next}
-use Rattle.half_edges.specs.Chains.{none, Last, nothing, last}
+use Rattle.half_edges.specs.Chains.{noHalf, Last, nothing, last}
 use Rattle.distances.specs.Distances.{unreached}
 use Rattle.search.specs.Searches.{Seen, Visited, Grown, more, Scanned}
 use Rattle.half_edges.proofs.Halves.{arc-half, half-arc}
@@ -67,7 +67,7 @@ module _ {xs ys ws : List ℕ} {u count : ℕ} {seen₀ queue₀ : List ℕ} {ta
   renamed p q r s = rw (p, q, r) s
 
   -- the end: all are done
-  pub scanned : {seen queue : List ℕ} {end h : ℕ} → halves xs < none → h ≡ none → Scanning xs ys ws u count seen₀ queue₀ tail seen queue end h
+  pub scanned : {seen queue : List ℕ} {end h : ℕ} → halves xs < noHalf → h ≡ noHalf → Scanning xs ys ws u count seen₀ queue₀ tail seen queue end h
       → Scanned (arcsOf xs ys ws) u count seen₀ queue₀ tail seen queue end
   scanned {seen} {h} few e s =
       record { grown = s .grown; closed = λ w m. let f = arc-half xs ys ws u w m in rw (← f .leads) (at (f .half) (f .within) (f .stands) (f .passes) (s .chain) (decLt (f .half) (s .x))) }

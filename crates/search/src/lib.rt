@@ -8,7 +8,7 @@ ghost use Rattle.distances.specs.Distances.{unreached};
 ghost use Rattle.half_edges.specs.Ends.{arcsOf, otherOf, sided, leaves};
 ghost use Rattle.search.specs.Searches.{unseen, Visited, Scannable, Scanned, Searchable, Noted};
 use distances::UNREACHED;
-use half_edges::NONE;
+use half_edges::NO_HALF;
 
 // Whether the reach of half-edge h passes away from the basin at which h stands or, against the arrows, towards it.
 pub fn passes(ways: &[u8], h: u16, against: bool) -> bool
@@ -56,7 +56,7 @@ pub fn begin(n: usize, start: u16, seen: &mut [u16], queue: &mut [u16]) -> usize
     ensures { λ r. ⌜ Visited start 0 (replicate n unreached ++ drop n (now (seen .entry))) (now (queue .entry)) 0
         (now (seen .exit)) (now (queue .exit)) r ⌝ }
 {
-    half_edges::fill(n, UNREACHED, seen);
+    half_edges::fill_row(n, UNREACHED, seen);
     seen[start as usize] = 0;
     queue[0] = start;
     1
@@ -82,7 +82,7 @@ pub fn scan(
 {
     let mut end = tail;
     let mut h = head[queue[at] as usize];
-    while h != NONE {
+    while h != NO_HALF {
         if passes(ways, h, against) {
             end = visit(far(a, b, h), count, seen, queue, end);
         }

@@ -114,8 +114,8 @@ module _ (n : ℕ) (ks xs ys : List ℕ) where
             begun = rw add-one (part-begun N (p .seeking .level .accepted) bound (p .seeking .under) (p .binds .tries) (omega (arith, level-length (p .seeking .level))) d);
           }
 
-      pub step-made : {ws′ : List ℕ} → r < length xs → Completed N ws₁ ws′ → StepTaken N fs us to ws′ r
-      step-made l m = part-step N (p .seeking .level .accepted) bound (p .binds .tries) (omega (arith, level-length (p .seeking .level))) d m
+      pub step-completed : {ws′ : List ℕ} → r < length xs → Completed N ws₁ ws′ → StepTaken N fs us to ws′ r
+      step-completed l m = part-step N (p .seeking .level .accepted) bound (p .binds .tries) (omega (arith, level-length (p .seeking .level))) d m
 
       pub step-none : (ws′ : List ℕ) → (r < length xs → ⊥) → StepTaken N fs us to ws′ r
       step-none ws′ f = part-none N (p .seeking .level .accepted) bound ws′ (λ l. f (omega (arith, level-length (p .seeking .level)))) d

@@ -76,7 +76,7 @@ pub fn first_from(
 // One step: from ways that `under` has up to reach `to`, parts from them upwards at the last gate before it at which a plan can, and decides the
 // gates after it. Returns the number of that gate, or the number of reaches if there is none. There is a plan. A gate that has one way in all plans is not
 // tried if `tried` has another kind in its place: it keeps the way that it has. A gate that another reach guides, as the row has it, takes its way from that.
-pub fn step(
+pub fn step_from(
     n: usize,
     guide: &[u16],
     tried: &[u8],
@@ -136,7 +136,7 @@ pub fn part_from(
     ensures { λ r. ⌜ NextFrom (netOf n (now (kinds .entry)) (now (a .entry)) (now (b .entry))) (now (under .entry)) to
         (now (ways .exit)) (now (seen .exit)) r ⌝ }
 {
-    let at = step(
+    let at = step_from(
         n,
         &[],
         kinds,

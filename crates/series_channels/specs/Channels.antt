@@ -8,7 +8,7 @@ use mathlib.Core.List.{List}
 use lib.ListN.{length, getD, set, take}
 use Rattle.tables.specs.Rows.{netOf}
 use Rattle.half_edges.specs.Ends.{halves, endOf}
-use Rattle.half_edges.specs.Chains.{none}
+use Rattle.half_edges.specs.Chains.{noHalf}
 use Rattle.basins.specs.Wet.{Tabled}
 use Rattle.series.specs.Guides.{Guides}
 
@@ -16,9 +16,9 @@ use Rattle.series.specs.Guides.{Guides}
 abbrev pub otherHalf : ℕ → ℕ
 otherHalf h = h + 1 - 2 * (h % 2)
 
--- r is the only half-edge beside h, of those in service at its basin, and it is of another reach; or it is `none`, of which nothing is said.
+-- r is the only half-edge beside h, of those in service at its basin, and it is of another reach; or it is `noHalf`, of which nothing is said.
 pub data Partner (ks xs ys : List ℕ) (h : ℕ) : ℕ → Type 0 where
-  nobody : {r : ℕ} → none ≤ r → Partner ks xs ys h r
+  nobody : {r : ℕ} → noHalf ≤ r → Partner ks xs ys h r
   partner : {r : ℕ} → r < halves xs → endOf xs ys r ≡ endOf xs ys h → r / 2 ≢ h / 2 → getD ks (r / 2) 0 ≤ 2
       → ((k : ℕ) → k < halves xs → endOf xs ys k ≡ endOf xs ys h → getD ks (k / 2) 0 ≤ 2 → (k ≡ h) ⊎ (k ≡ r)) → Partner ks xs ys h r
 

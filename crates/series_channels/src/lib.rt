@@ -1,12 +1,12 @@
 // The finder of channels: from a reach in service, basins at which just two reaches in service end are followed from reach to reach, and a row says which
 // reach guides each gate that was come to. It reads the index of half-edges; there is no search. Which channels are found is free: no promise rests on it.
 // The functions are for the crates above, which have checked what they require.
-use half_edges::NONE;
+use half_edges::NO_HALF;
 ghost use mathlib.Core.Path.{_≡_};
 ghost use Prim.Native.Nat.{_/_, _≤_, _<_};
 ghost use lib.ListN.{length, getD};
 ghost use Rattle.half_edges.specs.Ends.{halves, endOf};
-ghost use Rattle.half_edges.specs.Chains.{none};
+ghost use Rattle.half_edges.specs.Chains.{noHalf};
 ghost use Rattle.basins.specs.Wet.{Tabled};
 ghost use Rattle.series_channels.specs.Channels.{Partner, otherHalf, guideOf, GuideNoted, GuidingStill, FindableIf, GuidesFound};
 
@@ -32,7 +32,7 @@ fn end_of(a: &[u16], b: &[u16], h: u16) -> u16
     b[i]
 }
 
-// The other half-edge in service at the basin of h, if there is just one, of another reach; else NONE.
+// The other half-edge in service at the basin of h, if there is just one, of another reach; else NO_HALF.
 fn partner(n: usize, kinds: &[u8], a: &[u16], b: &[u16], head: &[u16], next: &[u16], h: u16) -> u16
     requires { ⌜ Tabled n (now kinds) (now a) (now b) (now head) (now next) ⌝ }
     requires { ⌜ h < halves (now a) ⌝ }
@@ -40,13 +40,13 @@ fn partner(n: usize, kinds: &[u8], a: &[u16], b: &[u16], head: &[u16], next: &[u
 {
     let v = end_of(a, b, h);
     let mut o = head[v as usize];
-    let mut found = NONE;
+    let mut found = NO_HALF;
     let mut left = LOOKED;
     while left > 0 {
         left -= 1;
-        if o >= NONE {
+        if o >= NO_HALF {
             if found / 2 == h / 2 {
-                return NONE;
+                return NO_HALF;
             }
             return found;
         }
@@ -58,17 +58,17 @@ fn partner(n: usize, kinds: &[u8], a: &[u16], b: &[u16], head: &[u16], next: &[u
         if kinds[(here / 2) as usize] > 2 {
             continue;
         }
-        if found < NONE {
-            return NONE;
+        if found < NO_HALF {
+            return NO_HALF;
         }
         found = here;
     }
-    NONE
+    NO_HALF
 }
 
 // The other half-edge of the reach of h.
 fn other_half(h: u16) -> u16
-    requires { ⌜ h < none ⌝ }
+    requires { ⌜ h < noHalf ⌝ }
     ensures { λ r. ⌜ r ≡ otherHalf h ⌝ }
 {
     if h % 2 == 0 {
@@ -79,7 +79,7 @@ fn other_half(h: u16) -> u16
 
 // What the row says of a reach to which a channel from `start` comes by o.
 fn guide_of(start: u16, o: u16) -> u16
-    requires { ⌜ start < none ⌝ }
+    requires { ⌜ start < noHalf ⌝ }
     ensures { λ r. ⌜ r ≡ guideOf start o ⌝ }
 {
     if start % 2 == o % 2 {
@@ -92,14 +92,14 @@ fn guide_of(start: u16, o: u16) -> u16
 fn note(kinds: &[u8], start: u16, o: u16, guide: &mut [u16])
     requires { ⌜ o < halves (now kinds) ⌝ }
     requires { ⌜ length (now guide) ≡ length (now kinds) ⌝ }
-    requires { ⌜ start < none ⌝ }
+    requires { ⌜ start < noHalf ⌝ }
     ensures { λ _. ⌜ GuideNoted (now (guide .entry)) start o (now (guide .exit)) ⌝ }
 {
     let k = (o / 2) as usize;
     if kinds[k] != 0 {
         return;
     }
-    if guide[k] < NONE {
+    if guide[k] < NO_HALF {
         return;
     }
     let x = guide_of(start, o);
@@ -128,7 +128,7 @@ fn follow(
     while left > 0 {
         left -= 1;
         let o = partner(n, kinds, a, b, head, next, h);
-        if o >= NONE {
+        if o >= NO_HALF {
             return;
         }
         if o / 2 == start / 2 {
@@ -164,7 +164,7 @@ fn pass(
             i += 1;
             continue;
         }
-        if guide[i] < NONE {
+        if guide[i] < NO_HALF {
             i += 1;
             continue;
         }
@@ -190,10 +190,10 @@ fn in_channel(
     ensures { λ r. ⌜ r ≤ 1 ⌝ }
 {
     let h = (2 * i) as u16;
-    if partner(n, kinds, a, b, head, next, h) < NONE {
+    if partner(n, kinds, a, b, head, next, h) < NO_HALF {
         return 1;
     }
-    if partner(n, kinds, a, b, head, next, h + 1) < NONE {
+    if partner(n, kinds, a, b, head, next, h + 1) < NO_HALF {
         return 1;
     }
     0
@@ -239,7 +239,7 @@ fn find(
         return 0;
     }
     let m = a.len();
-    half_edges::fill(m, NONE, guide);
+    half_edges::fill_row(m, NO_HALF, guide);
     pass(n, kinds, a, b, head, next, 1, guide);
     pass(n, kinds, a, b, head, next, 0, guide);
     m

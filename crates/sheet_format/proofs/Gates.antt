@@ -45,15 +45,15 @@ pub record GatesPassed (ks : List ℕ) (from i : ℕ) : Type 0 where
   pub below : i ≤ length ks
   pub same : due ks from ≡ due ks i
 
-pub passed-none : (ks : List ℕ) (i : ℕ) → i ≤ length ks → GatesPassed ks i i
-passed-none ks i l = record { below = l; same = refl }
+pub gates-passed-none : (ks : List ℕ) (i : ℕ) → i ≤ length ks → GatesPassed ks i i
+gates-passed-none ks i l = record { below = l; same = refl }
 
 module _ (ks : List ℕ) (from i : ℕ) (p : GatesPassed ks from i) where
-  pub passed-more : i < length ks → (getD ks i 0 ≡ 0 → ⊥) → GatesPassed ks from (i + 1)
-  passed-more l n = record { below = omega arith; same = p .same ∙ due-other ks i l n }
+  pub gates-passed-more : i < length ks → (getD ks i 0 ≡ 0 → ⊥) → GatesPassed ks from (i + 1)
+  gates-passed-more l n = record { below = omega arith; same = p .same ∙ due-other ks i l n }
 
-  pub passed-to : i < length ks → getD ks i 0 ≡ 0 → NextGate ks from i
-  passed-to l e = record { below = p .below; is-next = λ _. p .same ∙ due-gate ks i l e; none-left = λ h. absurd (omega arith) }
+  pub gates-passed-to : i < length ks → getD ks i 0 ≡ 0 → NextGate ks from i
+  gates-passed-to l e = record { below = p .below; is-next = λ _. p .same ∙ due-gate ks i l e; none-left = λ h. absurd (omega arith) }
 
-  pub passed-all : length ks ≤ i → NextGate ks from i
-  passed-all l = record { below = p .below; is-next = λ h. absurd (omega arith); none-left = λ _. p .same ∙ due-none ks i l }
+  pub gates-passed-all : length ks ≤ i → NextGate ks from i
+  gates-passed-all l = record { below = p .below; is-next = λ h. absurd (omega arith); none-left = λ _. p .same ∙ due-none ks i l }

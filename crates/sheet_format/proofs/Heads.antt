@@ -13,14 +13,14 @@ use Rattle.sheet_format.specs.declared.SheetAnswer.{SheetAnswer}
 use Rattle.sheet_format.specs.declared.SheetAnswer.the-variants.{Refused}
 use Rattle.sheet_format.specs.Readings.{planHeadDue, readGates, readRecords}
 use Rattle.sheet_format.specs.Answers.{Held}
-use Rattle.sheet_format.proofs.Steps.{head-at}
+use Rattle.sheet_format.proofs.Steps.{sheet-head-at}
 use Rattle.sheet_format.proofs.Scan.{held-refused}
 
 module _ (gs f : List ℕ) (k : ℕ) (e : takenAnswer (takeRecord planHeadDue f) ≡ Whole k) (n : ℕ) (w : n ≡ wordOf (take 2 (drop 1 f))) where
   pub head-wrong : (held : List ℕ) → (n ≡ length gs → ⊥) → Held (readRecords gs f) (Refused BadSetting) held
-  head-wrong held d = held-refused BadSetting held (head-at gs f k e .next ∙ rw (← w, ne-eqb n (length gs) d))
+  head-wrong held d = held-refused BadSetting held (sheet-head-at gs f k e .next ∙ rw (← w, ne-eqb n (length gs) d))
 
   pub head-right : (r : SheetAnswer) (held : List ℕ) → n ≡ length gs → Held (readGates gs (drop 3 f)) r held → Held (readRecords gs f) r held
   head-right r held d h =
-      let goes : readRecords gs f ≡ readGates gs (drop 3 f) = head-at gs f k e .next ∙ rw (← w, eq-eqb n (length gs) d) in
+      let goes : readRecords gs f ≡ readGates gs (drop 3 f) = sheet-head-at gs f k e .next ∙ rw (← w, eq-eqb n (length gs) d) in
       subst (λ x. Held x r held) (sym goes) h

@@ -31,8 +31,8 @@ orientation k q h =
     (or-cases (eqb k 17) _ h)
 
 -- where the head is due only it may come
-pub comes-first : (k : ℕ) → elem k planHeadDue ≡ true → k ≡ 16
-comes-first k h = eqb-true k 16 (rw or-false at h)
+pub sheet-comes-first : (k : ℕ) → elem k planHeadDue ≡ true → k ≡ 16
+sheet-comes-first k h = eqb-true k 16 (rw or-false at h)
 
 pub body-oriented : (k : ℕ) → Hanging k → bodyOf k ≡ some 2
 unfolding bodyOf

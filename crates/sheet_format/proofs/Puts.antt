@@ -87,23 +87,23 @@ module _ (ks s : List ℕ) (fit : Records ks s) where
 
 -- the rows cut to the length of the table
 module _ (ks xs ys : List ℕ) (m : ℕ) (e : m ≡ length (tableOf ks xs ys)) where
-  pub cut-gates : gatesRow 0 (take m ks) ≡ gatesFrom 0 (tableOf ks xs ys)
-  cut-gates = rw e (gates-row 0 ks xs ys)
+  pub cut-gates-row : gatesRow 0 (take m ks) ≡ gatesFrom 0 (tableOf ks xs ys)
+  cut-gates-row = rw e (gates-row 0 ks xs ys)
 
   pub cut-fits : (s : List ℕ) → Fitting (tableOf ks xs ys) s → Records (take m ks) s
   cut-fits s f =
-      record { few = omega (arith, length-take-le m ks (cut-kinds ks xs ys m e), f .few); full = f .full ∙ sym (ap length cut-gates) }
+      record { few = omega (arith, length-take-le m ks (cut-kinds ks xs ys m e), f .few); full = f .full ∙ sym (ap length cut-gates-row) }
 
   pub cut-sheet :
       (s out : List ℕ) (r : WriteAnswer) (out′ : List ℕ)
       → WroteWhole (planSheet (gatesRow 0 (take m ks)) s) out r out′
       → WroteWhole (planSheet (gatesFrom 0 (tableOf ks xs ys)) s) out r out′
-  cut-sheet s out r out′ = subst (λ gs. WroteWhole (planSheet gs s) out r out′) cut-gates
+  cut-sheet s out r out′ = subst (λ gs. WroteWhole (planSheet gs s) out r out′) cut-gates-row
 
   -- the first bytes of a plan buffer, one for each gated reach
   module _ (plan : List ℕ) (roomy : Roomy (tableOf ks xs ys) plan) (g : ℕ) (count : g ≡ gatesIn (take m ks)) where
     gate-count : g ≡ length (gatesFrom 0 (tableOf ks xs ys))
-    gate-count = count ∙ sym (count-row 0 (take m ks)) ∙ ap length cut-gates
+    gate-count = count ∙ sym (count-row 0 (take m ks)) ∙ ap length cut-gates-row
 
     pub cut-room : g ≤ length plan
     cut-room = omega (arith, gate-count, roomy .room)

@@ -27,8 +27,8 @@ use Rattle.file_records.proofs.Records.{word-bytes, bytes-drop, three-again}
 use Rattle.file_records.proofs.Taking.{stands, value-taken}
 use Rattle.sheet_format.specs.Sheets.{gateKind, gateRecord, gateRecords, planSheet, sheetOf}
 use Rattle.sheet_format.specs.Readings.{planHeadDue, gateDue, SheetReading, sheetRefused, sheetSays, atSheetEnd, byteIn, withByte, readGates, readCount, readRecords, ifPlan, unlessFault, readSheet}
-use Rattle.sheet_format.proofs.Marking.{orientation, comes-first, body-oriented, body-plan, kind-again}
-use Rattle.sheet_format.proofs.Steps.{GateStood, step-broken, step-end, step-early, GateStep, gate-step, gate-front, head-step, head-at, head-broken}
+use Rattle.sheet_format.proofs.Marking.{orientation, sheet-comes-first, body-oriented, body-plan, kind-again}
+use Rattle.sheet_format.proofs.Steps.{GateStood, sheet-step-broken, sheet-step-end, sheet-step-early, GateStep, gate-step, gate-front, sheet-head-step, sheet-head-at, sheet-head-broken}
 
 -- ---- what is written is read again
 
@@ -57,7 +57,7 @@ read-gates (i ∷ gs) (x ∷ s) e h =
 
 pub read-records : (gs s : List ℕ) → length s ≡ length gs → every (λ x. leb x 1) s ≡ true → readRecords gs (planSheet gs s) ≡ sheetSays s
 read-records gs s e h =
-    head-step gs (planSheet gs s) 16 (omega arith) (value-taken planHeadDue 16 (length gs) (gateRecords gs s ++ (9 ∷ [])) refl body-plan) .next
+    sheet-head-step gs (planSheet gs s) 16 (omega arith) (value-taken planHeadDue 16 (length gs) (gateRecords gs s ++ (9 ∷ [])) refl body-plan) .next
     ∙ rw (word-bytes (length gs), eq-eqb (length gs) (length gs) refl) (read-gates gs s e h)
 
 -- what a plan has: a byte for each gated reach, each 0 or 1
@@ -69,9 +69,9 @@ unfolding isSetting
 plan-bits N s p = and-elim-right (eqb (length s) (gateCount N)) _ (plan-setting N s p)
 
 -- The sheet of a plan of an accepted network is read as that plan.
-pub read-write : (N : Network) (s : List ℕ) → Accepted N → isPlan N s ≡ true → readSheet N (sheetOf N s) ≡ sheetSays s
+pub sheet-read-write : (N : Network) (s : List ℕ) → Accepted N → isPlan N s ≡ true → readSheet N (sheetOf N s) ≡ sheetSays s
 unfolding readSheet
-read-write N s ok p = rw (ok, read-records (gates N) s (plan-long N s p) (plan-bits N s p), p)
+sheet-read-write N s ok p = rw (ok, read-records (gates N) s (plan-long N s p) (plan-bits N s p), p)
 
 -- ---- what is read was written so
 
@@ -95,11 +95,11 @@ unread-end :
 unread-end gs f s e h = go (takenAnswer (takeRecord gateDue f)) refl
   where
     ended : (gs : List ℕ) → readGates gs f ≡ sheetSays s → GateStood f 9 → f ≡ gateRecords gs s ++ (9 ∷ [])
-    ended [] e w = stands gateDue f 9 w .starts ∙ ap (λ l. 9 ∷ l) (end-is (drop 1 f) s (sym (step-end f w) ∙ e) .0)
-    ended (i ∷ gs) e w = no-setting BadSetting s (sym (step-early f w i gs) ∙ e)
+    ended [] e w = stands gateDue f 9 w .starts ∙ ap (λ l. 9 ∷ l) (end-is (drop 1 f) s (sym (sheet-step-end f w) ∙ e) .0)
+    ended (i ∷ gs) e w = no-setting BadSetting s (sym (sheet-step-early f w i gs) ∙ e)
 
     go : (a : Taken) → takenAnswer (takeRecord gateDue f) ≡ a → f ≡ gateRecords gs s ++ (9 ∷ [])
-    go (Broken r) w = no-setting r s (sym (step-broken f gs r w) ∙ e)
+    go (Broken r) w = no-setting r s (sym (sheet-step-broken f gs r w) ∙ e)
     go (Whole k) w = test (eqb k 9) refl
       where
         test : (t : Bool) → eqb k 9 ≡ t → f ≡ gateRecords gs s ++ (9 ∷ [])
@@ -149,14 +149,14 @@ write-records gs f s b e = go (takenAnswer (takeRecord planHeadDue f)) refl
         → f ≡ planSheet gs s
     value k w true g h =
         let v = stands planHeadDue f k w in
-        let first : f ≡ 16 ∷ drop 1 f = v .starts ∙ ap (λ x. x ∷ drop 1 f) (comes-first k (v .comes)) in
-        three-again 16 f (gateRecords gs s ++ (9 ∷ [])) b (head-at gs f k w .fits) first (unread gs (drop 3 f) s (bytes-drop 3 f b) (rw g at h))
+        let first : f ≡ 16 ∷ drop 1 f = v .starts ∙ ap (λ x. x ∷ drop 1 f) (sheet-comes-first k (v .comes)) in
+        three-again 16 f (gateRecords gs s ++ (9 ∷ [])) b (sheet-head-at gs f k w .fits) first (unread gs (drop 3 f) s (bytes-drop 3 f b) (rw g at h))
         ∙ ap (λ m. 16 ∷ (twoBytes m ++ (gateRecords gs s ++ (9 ∷ [])))) (eqb-true n (length gs) g)
     value k w false g h = no-setting BadSetting s (rw g at h)
 
     go : (a : Taken) → takenAnswer (takeRecord planHeadDue f) ≡ a → f ≡ planSheet gs s
-    go (Broken r) w = no-setting r s (sym (head-broken gs f r w) ∙ e)
-    go (Whole k) w = value k w (eqb n (length gs)) refl (sym (head-at gs f k w .next) ∙ e)
+    go (Broken r) w = no-setting r s (sym (sheet-head-broken gs f r w) ∙ e)
+    go (Whole k) w = value k w (eqb n (length gs)) refl (sym (sheet-head-at gs f k w .next) ∙ e)
 
 -- a sheet that is read: the network is accepted, the setting is a plan, and the records say it
 pub record WasRead (N : Network) (f s : List ℕ) : Type 0 where
@@ -181,12 +181,12 @@ was-read N f s e = go (tableFault N) refl e
     go none t h = let x = if-plan-is N (readRecords (gates N) f) s h in record { accepted = t; is-plan = x .0; records = x .1 }
 
 -- A sheet that is read as a setting is the one that is written for it.
-pub write-read : (N : Network) (f s : List ℕ) → areBytes f ≡ true → readSheet N f ≡ sheetSays s → f ≡ sheetOf N s
-write-read N f s b e = write-records (gates N) f s b (was-read N f s e .records)
+pub sheet-write-read : (N : Network) (f s : List ℕ) → areBytes f ≡ true → readSheet N f ≡ sheetSays s → f ≡ sheetOf N s
+sheet-write-read N f s b e = write-records (gates N) f s b (was-read N f s e .records)
 
 -- Two sheets that are read as one setting are the same bytes.
 pub same-sheet : (N : Network) (f g s : List ℕ) → areBytes f ≡ true → areBytes g ≡ true → readSheet N f ≡ sheetSays s → readSheet N g ≡ sheetSays s → f ≡ g
-same-sheet N f g s p q d e = write-read N f s p d ∙ sym (write-read N g s q e)
+same-sheet N f g s p q d e = sheet-write-read N f s p d ∙ sym (sheet-write-read N g s q e)
 
 -- What the reader accepts is a plan, of an accepted network.
 pub read-is-plan : (N : Network) (f s : List ℕ) → readSheet N f ≡ sheetSays s → isPlan N s ≡ true

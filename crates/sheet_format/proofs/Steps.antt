@@ -17,16 +17,16 @@ use Rattle.file_records.specs.Records.{bodyOf, broken, whole, takeRecord, taken
 use Rattle.file_records.proofs.Records.{body-end}
 use Rattle.file_records.proofs.Taking.{broken-is, Stands, stands, same-size}
 use Rattle.sheet_format.specs.Readings.{planHeadDue, gateDue, sheetRefused, atSheetEnd, byteIn, withByte, readGates, readCount, readRecords}
-use Rattle.sheet_format.proofs.Marking.{orientation, comes-first, body-oriented, body-plan}
+use Rattle.sheet_format.proofs.Marking.{orientation, sheet-comes-first, body-oriented, body-plan}
 
 -- a whole record of kind k stands at the front of the bytes, after the head
 abbrev pub GateStood : List ℕ → ℕ → Type 0
 GateStood f k = takenAnswer (takeRecord gateDue f) ≡ Whole k
 
 module _ (f : List ℕ) where
-  pub step-broken : (gs : List ℕ) (r : Refusal) → takenAnswer (takeRecord gateDue f) ≡ Broken r → readGates gs f ≡ sheetRefused r
+  pub sheet-step-broken : (gs : List ℕ) (r : Refusal) → takenAnswer (takeRecord gateDue f) ≡ Broken r → readGates gs f ≡ sheetRefused r
   unfolding readGates
-  step-broken gs r e = go gs
+  sheet-step-broken gs r e = go gs
     where
       is : takeRecord gateDue f ≡ broken r
       is = broken-is (takeRecord gateDue f) r e
@@ -43,13 +43,13 @@ module _ (f : List ℕ) where
         let none-left : s .size ≡ 0 = same-size (s .sized) body-end in
         rw none-left at (s .taken)
 
-    pub step-end : readGates [] f ≡ atSheetEnd (drop 1 f)
+    pub sheet-step-end : readGates [] f ≡ atSheetEnd (drop 1 f)
     unfolding readGates
-    step-end = rw ended
+    sheet-step-end = rw ended
 
-    pub step-early : (i : ℕ) (gs : List ℕ) → readGates (i ∷ gs) f ≡ sheetRefused BadSetting
+    pub sheet-step-early : (i : ℕ) (gs : List ℕ) → readGates (i ∷ gs) f ≡ sheetRefused BadSetting
     unfolding readGates
-    step-early i gs = rw ended
+    sheet-step-early i gs = rw ended
 
 -- a gated reach stands at the front: it fits, and how the reading goes on
 pub record GateStep (f : List ℕ) (k : ℕ) : Type 0 where
@@ -78,20 +78,20 @@ pub record PlanHeadStep (gs f : List ℕ) : Type 0 where
   pub fits : 3 ≤ length f
   pub next : readRecords gs f ≡ readCount gs (wordOf (take 2 (drop 1 f))) (drop 3 f)
 
-pub head-step :
+pub sheet-head-step :
     (gs f : List ℕ) (k : ℕ) → 3 ≤ length f → takeRecord planHeadDue f ≡ whole k (take 2 (drop 1 f)) (drop 2 (drop 1 f)) → PlanHeadStep gs f
 unfolding readRecords
-head-step gs f k l t = record { fits = l; next = rw (t, drop-drop 2 1 f) }
+sheet-head-step gs f k l t = record { fits = l; next = rw (t, drop-drop 2 1 f) }
 
-pub head-at : (gs f : List ℕ) (k : ℕ) → takenAnswer (takeRecord planHeadDue f) ≡ Whole k → PlanHeadStep gs f
-head-at gs f k e = head-step gs f k (omega (arith, s .long, two)) (rw two at (s .taken))
+pub sheet-head-at : (gs f : List ℕ) (k : ℕ) → takenAnswer (takeRecord planHeadDue f) ≡ Whole k → PlanHeadStep gs f
+sheet-head-at gs f k e = sheet-head-step gs f k (omega (arith, s .long, two)) (rw two at (s .taken))
   where
     s : Stands planHeadDue f k
     s = stands planHeadDue f k e
 
     two : s .size ≡ 2
-    two = same-size (s .sized) (ap bodyOf (comes-first k (s .comes)) ∙ body-plan)
+    two = same-size (s .sized) (ap bodyOf (sheet-comes-first k (s .comes)) ∙ body-plan)
 
-pub head-broken : (gs f : List ℕ) (r : Refusal) → takenAnswer (takeRecord planHeadDue f) ≡ Broken r → readRecords gs f ≡ sheetRefused r
+pub sheet-head-broken : (gs f : List ℕ) (r : Refusal) → takenAnswer (takeRecord planHeadDue f) ≡ Broken r → readRecords gs f ≡ sheetRefused r
 unfolding readRecords
-head-broken gs f r e = rw (broken-is (takeRecord planHeadDue f) r e)
+sheet-head-broken gs f r e = rw (broken-is (takeRecord planHeadDue f) r e)

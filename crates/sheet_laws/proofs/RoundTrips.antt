@@ -15,7 +15,7 @@ use Rattle.network.specs.declared.Refusal.{Refusal}
 use Rattle.network.specs.declared.Refusal.the-variants.{ShortBuffer}
 use Rattle.network.specs.Networks.{Network, tableFault, Accepted}
 use Rattle.network.specs.Plans.{isPlan}
-use Rattle.network.specs.Marks.{markBytes, marksOf, onesIn}
+use Rattle.network.specs.Marks.{markBytes, marksOf, markCount}
 use Rattle.network.specs.Replies.{Outcome, shutIn, lone, shutInSide, bridgeSide, firstAnswer, firstOf, planFault}
 use Rattle.lists.proofs.Bools.{clash}
 use Rattle.network.proofs.Bridges.{bridge-blocks}
@@ -38,7 +38,7 @@ use Rattle.sheet_format.specs.Sheets.{sheetOf, outcomeSheet, replySheet}
 use Rattle.sheet_format.specs.Readings.{SheetReading, sheetRefused, sheetSays, unlessFault, readRecords, readSheet, sheetWithRoom}
 use Rattle.sheet_format.specs.Answers.{sheetAnswer, settingRead, Got, sheetFault, replyFault, SheetRead, SheetWritten, ReplyWritten}
 use Rattle.sheet_laws.specs.Laws.{SheetWriteRead, sheetAgain, SheetReadWrite, checkedBack, SheetReadCheck, replyRead, ReplyWriteRead, Replies, says-plan, says-shut-in, says-lone, marksOn, planOn, replyOn, SheetShown}
-use Rattle.sheet_format.proofs.Sheets.{read-write, write-read, was-read}
+use Rattle.sheet_format.proofs.Sheets.{sheet-read-write, sheet-write-read, was-read}
 use Rattle.planner_laws.specs.Demands.{FirstShown}
 use Rattle.planner_laws.proofs.Demands.{first-shown}
 use Rattle.file_records.proofs.Records.{word-bytes}
@@ -81,7 +81,7 @@ module _ (N : Network) (s : List ℕ) {out out′ setting : List ℕ} where
       record {
         again =
             written-got N (sheetFault N s (length out)) (sheetOf N s) (sheetSays s) p
-            (λ sound. let p = its-plan N s (length out) sound in read-write N s (p .accepted-net) (p .is-plan)) g;
+            (λ sound. let p = its-plan N s (length out) sound in sheet-read-write N s (p .accepted-net) (p .is-plan)) g;
         sheet = p .bytes;
       }
 
@@ -141,7 +141,7 @@ module _ (N : Network) (f : List ℕ) {setting setting′ : List ℕ} where
         record {
           again =
               subst (λ x. Wrote (sheetAgain x f (length out)) f out r out′) (sym is)
-              (subst (λ h. WroteWhole h out r out′) (sym (write-read N f s b sheet-is))
+              (subst (λ h. WroteWhole h out r out′) (sym (sheet-write-read N f s b sheet-is))
               (subst (λ o. Wrote o (sheetOf N s) out r out′) fault (subst (λ t. SheetWritten N t out r out′) front p)));
           bytes = g .bytes;
         }
@@ -165,7 +165,7 @@ module _ (N : Network) (f : List ℕ) {setting setting′ : List ℕ} where
 -- ---- the reply's sheet
 
 says : (N : Network) → Accepted N → {o : Outcome} → First N o → Replies N (outcomeSheet N o)
-says N ok (is-plan s e) = says-plan s e (read-write N s ok (first-is-plan N e))
+says N ok (is-plan s e) = says-plan s e (sheet-read-write N s ok (first-is-plan N e))
 says N ok (is-shut n) = says-shut-in n refl
 says N ok (is-bridge i y e) = says-lone i y e refl
 
@@ -186,7 +186,7 @@ reply-only N f ok b q = go (first-cases N ok) q
     same-plan e = cc
 
     go : {o : Outcome} → First N o → Replies N f → f ≡ outcomeSheet N o
-    go (is-plan s e) (says-plan t d r) = write-read N f t b r ∙ ap (sheetOf N) (same-plan (sym d ∙ e))
+    go (is-plan s e) (says-plan t d r) = sheet-write-read N f t b r ∙ ap (sheetOf N) (same-plan (sym d ∙ e))
     go (is-plan s e) (says-shut-in n r) = clash (plan-passable N s (first-is-plan N e)) n
     go (is-plan s e) (says-lone i y l r) = absurd (bridge-blocks N i (lowest-is-bridge N l) s (first-is-plan N e))
     go (is-shut n) (says-plan t d r) = clash (plan-passable N t (first-is-plan N d)) n
@@ -199,7 +199,7 @@ reply-only N f ok b q = go (first-cases N ok) q
 -- its reading as a plan sheet is the first plan, where there is one
 read-outcome : (N : Network) → Accepted N → {o : Outcome} → First N o → readSheet N (outcomeSheet N o) ≡ replyRead o
 unfolding readSheet readRecords
-read-outcome N ok (is-plan s e) = read-write N s ok (first-is-plan N e)
+read-outcome N ok (is-plan s e) = sheet-read-write N s ok (first-is-plan N e)
 read-outcome N ok (is-shut n) = rw ok
 read-outcome N ok (is-bridge i y e) = rw ok
 
@@ -230,11 +230,11 @@ marks-on S = take-at (marksOf S) (endKind ∷ []) markBytes (length-marks S)
 
 outcome-on : (N : Network) → Accepted N → {o : Outcome} → First N o → replyOn N (outcomeSheet N o) ≡ o
 unfolding replyOn
-outcome-on N ok (is-plan s e) = ap planOn (read-write N s ok (first-is-plan N e))
-outcome-on N ok (is-shut n) = ap (λ (m : List ℕ). shutIn m (onesIn m)) (marks-on (shutInSide N))
+outcome-on N ok (is-plan s e) = ap planOn (sheet-read-write N s ok (first-is-plan N e))
+outcome-on N ok (is-shut n) = ap (λ (m : List ℕ). shutIn m (markCount m)) (marks-on (shutInSide N))
 outcome-on N ok (is-bridge i y e) =
-    ap (λ (j : ℕ). lone j (marksOn 3 (outcomeSheet N (lone i (marksOf (bridgeSide N i)) 0))) (onesIn (marksOn 3 (outcomeSheet N (lone i (marksOf (bridgeSide N i)) 0))))) (word-bytes i)
-    ∙ ap (λ (m : List ℕ). lone i m (onesIn m)) (marks-on (bridgeSide N i))
+    ap (λ (j : ℕ). lone j (marksOn 3 (outcomeSheet N (lone i (marksOf (bridgeSide N i)) 0))) (markCount (marksOn 3 (outcomeSheet N (lone i (marksOf (bridgeSide N i)) 0))))) (word-bytes i)
+    ∙ ap (λ (m : List ℕ). lone i m (markCount m)) (marks-on (bridgeSide N i))
 
 -- The reply is read off its sheet as it was given,
 pub reply-on : (N : Network) → Accepted N → replyOn N (replySheet N) ≡ firstAnswer N

@@ -13,7 +13,7 @@ use Rattle.network.specs.declared.Refusal.the-variants.{UnknownKind}
 use Rattle.network.specs.Networks.{Network}
 use Rattle.network.specs.Plans.{passable, firstPlan}
 use Rattle.network.specs.Bridges.{lowestBridge}
-use Rattle.network.specs.Marks.{markBytes, marksOf, onesIn}
+use Rattle.network.specs.Marks.{markBytes, marksOf, markCount}
 use Rattle.network.specs.Replies.{Outcome, plan, shutIn, lone, refused as told, firstAnswer, shutInSide, bridgeSide}
 use Rattle.file_records.specs.declared.WriteAnswer.{WriteAnswer}
 use Rattle.replies.specs.declared.CheckAnswer.{CheckAnswer}
@@ -85,8 +85,8 @@ planOn (sheetSays s) = plan s
 
 unfoldable pub replyOn : Network → List ℕ → Outcome
 replyOn N f =
-    cond (eqb (getD f 0 0) shutInKind) (shutIn (marksOn 1 f) (onesIn (marksOn 1 f)))
-    (cond (eqb (getD f 0 0) loneKind) (lone (reachOn f) (marksOn 3 f) (onesIn (marksOn 3 f))) (planOn (readSheet N f)))
+    cond (eqb (getD f 0 0) shutInKind) (shutIn (marksOn 1 f) (markCount (marksOn 1 f)))
+    (cond (eqb (getD f 0 0) loneKind) (lone (reachOn f) (marksOn 3 f) (markCount (marksOn 3 f))) (planOn (readSheet N f)))
 
 -- The bytes of the sheet alone show what the reply of first does: the first plan, or the finding with what somebody with the map checks.
 abbrev pub SheetShown : Network → List ℕ → Type 0

@@ -6,7 +6,7 @@ ghost use Rattle.tables.specs.Rows.{netOf};
 ghost use Rattle.sheet_laws.specs.Laws.{SheetWriteRead, SheetReadWrite, SheetReadCheck, ReplyWriteRead};
 
 // A plan that is written is read again as it was.
-pub fn write_then_read(
+pub fn write_then_read_sheet(
     basins: u16,
     kinds: &[u8],
     a: &[u16],
@@ -27,7 +27,7 @@ pub fn write_then_read(
 }
 
 // A plan sheet that is read is written again byte for byte.
-pub fn read_then_write(
+pub fn read_then_write_sheet(
     basins: u16,
     kinds: &[u8],
     a: &[u16],

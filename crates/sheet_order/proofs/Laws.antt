@@ -23,13 +23,13 @@ use Rattle.sheet_order.specs.Calls.{Ordered, Compared}
 use Rattle.sheet_order.specs.Laws.{Exchanged, EqualExactly, SamePart, Shown, PartShown}
 use Rattle.sheet_order.proofs.Prefixes.{prefix-sym, prefix-shared}
 use Rattle.sheet_order.proofs.Sheets.{order-refl, order-exchanged, equal-settings, sheets-apart}
-use Rattle.sheet_order.proofs.Orders.{no-number, BothRead, read-order, both-alongside, first-sheet, second-sheet, Told, told-refused, told-read, told-of, swapped, exchanged-first, gate-said, record-place}
+use Rattle.sheet_order.proofs.Orders.{no-number, BothRead, read-order, both-alongside, first-sheet, second-sheet, Told, told-refused, told-read, told-of, reads-swapped, exchanged-first, gate-said, record-place}
 
 -- ---- exchanged
 
 exchange-forth : (N : Network) (f g : List ℕ) {o : Order} → Told N f g o → orderNumber o ≡ 0 → sheetOrder N g f ≡ exchanged o
 exchange-forth N f g (told-refused r) z = no-number r z
-exchange-forth N f g (told-read s t b) z = read-order N g f (swapped b) ∙ order-exchanged s t
+exchange-forth N f g (told-read s t b) z = read-order N g f (reads-swapped b) ∙ order-exchanged s t
 
 -- Exchanging two sheets exchanges their order, but for refusals.
 pub exchange : (N : Network) (f g : List ℕ) {o o′ : Order} → Ordered N f g o → Ordered N g f o′ → Exchanged o o′
@@ -86,7 +86,7 @@ module _ (N : Network) (first second r : RefT (List ℕ)) (bf : areBytes (now fi
   part-read b (Refused x) e p = p .bytes
   part-read b Equal e p = to-end p (omega arith) ∙ drop-of-length-le (now first) {i = length (now first)} (omega arith)
   part-read b First e p = shown N (now first) (now second) bf bg b e (gate-said b) (to-end p (omega arith))
-  part-read {s} {t} b Second e p = shown N (now second) (now first) bg bf (swapped b) (exchanged-first s t e) (gate-said b ∙ prefix-sym s t) (to-end p (omega arith))
+  part-read {s} {t} b Second e p = shown N (now second) (now first) bg bf (reads-swapped b) (exchanged-first s t e) (gate-said b ∙ prefix-sym s t) (to-end p (omega arith))
 
   part-told : {o : Order} → Told N (now first) (now second) o → Stands o
   part-told (told-refused x) p = p .bytes

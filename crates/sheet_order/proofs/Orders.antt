@@ -16,7 +16,7 @@ use Rattle.network.specs.Settings.{before, gates}
 use Rattle.sheet_format.specs.Sheets.{sheetOf}
 use Rattle.sheet_format.specs.Readings.{SheetReading, sheetRefused, sheetSays, readSheet}
 use Rattle.sheet_format.specs.Answers.{sheetReadingNumber}
-use Rattle.sheet_format.proofs.Sheets.{plan-long, plan-bits, read-is-plan, write-read}
+use Rattle.sheet_format.proofs.Sheets.{plan-long, plan-bits, read-is-plan, sheet-write-read}
 use Rattle.sheet_order.specs.declared.Order.{Order}
 use Rattle.sheet_order.specs.declared.Order.the-variants.{Refused, Equal, First, Second}
 use Rattle.sheet_order.specs.Orders.{settingOrder, readingOrder, sheetOrder, orderNumber, firstNumber, differ, exchanged}
@@ -78,10 +78,10 @@ module _ (N : Network) (f g : List ℕ) where
 
     module _ (bf : areBytes f ≡ true) (bg : areBytes g ≡ true) where
       pub first-sheet : f ≡ sheetOf N s
-      first-sheet = write-read N f s bf (b .first-says)
+      first-sheet = sheet-write-read N f s bf (b .first-says)
 
       pub second-sheet : g ≡ sheetOf N t
-      second-sheet = write-read N g t bg (b .second-says)
+      second-sheet = sheet-write-read N g t bg (b .second-says)
 
       bytes-order : settingOrder f g ≡ settingOrder s t
       bytes-order = rw (first-sheet, second-sheet) (order-sheets both-alongside)
@@ -109,8 +109,8 @@ told-of {N} {f} {g} p = subst (Told N f g) (sym (p .order)) (told N f g)
 
 -- ---- where the part begins
 
-pub swapped : {N : Network} {f g s t : List ℕ} → BothRead N f g s t → BothRead N g f t s
-swapped b = record { first-says = b .second-says; second-says = b .first-says }
+pub reads-swapped : {N : Network} {f g s t : List ℕ} → BothRead N f g s t → BothRead N g f t s
+reads-swapped b = record { first-says = b .second-says; second-says = b .first-says }
 
 pub exchanged-first : (s t : List ℕ) → settingOrder s t ≡ Second → settingOrder t s ≡ First
 exchanged-first s t e = order-exchanged s t ∙ ap exchanged e
@@ -131,7 +131,7 @@ module _ (N : Network) (f g : List ℕ) (bf : areBytes f ≡ true) (bg : areByte
 
     place-second : settingOrder s t ≡ Second → commonPrefix f g ≡ differingRecord N f g
     place-second e =
-        prefix-sym f g ∙ record-place N g f bg bf (swapped b) (exchanged-first s t e) ∙ ap recordPlace (prefix-sym t s ∙ sym (gate-said b))
+        prefix-sym f g ∙ record-place N g f bg bf (reads-swapped b) (exchanged-first s t e) ∙ ap recordPlace (prefix-sym t s ∙ sym (gate-said b))
 
     place-read : (o : Order) → settingOrder s t ≡ o → differ o ≡ true → commonPrefix f g ≡ differingRecord N f g
     place-read (Refused x) e d = absurd (true≢false (sym d))

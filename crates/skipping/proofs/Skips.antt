@@ -87,13 +87,13 @@ module _ {n : ℕ} {ks xs ys s ws : List ℕ} (p : AtPlan n ks xs ys s ws) where
 -- ---- one reach more
 
 -- the ways os have no gate oriented, and what fs does not try is bound
-pub record Noted (n : ℕ) (ks xs ys ws fs os : List ℕ) : Type 0 where
+pub record BoundNoted (n : ℕ) (ks xs ys ws fs os : List ℕ) : Type 0 where
   pub open-kept : os ≡ waysRow ks []
   pub binds : Binds (netOf n ks xs ys) fs ws
 
 pub noted-on :
-    {n : ℕ} {ks xs ys s ws fs os fs′ os′ : List ℕ} (i way : ℕ) → AtPlan n ks xs ys s ws → i < length xs → way ≡ getD ws i 3 → Noted n ks xs ys ws fs os → NotedAt xs ys fs os i way fs′ os′
-    → Noted n ks xs ys ws fs′ os′
+    {n : ℕ} {ks xs ys s ws fs os fs′ os′ : List ℕ} (i way : ℕ) → AtPlan n ks xs ys s ws → i < length xs → way ≡ getD ws i 3 → BoundNoted n ks xs ys ws fs os → NotedAt xs ys fs os i way fs′ os′
+    → BoundNoted n ks xs ys ws fs′ os′
 noted-on {n} {ks} {xs} {ys} {s} {ws} {fs} {os} {fs′} {os′} i way p l e h d = go d
   where
     below : i < length ((netOf n ks xs ys) .reaches)
@@ -108,7 +108,7 @@ noted-on {n} {ks} {xs} {ys} {s} {ws} {fs} {os} {fs′} {os′} i way p l e h d =
     freed : isTried fs i ≡ true → set os i 2 ≡ waysRow ks []
     freed t = ap (λ (v : List ℕ). set v i 2) open-is ∙ open-set p i below (gate t) ∙ sym open-is ∙ h .open-kept
 
-    go : NotedAt xs ys fs os i way fs′ os′ → Noted n ks xs ys ws fs′ os′
+    go : NotedAt xs ys fs os i way fs′ os′ → BoundNoted n ks xs ys ws fs′ os′
     go (as-it-was f o) = rw (f, o) h
     go (still-tried t f o) = record { open-kept = o ∙ freed t; binds = subst⁻¹ (λ (v : List ℕ). Binds (netOf n ks xs ys) v ws) f (h .binds) }
     go (tried-no-more t small lost f o) =

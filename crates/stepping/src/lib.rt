@@ -41,7 +41,7 @@ pub fn advance(
 {
     copy_row(ways, under);
     let m = a.len();
-    seeking::step(
+    seeking::step_from(
         n,
         guide,
         tried,

@@ -14,14 +14,14 @@ use Rattle.network.proofs.Networks.{not-gated, state-shut}
 use Rattle.network.proofs.Ways.{plain-here, plain-after, shut-plain, shut-way}
 
 -- The ways of the first i reaches are written, with k gates among them.
-pub record Hung (ks s ws₀ ws : List ℕ) (k i : ℕ) : Type 0 where
+pub record WaysWritten (ks s ws₀ ws : List ℕ) (k i : ℕ) : Type 0 where
   pub whole : take i ws ++ waysRow (drop i ks) (drop k s) ≡ waysRow ks s
   pub gates : k ≤ i
   pub below : i ≤ length ks
   pub kept : length ws ≡ length ws₀
 
-pub oriented-none : (ks s ws : List ℕ) → Hung ks s ws ws 0 0
-oriented-none ks s ws = record { whole = refl; gates = omega arith; below = omega arith; kept = refl }
+pub ways-none : (ks s ws : List ℕ) → WaysWritten ks s ws ws 0 0
+ways-none ks s ws = record { whole = refl; gates = omega arith; below = omega arith; kept = refl }
 
 -- the way of a gate with a byte, of a gate without one, of a two-way reach, and of a shut reach
 pub way-byte : (d k : ℕ) (s : List ℕ) → d ≡ 0 → k < length s → getD s k 0 ≡ way (stateOf d) (drop k s)
@@ -43,10 +43,10 @@ after-gate d k s e = rw e (drop-drop 1 k s)
 pub after-other : (d : ℕ) (h : List ℕ) → (d ≡ 0 → ⊥) → after (stateOf d) h ≡ h
 after-other d h n = plain-after (stateOf d) h (not-gated d n)
 
-module _ (ks s ws₀ ws : List ℕ) (k i : ℕ) (room : length ws₀ ≡ length ks) (h : Hung ks s ws₀ ws k i) where
+module _ (ks s ws₀ ws : List ℕ) (k i : ℕ) (room : length ws₀ ≡ length ks) (h : WaysWritten ks s ws₀ ws k i) where
   -- one more way: of the reach i, with the byte k if it is a gate
-  pub oriented-more : (w k′ : ℕ) → i < length ks → k′ ≤ k + 1 → w ≡ way (stateOf (getD ks i 0)) (drop k s) → after (stateOf (getD ks i 0)) (drop k s) ≡ drop k′ s → Hung ks s ws₀ (set ws i w) k′ (i + 1)
-  oriented-more w k′ l g e f =
+  pub ways-more : (w k′ : ℕ) → i < length ks → k′ ≤ k + 1 → w ≡ way (stateOf (getD ks i 0)) (drop k s) → after (stateOf (getD ks i 0)) (drop k s) ≡ drop k′ s → WaysWritten ks s ws₀ (set ws i w) k′ (i + 1)
+  ways-more w k′ l g e f =
       let m : i < length ws = omega (arith, h .kept) in
       record {
         whole = rw (take-stored ws i w _ m, e, ← f) (rw (drop-one ks i 0 l) at (h .whole));
@@ -56,5 +56,5 @@ module _ (ks s ws₀ ws : List ℕ) (k i : ℕ) (room : length ws₀ ≡ length 
       }
 
   -- at the end the ways are all written
-  pub oriented-all : length ks ≤ i → ws ≡ waysRow ks s
-  oriented-all l = rw (drop-of-length-le ks l, take-all i ws (omega (arith, h .kept)), append-nil) at (h .whole)
+  pub ways-all : length ks ≤ i → ws ≡ waysRow ks s
+  ways-all l = rw (drop-of-length-le ks l, take-all i ws (omega (arith, h .kept)), append-nil) at (h .whole)

@@ -22,8 +22,8 @@ use Rattle.tables.specs.Rows.{netOf, gatesIn, waysRow, bytesRow}
 use Rattle.tables.specs.Bytes.{bytesOf}
 
 -- the reach with a state's number and two ends
-abbrev pub reachOf : ℕ → ℕ → ℕ → Reach
-reachOf k x y = record { state = stateOf k; a = x; b = y }
+abbrev pub reachOfNumbers : ℕ → ℕ → ℕ → Reach
+reachOfNumbers k x y = record { state = stateOf k; a = x; b = y }
 
 -- ---- rows of any lengths
 
@@ -46,14 +46,14 @@ take-table zero (k ∷ ks) (x ∷ xs) (y ∷ ys) l = absurd (not-suc-le-zero l)
 take-table (suc m) [] xs ys l = refl
 take-table (suc m) (k ∷ ks) [] ys l = refl
 take-table (suc m) (k ∷ ks) (x ∷ xs) [] l = refl
-take-table (suc m) (k ∷ ks) (x ∷ xs) (y ∷ ys) l = ap (λ t. reachOf k x y ∷ t) (take-table m ks xs ys (le-of-suc-le-suc l))
+take-table (suc m) (k ∷ ks) (x ∷ xs) (y ∷ ys) l = ap (λ t. reachOfNumbers k x y ∷ t) (take-table m ks xs ys (le-of-suc-le-suc l))
 
 -- what stands beyond the shortest row counts for nothing
 pub table-take : (ks xs ys : List ℕ) → let m = shortest ks xs ys in tableOf (take m ks) (take m xs) (take m ys) ≡ tableOf ks xs ys
 table-take ks xs ys = take-table (shortest ks xs ys) ks xs ys (omega (arith, table-short ks xs ys))
 
 -- each reach has its state and its ends from the rows
-pub table-at : (i : ℕ) (ks xs ys : List ℕ) → i < length (tableOf ks xs ys) → getD (tableOf ks xs ys) i noReach ≡ reachOf (getD ks i 0) (getD xs i 0) (getD ys i 0)
+pub table-at : (i : ℕ) (ks xs ys : List ℕ) → i < length (tableOf ks xs ys) → getD (tableOf ks xs ys) i noReach ≡ reachOfNumbers (getD ks i 0) (getD xs i 0) (getD ys i 0)
 table-at i [] xs ys l = absurd (not-suc-le-zero l)
 table-at i (k ∷ ks) [] ys l = absurd (not-suc-le-zero l)
 table-at i (k ∷ ks) (x ∷ xs) [] l = absurd (not-suc-le-zero l)
@@ -90,7 +90,7 @@ module _ (ks xs ys : List ℕ) (e : length xs ≡ length ks) (f : length ys ≡ 
       rows (λ ks xs ys. (o : ℕ) → length (gatesFrom o (tableOf ks xs ys)) ≡ gatesIn ks) (λ o. refl) (λ k x y ks xs ys r o. length-cond (isGated (stateOf k)) o (gatesFrom (suc o) (tableOf ks xs ys)) (r (suc o))) ks xs ys e f
 
   -- its members
-  row-reach : (i : ℕ) → i < length ks → getD (tableOf ks xs ys) i noReach ≡ reachOf (getD ks i 0) (getD xs i 0) (getD ys i 0)
+  row-reach : (i : ℕ) → i < length ks → getD (tableOf ks xs ys) i noReach ≡ reachOfNumbers (getD ks i 0) (getD xs i 0) (getD ys i 0)
   row-reach i l = table-at i ks xs ys (omega (arith, row-length))
 
   pub row-state : (i : ℕ) → i < length ks → (getD (tableOf ks xs ys) i noReach) .state ≡ stateOf (getD ks i 0)

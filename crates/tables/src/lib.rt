@@ -48,8 +48,8 @@ pub fn row_count(kinds: &[u8], a: &[u16], b: &[u16]) -> usize
     least(kinds.len(), least(a.len(), b.len()))
 }
 
-// The number of the first reach with an end that is not below the basin count, or the number of reaches if there is none. Of the number of such a reach
-// only its bound is promised.
+// The number of reaches if every end is below the basin count, else a number below it: which reach it then names is not promised, since `table_check` asks
+// only whether there is a stray end.
 fn stray_end(basins: u16, kinds: &[u8], a: &[u16], b: &[u16]) -> usize
     ensures { λ r. ⌜ StrayEnd (netOf basins (now (kinds .entry)) (now (a .entry)) (now (b .entry))) r ⌝ }
 {

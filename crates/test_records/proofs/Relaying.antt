@@ -31,12 +31,12 @@ use denote.Triple.Clauses.{Clauses, Ended, Lasts, atExit, lasts}
 use denote.Array.{Array, array-tells as tells-array}
 use Rattle.network.proofs.Reach as R
 use Rattle.packing.proofs.Records.{reach-tells}
-use Rattle.packing.proofs.Locals.{Cell, Content, Blocks, room as empty, full, locals, blocks, fresh, holding, passed, Fitting}
-use Rattle.packing.proofs.Stacks.{seat, stacks, stores-in, sits, frees-part, passed-blocks, From, numberOf, cellOf, heldOf, these, opds-are, passes-on}
-use Rattle.packing.proofs.Lending.{Outs, three, OutsIn, outLocals, outHeld, held-blocks, operands, sliced, at, resultOf, paramsOf, firstOf, restOf, owned}
-use Rattle.packing.proofs.Relays.{table, asked}
+use Rattle.packing.proofs.Locals.{Cell, Content, Blocks, room as empty, full, locals, blocks, fresh, withContents, passed, WellTyped}
+use Rattle.packing.proofs.Stacks.{seat, stacks, stores-in, sits, frees-part, passed-blocks, From, numberOf, cellOf, heldFrom, these, opds-are, passes-on}
+use Rattle.packing.proofs.Lending.{Outs, three, OutsIn, outLocals, outHeld, held-blocks, operands, sliced, at, resultOf, paramsOf, firstFmls, restFml, owned}
+use Rattle.packing.proofs.Relays.{table, atEntry}
 use Rattle.packing.proofs.Unpacking.{reachTy}
-use Rattle.test_records.proofs.Lending.{ap, subst, ℕ, _<_, _^_, List, URA, Val, SProp, ent, Lft, Heap, Tables, WpFn, Atoms, fmOf, factI, tables, tablesOf, Given, ‵, _⊛_, _$_, _∵_, !, qed, by, move, look-in, stop, from, load, addr, agg, of-opd, and-then, no-more, assigns, land, returns, enter, allots, within, known, fills, frees-all, RefT, sliceVal, Fml, fsep, ftrue, Bound, Triple, entered, cited, Reach, Promise, meets, ending, calls-known, Routine, front, Holds, array, table-room, had, hears, lends-table, table-back, tableTy}
+use Rattle.test_records.proofs.Lending.{ap, subst, ℕ, _<_, _^_, List, URA, Val, SProp, ent, Lft, Heap, Tables, WpFn, Atoms, fmOf, factI, tables, tablesOf, Given, ‵, _⊛_, _$_, _∵_, !, qed, by, move, look-in, stop, from, load, addr, agg, of-opd, and-then, no-more, assigns, land, returns, enter, allots, within, known, fills, frees-all, RefT, sliceVal, Fml, fsep, ftrue, Bound, Triple, entered, cited, Reach, Promise, meets, call-end, calls-known, Routine, front, Holds, array, table-room, had, hears, lends-table, table-back, tableTy}
 -- (what a relay's own file takes from elsewhere, so that it has one `use` line for it)
 pub use mir.Syntax.{named, w16}
 pub use contract.Lifetimes.{toks}
@@ -95,7 +95,7 @@ Later os rs qs = blocks (fresh tableLocals rs) ++ blocks (fresh (outLocals os) q
 module _ {M : Type 1} (𝓤 : URA M) (H : Heap 𝓤) (A : Atoms 𝓤) (W : Given 𝓤 H A) {C : Calls 𝓤 H} {Λ : Loops 𝓤 H} (ls : List Local) (bs : Blocks ls) (rs : Blocks tableLocals) (cs : List Cell) where
   -- the `&mut` are passed on
   passes-outs : (os : Outs) (qs : Blocks (outLocals os)) → OutsIn 𝓤 H cs (blocks (fresh ls bs) ++ Later os rs qs) os → (rest : Body) (p : Post 𝓤 H) (Γ : List (Item 𝓤))
-      → Sq W (locals (holding (outLocals os) qs (outHeld os)) ∷ locals cs ∷ Γ) (runs C Λ (blocks (fresh ls bs) ++ Later os rs qs) rest p)
+      → Sq W (locals (withContents (outLocals os) qs (outHeld os)) ∷ locals cs ∷ Γ) (runs C Λ (blocks (fresh ls bs) ++ Later os rs qs) rest p)
       → Sq W (locals (fresh (outLocals os) qs) ∷ locals cs ∷ Γ) (runs C Λ (blocks (fresh ls bs) ++ Later os rs qs) (outBody ls os rest) p)
   passes-outs none qs is rest p Γ s = s
   passes-outs (one n ℓ x) qs is rest p Γ s = passes-on ! n ls bs (Later (one n ℓ x) rs qs) 3 0 (is .0) (is .1) refl refl refl refl refl (is .2) $ s
@@ -115,24 +115,24 @@ abbrev Params : Ty → (ps : List Local) → List Val → ℕ → Blocks ps → 
 Params τ ps vs b₀ bs = (τ, b₀, empty) ∷ passed (fresh ps bs) vs
 
 abbrev Passed : (os : Outs) → Blocks (outLocals os) → List Cell
-Passed os qs = holding (outLocals os) qs (outHeld os)
+Passed os qs = withContents (outLocals os) qs (outHeld os)
 
 -- a parameter holds a value, and operands find what the parts hold
 abbrev InPlace : {M : Type 1} (𝓤 : URA M) (H : Heap 𝓤) → List Cell → Env 𝓤 H → ℕ → Val → Type 0
 InPlace 𝓤 H cs E j v = getElem? cs j ≡ just (spotOf 𝓤 H E j .0, spotOf 𝓤 H E j .1, full v)
 
 abbrev Found : {M : Type 1} (𝓤 : URA M) (H : Heap 𝓤) → List Local → List Cell → List Cell → Env 𝓤 H → List From → Type 0
-Found 𝓤 H ls cs ds E xs = map (cellOf cs ds) xs ≡ map (λ x. just (spotOf 𝓤 H E (numberOf (ls ++ tableLocals) x) .0, spotOf 𝓤 H E (numberOf (ls ++ tableLocals) x) .1, full (heldOf cs ds x))) xs
+Found 𝓤 H ls cs ds E xs = map (cellOf cs ds) xs ≡ map (λ x. just (spotOf 𝓤 H E (numberOf (ls ++ tableLocals) x) .0, spotOf 𝓤 H E (numberOf (ls ++ tableLocals) x) .1, full (heldFrom cs ds x))) xs
 
 pub record Seats {M : Type 1} (𝓤 : URA M) (H : Heap 𝓤) (A : Atoms 𝓤) (S : Signature) (z : Lent → Bound 𝓤 H A S) (tab : Table) (τ : Ty) (ps : List Local) (vs : List Val) (t : ℕ) (os : Outs) (xs ys : List From)
     (b₀ : ℕ) (bs : Blocks ps) (rs : Blocks tableLocals) (qs : Blocks (outLocals os)) : Type 0 where
-  pub fitting : Fitting (fresh ps bs) vs
+  pub fitting : WellTyped (fresh ps bs) vs
   pub count-in : InPlace 𝓤 H (Params τ ps vs b₀ bs) (Whole τ ps os b₀ bs rs qs) 1 (vint w64 (tab .count))
   pub table-in : InPlace 𝓤 H (Params τ ps vs b₀ bs) (Whole τ ps os b₀ bs rs qs) t (tab .value)
   pub outs-in : OutsIn 𝓤 H (Params τ ps vs b₀ bs) (Whole τ ps os b₀ bs rs qs) os
   pub before-in : Found 𝓤 H (local τ valueLocal ∷ ps) (Params τ ps vs b₀ bs) (Passed os qs) (Whole τ ps os b₀ bs rs qs) xs
   pub after-in : Found 𝓤 H (local τ valueLocal ∷ ps) (Params τ ps vs b₀ bs) (Passed os qs) (Whole τ ps os b₀ bs rs qs) ys
-  pub handed : (l : Lent) → arguments 𝓤 H A S (z l) ≡ map (heldOf (Params τ ps vs b₀ bs) (Passed os qs)) xs ++ (val (l .table) ∷ (map (heldOf (Params τ ps vs b₀ bs) (Passed os qs)) ys ++ []))
+  pub handed : (l : Lent) → arguments 𝓤 H A S (z l) ≡ map (heldFrom (Params τ ps vs b₀ bs) (Passed os qs)) xs ++ (val (l .table) ∷ (map (heldFrom (Params τ ps vs b₀ bs) (Passed os qs)) ys ++ []))
 
 -- ---- the walk
 module _ {M : Type 1} (𝓤 : URA M) (H : Heap 𝓤) (A : Atoms 𝓤) (W : Given 𝓤 H A) (𝓣 : Tables 𝓤 H)
@@ -140,7 +140,7 @@ module _ {M : Type 1} (𝓤 : URA M) (H : Heap 𝓤) (A : Atoms 𝓤) (W : Given
     (T′ : Ended) (c′ : Clauses 𝓤 T′) (z : Lent → Bound 𝓤 H A (T′ .signature)) (g′ : (l : Lent) → c′ (z l .0) (z l .3) .ghost) (f : Name) (known-core : Triple 𝓤 (𝓣 .C f) (Promise 𝓤 H A T′ c′))
     -- the table, what is lent beside it, and what the caller has then
     (tab : Table) (tokens : Item 𝓤) (before : List Fml) (after : Fml) (Q : Val → SProp 𝓤)
-    (asks : (l : Lent) → ent 𝓤 (mean 𝓤 H A (asked (‵ (flft (l .κ) fullShare) ⊛ tokens) before (table (l .κ) (l .table)) after)) (Promise 𝓤 H A T′ c′ .pre (z l, g′ l)))
+    (asks : (l : Lent) → ent 𝓤 (mean 𝓤 H A (atEntry (‵ (flft (l .κ) fullShare) ⊛ tokens) before (table (l .κ) (l .table)) after)) (Promise 𝓤 H A T′ c′ .pre (z l, g′ l)))
     (lives : (l : Lent) → ent 𝓤 (alive 𝓤 H A (T′ .signature) (z l .0) (z l .1)) (mean 𝓤 H A (‵ (flft (l .κ) fullShare) ⊛ tokens)))
     (ends : (l : Lent) (u : Val) (r : Res (T′ .signature) (z l .0)) (ws : Lasts T′ (z l .0) (z l .3))
     → ent 𝓤 (⋆ 𝓤 H A (tokens ∷ ‵ (fsep ftrue (lasts T′ (z l .0) (z l .3) ws)) ∷ ‵ (typeAt (T′ .signature .result) (z l .0) .own r (u ∷ [])) ∷ [])) (Q u))
@@ -207,16 +207,16 @@ module _ {M : Type 1} (𝓤 : URA M) (H : Heap 𝓤) (A : Atoms 𝓤) (W : Given
 module _ {M : Type 1} (𝓤 : URA M) (H : Heap 𝓤) (A : Atoms 𝓤) (T : Ended) (c : Clauses 𝓤 T) (x : Bound 𝓤 H A (T .signature)) (g : c (x .0) (x .3) .ghost) (T′ : Ended) (c′ : Clauses 𝓤 T′) (f : Name) (fn : Fn) where
   -- what the parameters between the number of records and the table own, and those after the table
   abbrev before : ℕ → List Fml
-  before k = firstOf k (restOf 1 (owned 𝓤 H A (T .signature) x))
+  before k = firstFmls k (restFml 1 (owned 𝓤 H A (T .signature) x))
 
   abbrev after : ℕ → Fml
-  after k = restOf (suc (suc k)) (owned 𝓤 H A (T .signature) x)
+  after k = restFml (suc (suc k)) (owned 𝓤 H A (T .signature) x)
 
   -- what holds by computing
   pub record Computed (k : ℕ) (tab : Table) (tokens : Item 𝓤) (z : Lent → Bound 𝓤 H A (T′ .signature)) (g′ : (l : Lent) → c′ (z l .0) (z l .3) .ghost) (os : Outs) (xs ys : List From)
       (result : (l : Lent) → Res (T′ .signature) (z l .0) → Res (T .signature) (x .0)) (kept : (l : Lent) → Lasts T′ (z l .0) (z l .3) → Lasts T (x .0) (x .3)) : Type 1 where
     pub enters : ent 𝓤 (Promise 𝓤 H A T c .pre (x, g)) (mean 𝓤 H A (had tokens tableRoom (tab .count) (before k) (array tableRoom (tab .reaches) (tab .value)) (after k)))
-    pub asks : (l : Lent) → ent 𝓤 (mean 𝓤 H A (asked (‵ (flft (l .κ) fullShare) ⊛ tokens) (before k) (table (l .κ) (l .table)) (after k))) (Promise 𝓤 H A T′ c′ .pre (z l, g′ l))
+    pub asks : (l : Lent) → ent 𝓤 (mean 𝓤 H A (atEntry (‵ (flft (l .κ) fullShare) ⊛ tokens) (before k) (table (l .κ) (l .table)) (after k))) (Promise 𝓤 H A T′ c′ .pre (z l, g′ l))
     pub lives : (l : Lent) → ent 𝓤 (alive 𝓤 H A (T′ .signature) (z l .0) (z l .1)) (mean 𝓤 H A (‵ (flft (l .κ) fullShare) ⊛ tokens))
     pub gives : (l : Lent) (u : Val) (r : Res (T′ .signature) (z l .0)) (ws : Lasts T′ (z l .0) (z l .3))
         → ent 𝓤 (⋆ 𝓤 H A (tokens ∷ ‵ (fsep ftrue (lasts T′ (z l .0) (z l .3) ws)) ∷ ‵ (typeAt (T′ .signature .result) (z l .0) .own r (u ∷ [])) ∷ []))
@@ -255,7 +255,7 @@ module _ {M : Type 1} (𝓤 : URA M) (H : Heap 𝓤) (A : Atoms 𝓤) (W : Given
       via 𝓤 (mean 𝓤 H A (had (R .tokens) tableRoom (R .lends .count) ps (array tableRoom (R .lends .reaches) (R .lends .value)) rest)) (z .enters)
       (walked 𝓤 H A W 𝓣 T′ c′ (R .bound) (R .ghost) f known-core (R .lends) (R .tokens) ps rest (Promise 𝓤 H A T c .post (x, g)) (z .asks) (z .lives)
       (λ l u r ws. via 𝓤 (⋆ 𝓤 H A (raw (alive 𝓤 H A (T .signature) (x .0) (x .1)) ∷ ‵ (lasts T (x .0) (x .3) (R .kept l ws)) ∷ ‵ (typeAt (T .signature .result) (x .0) .own (R .result l r) (u ∷ [])) ∷ [])) (z .gives l u r ws)
-      (ending 𝓤 H A T c W x g u (R .result l r) (R .kept l ws) (z .promises l r ws)))
+      (call-end 𝓤 H A T c W x g u (R .result l r) (R .kept l ws) (z .promises l r ws)))
       (resultOf (fn .locals)) (paramsOf fn) (arguments 𝓤 H A (T .signature) x) (R .typed) (suc (suc (R .ahead))) (R .outs) (R .firsts) (R .others) fn (z .locals-are) (z .body-is) (R .seats))
 
 -- A relay meets its contract. Its code calls f, and sp and tl write the parameters' machine values out.

@@ -19,7 +19,7 @@ use Rattle.network.specs.Bridges.{noReach}
 use Rattle.network.proofs.Walks.{walk-arc, walk-within, arc-from, arc-to, walk-alike}
 use Rattle.network.proofs.Networks.{passing-ends}
 use Rattle.tables.specs.Rows.{netOf}
-use Rattle.tables.proofs.Laws.{reachOf, table-at, row-length}
+use Rattle.tables.proofs.Laws.{reachOfNumbers, table-at, row-length}
 use Rattle.components.specs.Components.{isTwoWay, twoWayArcs, connected, component, representative}
 use Rattle.components.specs.Labels.{Joinable}
 use Rattle.components.proofs.Components.{two-way-append, connected-walk, walk-connected, connected-refl, connected-sym, connected-trans, representative-is, representative-same, representative-connected, representative-least}
@@ -205,7 +205,7 @@ module _ {n : ℕ} {ks xs ys : List ℕ} (j : Joinable n ks xs ys) {p₀ p : Lis
 
   module _ (l : i < length ks) where
     -- the table with reach i, whose ends are basins
-    one-more : take (i + 1) (tableOf ks xs ys) ≡ take i (tableOf ks xs ys) ++ reachOf (getD ks i 0) (getD xs i 0) (getD ys i 0) ∷ []
+    one-more : take (i + 1) (tableOf ks xs ys) ≡ take i (tableOf ks xs ys) ++ reachOfNumbers (getD ks i 0) (getD xs i 0) (getD ys i 0) ∷ []
     one-more =
         rw add-one
         (take-suc (tableOf ks xs ys) i noReach (omega (arith, full))
@@ -222,7 +222,7 @@ module _ {n : ℕ} {ks xs ys : List ℕ} (j : Joinable n ks xs ys) {p₀ p : Lis
     joining-two-way e g k =
         record {
           within = omega arith;
-          forest = rw one-more (forest-joined n (take i (tableOf ks xs ys)) (reachOf (getD ks i 0) (getD xs i 0) (getD ys i 0)) (sym e) a-in b-in (h .forest) g);
+          forest = rw one-more (forest-joined n (take i (tableOf ks xs ys)) (reachOfNumbers (getD ks i 0) (getD xs i 0) (getD ys i 0)) (sym e) a-in b-in (h .forest) g);
           kept = k ∙ h .kept;
         }
 
@@ -230,7 +230,7 @@ module _ {n : ℕ} {ks xs ys : List ℕ} (j : Joinable n ks xs ys) {p₀ p : Lis
     joining-other e =
         record {
           within = omega arith;
-          forest = rw one-more (forest-other n (take i (tableOf ks xs ys)) (reachOf (getD ks i 0) (getD xs i 0) (getD ys i 0)) (sym e) (h .forest));
+          forest = rw one-more (forest-other n (take i (tableOf ks xs ys)) (reachOfNumbers (getD ks i 0) (getD xs i 0) (getD ys i 0)) (sym e) (h .forest));
           kept = h .kept;
         }
 

@@ -11,7 +11,7 @@ use lib.ListN.{length, getD, set, length-set}
 use lib.Seq.{getD-set-same, getD-set-other}
 use lib.Dec.{eqb}
 use borrow.Author.Tests.{eq-eqb, ne-eqb}
-use Rattle.union_find.specs.Forests.{Rising, Root, top, up, Found, joinedRoot, Joined}
+use Rattle.union_find.specs.Forests.{Rising, Root, top, up, RootFound, joinedRoot, Joined}
 
 module _ {p : List ℕ} where
   -- a root is its own parent, and no higher than the basins below it
@@ -92,7 +92,7 @@ module _ (p : List ℕ) (x : ℕ) (long : x < length p) (below : getD p x 0 < x)
 -- ---- one way up, halved on the way
 
 -- The way from v has come to x: its root is still that of v, and no root has changed.
-pub record Finding (n : ℕ) (p₀ : List ℕ) (v : ℕ) (p : List ℕ) (x : ℕ) : Type 0 where
+pub record Climbing (n : ℕ) (p₀ : List ℕ) (v : ℕ) (p : List ℕ) (x : ℕ) : Type 0 where
   pub r : ℕ
   pub root : Root p₀ v r
   pub above : Root p x r
@@ -101,14 +101,14 @@ pub record Finding (n : ℕ) (p₀ : List ℕ) (v : ℕ) (p : List ℕ) (x : ℕ
   pub within : x < n
   pub kept : length p ≡ length p₀
 
-pub finding-none : {n : ℕ} {p : List ℕ} {v : ℕ} → Rising n p → v < n → Finding n p v p v
-finding-none {v = v} rising l =
+pub climbing-none : {n : ℕ} {p : List ℕ} {v : ℕ} → Rising n p → v < n → Climbing n p v p v
+climbing-none {v = v} rising l =
     let r = root-exists rising v l in
     record { r = r .0; root = r .1; above = r .1; same = λ u w h. h; rising = rising; within = l; kept = refl }
 
-module _ {n : ℕ} {p₀ : List ℕ} {v : ℕ} {p : List ℕ} {x : ℕ} (f : Finding n p₀ v p x) where
-  pub finding-more : getD p x 0 < x → Finding n p₀ v (halvedAt p x) (getD p (getD p x 0) 0)
-  finding-more below =
+module _ {n : ℕ} {p₀ : List ℕ} {v : ℕ} {p : List ℕ} {x : ℕ} (f : Climbing n p₀ v p x) where
+  pub climbing-more : getD p x 0 < x → Climbing n p₀ v (halvedAt p x) (getD p (getD p x 0) 0)
+  climbing-more below =
       record {
         r = f .r;
         root = f .root;
@@ -122,8 +122,8 @@ module _ {n : ℕ} {p₀ : List ℕ} {v : ℕ} {p : List ℕ} {x : ℕ} (f : Fin
       long : x < length p
       long = omega (arith, f .within, f .rising .long)
 
-  pub finding-all : x ≤ getD p x 0 → Found n p₀ v x p
-  finding-all l =
+  pub climbing-all : x ≤ getD p x 0 → RootFound n p₀ v x p
+  climbing-all l =
       let e : getD p x 0 ≡ x = omega (arith, f .rising .parent x (f .within)) in
       record { root = subst (λ (s : ℕ). Root p₀ v s) (root-unique (f .above) (top e)) (f .root); same = f .same; rising = f .rising }
 
@@ -172,7 +172,7 @@ module _ (p : List ℕ) (lo hi : ℕ) (long : hi < length p) (lo-own : getD p lo
       go v l (yes same) = rw same (omega (arith, getD-set-same p hi lo 0 long))
       go v l (no other) = omega (arith, getD-set-other p hi v lo 0 other, rising .parent v l)
 
-module _ {n : ℕ} {p : List ℕ} {a b x y : ℕ} {p₁ p₂ : List ℕ} (rising : Rising n p) (a-in : a < n) (b-in : b < n) (f : Found n p a x p₁) (g : Found n p₁ b y p₂) where
+module _ {n : ℕ} {p : List ℕ} {a b x y : ℕ} {p₁ p₂ : List ℕ} (rising : Rising n p) (a-in : a < n) (b-in : b < n) (f : RootFound n p a x p₁) (g : RootFound n p₁ b y p₂) where
   -- both are roots to the end, and those above a and b to begin with
   x-root : Root p₂ a x
   x-root = g .same a x (f .same a x (f .root))

@@ -27,7 +27,7 @@ pub data Root (p : List ℕ) : ℕ → ℕ → Type 0 where
   up : {v r : ℕ} → getD p v 0 < v → Root p (getD p v 0) r → Root p v r
 
 -- r is the root above v, and no root has changed.
-pub record Found (n : ℕ) (p : List ℕ) (v r : ℕ) (p′ : List ℕ) : Type 0 where
+pub record RootFound (n : ℕ) (p : List ℕ) (v r : ℕ) (p′ : List ℕ) : Type 0 where
   pub root : Root p v r
   pub same : (u w : ℕ) → Root p u w → Root p′ u w
   pub rising : Rising n p′

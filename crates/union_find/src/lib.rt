@@ -8,7 +8,7 @@ ghost use Rattle.network.specs.Tables.{stateOf};
 ghost use Rattle.tables.specs.Rows.{netOf};
 ghost use Rattle.components.specs.Components.{isTwoWay};
 ghost use Rattle.components.specs.Labels.{Joinable, Labelled};
-ghost use Rattle.union_find.specs.Forests.{Separate, Rising, Found, Joined, Forest, Numbered};
+ghost use Rattle.union_find.specs.Forests.{Separate, Rising, RootFound, Joined, Forest, Numbered};
 
 const TWO_WAY: u8 = 2;
 
@@ -34,7 +34,7 @@ fn separate(n: usize, parents: &mut [u16])
 fn find(n: usize, parents: &mut [u16], v: u16) -> u16
     requires { ⌜ Rising n (now parents) ⌝ }
     requires { ⌜ v < n ⌝ }
-    ensures { λ r. ⌜ Found n (now (parents .entry)) v r (now (parents .exit)) ⌝ }
+    ensures { λ r. ⌜ RootFound n (now (parents .entry)) v r (now (parents .exit)) ⌝ }
 {
     let mut x = v;
     while parents[x as usize] < x {

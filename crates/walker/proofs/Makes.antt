@@ -13,7 +13,7 @@ use Rattle.network.specs.Replies.{faultNumber, checkFault}
 use Rattle.network.proofs.Networks.{gates-fit}
 use Rattle.network.proofs.Order.{setting-length}
 use Rattle.packing.proofs.Packings.{ByTable}
-use Rattle.refusals.proofs.Dues.{fitting}
+use Rattle.refusals.proofs.Dues.{unrefused-fits}
 use Rattle.walker.specs.declared.MakeAnswer.{MakeAnswer}
 use Rattle.walker.specs.declared.MakeAnswer.the-variants as M
 use Rattle.walker.specs.declared.Walker.{Walker}
@@ -24,7 +24,7 @@ use Rattle.walker.specs.Walkers.{walkerOf, makeOf, makeNumber, walkerMad
 
 -- what is made holds the setting
 made-held : (N : Network) (s : List ℕ) → checkFault N s ≡ none → length s ≤ maxReaches
-made-held N s e = let d = fitting N s e in omega (arith, gates-fit N (d .0), setting-length N s (d .1))
+made-held N s e = let d = unrefused-fits N s e in omega (arith, gates-fit N (d .0), setting-length N s (d .1))
 
 -- of a refused table the making depends on the refusal only
 pub make-alike : (s : List ℕ) {r : Made} → ByTable (λ N. Making N s r)

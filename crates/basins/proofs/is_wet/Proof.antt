@@ -1,12 +1,12 @@
 -- `is_wet` meets its contract. The loop's invariant is `Unserved`: all half-edges at the basin from some x on are of shut reaches, and h is the last one below
--- x. The measure is h + 1, or 0 where h is `none`.
+-- x. The measure is h + 1, or 0 where h is `noHalf`.
 -- Assumes nothing.
 use Prim.Native.Nat.{_+_, _/_, _%_, _<_}
 use native.Mathlib.Omega.{arith}
 use lib.ListN.{getD}
 use Rattle.network.proofs.Networks.{state-in-service, state-shut}
 use Rattle.half_edges.specs.Ends.{halves}
-use Rattle.half_edges.specs.Chains.{none}
+use Rattle.half_edges.specs.Chains.{noHalf}
 use Rattle.half_edges.proofs.Hands.{Current, falls}
 use Rattle.basins.proofs.Wets.{Unserved, unserved-start, in-hand, unserved-wet, unserved-more, unserved-dry}
 use Rattle.basins.proofs.is_wet.Statement.{statement}
@@ -30,7 +30,7 @@ here c = in-hand (entry (c .before) .pre .0) (c .before .loop .inv) (c .loop-tes
 here-below : (c : tie.In-loop Inv-loop μ-loop) → c .before .loop .h < halves (entry (c .before) .args .a .now)
 here-below c = omega (arith, here c .below, c .before .loop .inv .within)
 
-here-few : (c : tie.In-loop Inv-loop μ-loop) → c .before .loop .h < none
+here-few : (c : tie.In-loop Inv-loop μ-loop) → c .before .loop .h < noHalf
 here-few c = omega (arith, here-below c, entry (c .before) .pre .0 .table .few)
 
 mul-h : tie.Need-mul-h Inv-loop μ-loop

@@ -9,8 +9,8 @@ use Rattle.contraction.proofs.contract_in.Tie as tie
 components-requires : tie.Need-components-requires
 components-requires c κs = let p = c .before .before .before .before .before .before .before .before .before .before .pre in (p .0 .rows, (p .1 .0, p .1 .1))
 
-fill-requires : tie.Need-fill-requires
-fill-requires c κs =
+fill-kept-requires : tie.Need-fill-kept-requires
+fill-kept-requires c κs =
     let s = c .before .before .before .before .before .before .before .before .before .before .before .before .before .before .before .before .before .before .before .before in
     let k = c .before .before .before .before .before .before .before .before .before .components in
     record { n = s .args .n; fits = fillable (s .pre .0) (k .ensures) (omega (arith, s .pre .1 .0, k .kept .1 .1 .1 .1 .0)) (omega (arith, s .pre .1 .1, k .kept .1 .1 .1 .1 .1 .0)) }
@@ -34,14 +34,14 @@ returns : tie.Need-returns
 returns c =
     let s = c .before .before .before .before .before .before .before .before .before .before .before .before .before .before .before .before .before .before .before .before .before .before .before .before .before .before .before .before .before in
     let k = c .before .before .before .before .before .before .before .before .before .before .before .before .before .before .before .before .before .before .components in
-    given-filled (s .pre .0) (k .ensures) (c .before .before .before .before .before .before .before .before .fill .ensures .of (s .args .n) (fillable (s .pre .0) (k .ensures) (omega (arith, s .pre .1 .0, k .kept .1 .1 .1 .1 .0)) (omega (arith, s .pre .1 .1, k .kept .1 .1 .1 .1 .1 .0))))
+    given-filled (s .pre .0) (k .ensures) (c .before .before .before .before .before .before .before .before .fill-kept .ensures .of (s .args .n) (fillable (s .pre .0) (k .ensures) (omega (arith, s .pre .1 .0, k .kept .1 .1 .1 .1 .0)) (omega (arith, s .pre .1 .1, k .kept .1 .1 .1 .1 .1 .0))))
 
 pub contract-in-spec : {M : Type 1} → statement M
 contract-in-spec =
     tie.close
     (tie.spec
     components-requires
-    fill-requires
+    fill-kept-requires
     same-length
     same-length-2
     same-length-3

@@ -9,7 +9,7 @@ use Rattle.network.specs.Replies.{checkFault}
 use Rattle.tables.specs.Rows.{netOf}
 use Rattle.tables.proofs.Faults.{answer-refused, answer-accepted}
 use Rattle.tables.proofs.Cuts.{cut-kinds, cut-a, cut-b, cut-net}
-use Rattle.refusals.proofs.Dues.{fitting}
+use Rattle.refusals.proofs.Dues.{unrefused-fits}
 use Rattle.seeking.proofs.Levels.{cut-level}
 use Rattle.distances.specs.Diameters.{diameter}
 use Rattle.distances.proofs.Answers.{diameter-refused, diameter-given}
@@ -61,7 +61,7 @@ diameter-accepted-requires : tie.Need-diameter-accepted-requires
 diameter-accepted-requires c κs =
     let s = c .before .before .before .before .before .before .before .before .before .before .before in
     let m = c .before .before .before .row-count in
-    cut-level (s .args .basins) (s .args .kinds .now) (s .args .a .now) (s .args .b .now) (m .result) (m .ensures) (fitting (net s) (s .args .setting .now) (clear (c .before .before .before .before)) .0)
+    cut-level (s .args .basins) (s .args .kinds .now) (s .args .a .now) (s .args .b .now) (m .result) (m .ensures) (unrefused-fits (net s) (s .args .setting .now) (clear (c .before .before .before .before)) .0)
 
 longest-or-8-requires : tie.Need-longest-or-8-requires
 longest-or-8-requires c κs = search needs
@@ -70,7 +70,7 @@ returns-2 : tie.Need-returns-2
 returns-2 c =
     let s = c .before .before .before .before .before .before .before .before .before .before .before .before .before in
     let m = c .before .before .before .before .before .row-count in
-    let fit = fitting (net s) (s .args .setting .now) (clear (c .before .before .before .before .before .before)) in
+    let fit = unrefused-fits (net s) (s .args .setting .now) (clear (c .before .before .before .before .before .before)) in
     diameter-given (net s) (s .args .setting .now) (fit .0) (fit .1)
     (c .before .diameter-accepted .ensures ∙ ap (λ (N : Network). diameter N (s .args .setting .now)) (cut-net (s .args .kinds .now) (s .args .a .now) (s .args .b .now) (m .result) (m .ensures) (s .args .basins))) (c .longest-or-8 .ensures)
 

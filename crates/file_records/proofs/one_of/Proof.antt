@@ -4,12 +4,12 @@ use Prim.Native.Nat.{_-_}
 use native.Mathlib.Omega.{arith}
 use mathlib.Core.Path.{refl}
 use lib.ListN.{length}
-use Rattle.file_records.proofs.Taking.{Sought, sought-here, sought-more, sought-none}
+use Rattle.file_records.proofs.Taking.{SoughtFrom, sought-here, sought-more, sought-none}
 use Rattle.file_records.proofs.one_of.Statement.{statement}
 use Rattle.file_records.proofs.one_of.Tie as tie
 
 abbrev Inv-loop : tie.InvT-loop
-Inv-loop kind kinds i₀ i = Sought kind kinds i
+Inv-loop kind kinds i₀ i = SoughtFrom kind kinds i
 
 abbrev μ-loop : tie.MeasureT-loop
 μ-loop kind kinds i₀ i = length kinds - i

@@ -26,14 +26,14 @@ ends-in c =
     let t = entry (c .before) .pre .table in
     (t .ends-a (c .before .loop .i) (c .loop-test .taken), t .ends-b (c .before .loop .i) (c .loop-test .taken))
 
-fill-requires : tie.Need-fill-requires Inv-loop μ-loop
-fill-requires c κs = omega arith
+fill-row-requires : tie.Need-fill-row-requires Inv-loop μ-loop
+fill-row-requires c κs = omega arith
 
 loop-holds : tie.Need-loop-holds Inv-loop μ-loop
 loop-holds c =
     let start = c .before .before .before .before .before .before .before .before in (
       omega arith,
-      rw (c .before .before .fill .ensures) (linked-none (start .args .n) (start .args .a .now) (start .args .b .now) (start .args .head .now) (start .args .next .now) (start .pre .head-room) (start .pre .next-room)),
+      rw (c .before .before .fill-row .ensures) (linked-none (start .args .n) (start .args .a .now) (start .args .b .now) (start .args .head .now) (start .args .next .now) (start .pre .head-room) (start .pre .next-room)),
       refl,
       refl,
     )
@@ -91,7 +91,7 @@ loop-again c =
     )
 
 same-length : tie.Need-same-length Inv-loop μ-loop
-same-length c = c .before .loop .inv .2 ∙ c .before .before .before .before .fill .kept .1 .1 .0
+same-length c = c .before .loop .inv .2 ∙ c .before .before .before .before .fill-row .kept .1 .1 .0
 
 same-length-2 : tie.Need-same-length-2 Inv-loop μ-loop
 same-length-2 c = c .before .loop .inv .3
@@ -107,7 +107,7 @@ index-spec =
     (tie.spec
     Inv-loop
     μ-loop
-    fill-requires
+    fill-row-requires
     loop-holds
     mul-link
     shared-slice-read-link

@@ -10,8 +10,8 @@ use Rattle.distances.specs.Distances.{unreached}
 use Rattle.leading.proofs.begin.Statement.{statement}
 use Rattle.leading.proofs.begin.Tie as tie
 
-fill-requires : tie.Need-fill-requires
-fill-requires c κs = omega arith
+fill-row-requires : tie.Need-fill-row-requires
+fill-row-requires c κs = omega arith
 
 mul-seen : tie.Need-mul-seen
 mul-seen c = search needs
@@ -47,7 +47,7 @@ returns : tie.Need-returns
 returns c =
     let start = c .before .before .before .before .before .before in
     record {
-      notes = ap (λ (l : List ℕ). set (set l (start .args .start) (start .args .start)) (start .args .goal) (start .args .goal)) (c .before .before .fill .ensures ∙ ap (λ (l : List ℕ). replicate (start .args .n) unreached ++ l) (drop-of-length-le (start .args .seen .now) {i = start .args .n} (omega arith)) ∙ append-nil (replicate (start .args .n) unreached));
+      notes = ap (λ (l : List ℕ). set (set l (start .args .start) (start .args .start)) (start .args .goal) (start .args .goal)) (c .before .before .fill-row .ensures ∙ ap (λ (l : List ℕ). replicate (start .args .n) unreached ++ l) (drop-of-length-le (start .args .seen .now) {i = start .args .n} (omega arith)) ∙ append-nil (replicate (start .args .n) unreached));
       waiting = refl;
     }
 
@@ -55,7 +55,7 @@ pub begin-spec : {M : Type 1} → statement M
 begin-spec =
     tie.close
     (tie.spec
-    fill-requires
+    fill-row-requires
     mul-seen
     slice-write-seen
     mul-seen-2

@@ -10,14 +10,14 @@ use Rattle.network.specs.Orientations.{Arc, reached}
 use Rattle.half_edges.specs.Ends.{arcsOf, flipWay, Next}
 use Rattle.half_edges.proofs.Halves.{arc-below}
 use Rattle.half_edges.proofs.Laws.{reached-flipped}
-use Rattle.leading.specs.Leads.{Both}
+use Rattle.leading.specs.Leads.{BothSearching}
 use Rattle.leading.proofs.Joint.{swapped, spreadable, both-on, both-met, both-shut}
 use Rattle.leading.proofs.search_on.Statement.{statement}
 use Rattle.leading.proofs.search_on.Tie as tie
 
 abbrev Inv-loop : tie.InvT-loop
 Inv-loop n a b ways head next start goal seen₀ queue₀ tail₀ uptail₀ done₀ updone₀ seen queue tail uptail done updone =
-    Both (arcsOf a b ways) (arcsOf a b (map flipWay ways)) n start goal false true seen queue done tail updone uptail
+    BothSearching (arcsOf a b ways) (arcsOf a b (map flipWay ways)) n start goal false true seen queue done tail updone uptail
 
 abbrev μ-loop : tie.MeasureT-loop
 μ-loop n a b ways head next start goal seen₀ queue₀ tail₀ uptail₀ done₀ updone₀ seen queue tail uptail done updone = (n - done) + (n - updone)

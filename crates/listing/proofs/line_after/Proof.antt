@@ -6,7 +6,7 @@ use borrow.Author.Needs.{needs}
 use Rattle.orienting.proofs.Readies.{ready-ways, ready-notes}
 use Rattle.listing_state.specs.Pending.{holding}
 use Rattle.listing.specs.Keeping.{unknown, kept}
-use Rattle.listing.proofs.Steps.{known, gates-held, gates-room, front, step-line, step-stands}
+use Rattle.listing.proofs.Steps.{kept-known, gates-held, gates-room, step-front, step-line, step-stands}
 use Rattle.listing.proofs.line_after.Statement.{statement}
 use Rattle.listing.proofs.line_after.Tie as tie
 
@@ -14,11 +14,11 @@ cast-n : tie.Need-cast-n
 cast-n c = search needs
 
 advance-requires : tie.Need-advance-requires
-advance-requires c κs = let k = known (c .before .before .before .before .before .before .before .before .before .before .before .before .before .before .before .before .pre .1 .0) (c .before .before .before .before .before .before .before .if1 .taken) in (k .ready, (k .tried-row, k .spare))
+advance-requires c κs = let k = kept-known (c .before .before .before .before .before .before .before .before .before .before .before .before .before .before .before .before .pre .1 .0) (c .before .before .before .before .before .before .before .if1 .taken) in (k .ready, (k .tried-row, k .spare))
 
 note-bound-requires : tie.Need-note-bound-requires
 note-bound-requires c κs =
-    let k = known (c .before .before .before .before .before .before .before .before .before .before .before .before .before .before .before .before .before .before .before .before .before .before .before .before .before .before .before .before .pre .1 .0) (c .before .before .before .before .before .before .before .before .before .before .before .before .before .before .before .before .before .before .before .if1 .taken) in
+    let k = kept-known (c .before .before .before .before .before .before .before .before .before .before .before .before .before .before .before .before .before .before .before .before .before .before .before .before .before .before .before .before .pre .1 .0) (c .before .before .before .before .before .before .before .before .before .before .before .before .before .before .before .before .before .before .before .if1 .taken) in
     let t = c .before .before .before .before .before .before .before .before .before .before .before .advance in (
       ready-notes _ _ (ready-ways _ (k .ready) (t .kept .1 .1 .1 .1 .1 .1 .0)) (t .kept .1 .1 .1 .1 .1 .1 .1 .1 .1 .0) (t .kept .1 .1 .1 .1 .1 .1 .1 .1 .1 .1 .0),
       (sym (k .stands .at-plan .level .ends-a), (k .tried-row, t .kept .1 .1 .1 .1 .1 .0 ∙ k .spare ∙ k .ready .ways-full)),
@@ -28,14 +28,14 @@ after-step-requires : tie.Need-after-step-requires
 after-step-requires c κs =
     let s = c .before .before .before .before .before .before .before .before .before .before .before .before .before .before .before .before .before .before .before .before .before .before .before .before .before .before .before .before .before .before .before .before .before .before .before in
     let l = holding (s .args .l) (s .args .setting .now) in
-    let k = known (s .pre .1 .0) (c .before .before .before .before .before .before .before .before .before .before .before .before .before .before .before .before .before .before .before .before .before .before .before .before .before .before .if1 .taken) in
+    let k = kept-known (s .pre .1 .0) (c .before .before .before .before .before .before .before .before .before .before .before .before .before .before .before .before .before .before .before .before .before .before .before .before .before .before .if1 .taken) in
     let t = c .before .before .before .before .before .before .before .before .before .before .before .before .before .before .before .before .before .before .advance in (
       t .kept .1 .1 .1 .1 .1 .1 .0 ∙ k .ready .ways-full ∙ k .stands .at-plan .level .ends-a,
       (
         gates-held l (s .args .kinds .now) (s .args .a .now) (s .args .b .now) (s .args .ways .now) (s .args .left) (s .args .g) (s .pre .0) (k .stands .at-plan),
         (
           omega (arith, s .pre .1 .1 .0, gates-room l (s .args .kinds .now) (s .args .a .now) (s .args .b .now) (s .args .ways .now) (s .args .left) (s .args .g) (s .pre .0) (k .stands .at-plan)),
-          front l (s .args .kinds .now) (s .args .a .now) (s .args .b .now) (s .args .ways .now) (s .args .left) (s .args .g) (s .pre .0) (k .stands .at-plan) (t .ensures .from _ _ (k .stands .at-plan) (k .stands .binds) (s .pre .1 .1 .1 _)),
+          step-front l (s .args .kinds .now) (s .args .a .now) (s .args .b .now) (s .args .ways .now) (s .args .left) (s .args .g) (s .pre .0) (k .stands .at-plan) (t .ensures .from _ _ (k .stands .at-plan) (k .stands .binds) (s .pre .1 .1 .1 _)),
         ),
       ),
     )
@@ -57,7 +57,7 @@ returns c =
     let s = c .before .before .before .before .before .before .before .before .before .before .before .before .before .before .before .before .before .before .before .before .before .before .before .before .before .before .before .before .before .before .before .before .before .before .before .before .before .before in
     let l = holding (s .args .l) (s .args .setting .now) in
     let taken = c .before .before .before .before .before .before .before .before .before .before .before .before .before .before .before .before .before .before .before .before .before .before .before .before .before .before .before .before .before .if1 .taken in
-    let k = known (s .pre .1 .0) taken in
+    let k = kept-known (s .pre .1 .0) taken in
     let t = c .before .before .before .before .before .before .before .before .before .before .before .before .before .before .before .before .before .before .before .before .before .advance in
     let o = c .before .before .before .before .before .before .before .before .before .note-bound in
     let went = t .ensures .from _ _ (k .stands .at-plan) (k .stands .binds) (s .pre .1 .1 .1 _) in (

@@ -11,7 +11,7 @@ use Rattle.netfile_format.specs.Answers.{NetworkRead}
 use Rattle.file_records.proofs.Records.{bytes-make}
 use Rattle.netfile_format.proofs.Calls.{rows-long}
 use Rattle.lines.specs.Listings.{maxBytes}
-use Rattle.listing_state.proofs.Starts.{first-read, bytes-first, start-refused, start-read}
+use Rattle.listing_state.proofs.Starts.{front-read, bytes-first, start-refused, start-read}
 use borrow.Author.Needs.{needs}
 use Rattle.listing_state.proofs.start.Statement.{statement}
 use Rattle.listing_state.proofs.start.Tie as tie
@@ -89,7 +89,7 @@ same-length-3 : tie.Need-same-length-3
 same-length-3 c = search needs
 
 returns : tie.Need-returns
-returns c = let k = c .before .before .before .before .before .before .before .before .before .before in let s = k .before .before .before .before .before .before .before .before .before .before .args in let rows = k .read-network .last .1 in start-refused (s .file .now) (s .kinds .now) (s .a .now) (s .b .now) (rows .0) (rows .1 .0) (rows .1 .1 .0) _ (c .refusal-line .result) (first-read (s .file .now) (k .before .before .before .before .before .least .ensures) (subst (Got k) (c .before .before .r .given .1) (k .read-network .ensures))) (c .refusal-line .ensures)
+returns c = let k = c .before .before .before .before .before .before .before .before .before .before in let s = k .before .before .before .before .before .before .before .before .before .before .args in let rows = k .read-network .last .1 in start-refused (s .file .now) (s .kinds .now) (s .a .now) (s .b .now) (rows .0) (rows .1 .0) (rows .1 .1 .0) _ (c .refusal-line .result) (front-read (s .file .now) (k .before .before .before .before .before .least .ensures) (subst (Got k) (c .before .before .r .given .1) (k .read-network .ensures))) (c .refusal-line .ensures)
 
 same-length-4 : tie.Need-same-length-4
 same-length-4 c = search needs
@@ -101,7 +101,7 @@ same-length-6 : tie.Need-same-length-6
 same-length-6 c = search needs
 
 returns-2 : tie.Need-returns-2
-returns-2 c = let k = c .before .before .before .before .before .before .before .before .before .before .before .before .before .before in let s = k .before .before .before .before .before .before .before .before .before .before .args in let rows = k .read-network .last .1 in start-read (s .file .now) (s .kinds .now) (s .a .now) (s .b .now) (rows .0) (rows .1 .0) (rows .1 .1 .0) _ _ (first-read (s .file .now) (k .before .before .before .before .before .least .ensures) (was-read (c .before .before .before .before .before .before))) (c .first-line .result) (bytes-first maxBytes (s .file .now) (bytes-make (s .file .now) (λ i. k .before .before .before .before .before .before .before .before .before .shared-slice-known .given i .fits))) (c .first-line .ensures)
+returns-2 c = let k = c .before .before .before .before .before .before .before .before .before .before .before .before .before .before in let s = k .before .before .before .before .before .before .before .before .before .before .args in let rows = k .read-network .last .1 in start-read (s .file .now) (s .kinds .now) (s .a .now) (s .b .now) (rows .0) (rows .1 .0) (rows .1 .1 .0) _ _ (front-read (s .file .now) (k .before .before .before .before .before .least .ensures) (was-read (c .before .before .before .before .before .before))) (c .first-line .result) (bytes-first maxBytes (s .file .now) (bytes-make (s .file .now) (λ i. k .before .before .before .before .before .before .before .before .before .shared-slice-known .given i .fits))) (c .first-line .ensures)
 
 pub start-spec : {M : Type 1} → statement M
 start-spec =

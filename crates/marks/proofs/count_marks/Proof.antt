@@ -5,13 +5,13 @@ use native.Mathlib.Omega.{arith}
 use mathlib.Core.Path.{_≡_, refl}
 use lib.ListN.{take}
 use lib.Count.{ones, ones-le}
-use Rattle.network.specs.Marks.{markBytes, onesIn}
+use Rattle.network.specs.Marks.{markBytes, markCount}
 use Rattle.marks.proofs.Counts.{count-more}
 use Rattle.marks.proofs.count_marks.Statement.{statement}
 use Rattle.marks.proofs.count_marks.Tie as tie
 
 abbrev Inv-loop : tie.InvT-loop
-Inv-loop marks total₀ at₀ total at = (at ≤ markBytes) × (at % 8 ≡ 0) × (total ≤ 8 * at) × (total ≡ onesIn (take at marks))
+Inv-loop marks total₀ at₀ total at = (at ≤ markBytes) × (at % 8 ≡ 0) × (total ≤ 8 * at) × (total ≡ markCount (take at marks))
 
 abbrev μ-loop : tie.MeasureT-loop
 μ-loop marks total₀ at₀ total at = markBytes - at

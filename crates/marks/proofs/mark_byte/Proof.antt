@@ -6,7 +6,7 @@ use mathlib.Core.Path.{_≡_, refl}
 use mathlib.Core.Bool.{Bool}
 use mathlib.Core.List.{map}
 use Rattle.lists.specs.Lists.{range, elem}
-use Rattle.network.specs.Marks.{digits}
+use Rattle.network.specs.Marks.{binaryOf}
 use Rattle.marks.specs.Sets.{markedSet}
 use Rattle.marks.proofs.Bytes.{digits-room, digits-more}
 use Rattle.network.proofs.Marks.{bit-lt}
@@ -14,7 +14,7 @@ use Rattle.marks.proofs.mark_byte.Statement.{statement}
 use Rattle.marks.proofs.mark_byte.Tie as tie
 
 abbrev Inv-loop : tie.InvT-loop
-Inv-loop n seen k byte₀ j₀ byte j = (j ≤ 8) × (byte ≡ digits (map (λ b. elem b (markedSet n seen)) (range (8 * k + 8 - j) j)))
+Inv-loop n seen k byte₀ j₀ byte j = (j ≤ 8) × (byte ≡ binaryOf (map (λ b. elem b (markedSet n seen)) (range (8 * k + 8 - j) j)))
 
 abbrev μ-loop : tie.MeasureT-loop
 μ-loop n seen k byte₀ j₀ byte j = 8 - j

@@ -61,8 +61,8 @@ returns c =
     call-short (s .args .file .now) (s .args .kinds .now) (s .args .a .now) (s .args .b .now) _ _ (counted k)
     (omega (arith, table-short (s .args .kinds .now) (s .args .a .now) (s .args .b .now), c .before .row-count .ensures, c .if1 .taken))
 
-fill-requires : tie.Need-fill-requires
-fill-requires c κs =
+fill-rows-requires : tie.Need-fill-rows-requires
+fill-rows-requires c κs =
     let k = c .before .before .before .before .before .before .before .before in
     let s = start k in
     call-fills (s .args .file .now) (s .args .kinds .now) (s .args .a .now) (s .args .b .now) _ _ (counted k) (bytes k) (room (c .before .before .before))
@@ -86,7 +86,7 @@ returns-3 : tie.Need-returns-3
 returns-3 c =
     let k = c .before .before .before .before .before .before .before .before .before .before .before .before .before .before .before in
     let s = start k in
-    let filled = c .before .before .before .before .before .before .fill in
+    let filled = c .before .before .before .before .before .before .fill-rows in
     call-read (s .args .file .now) (s .args .kinds .now) (s .args .a .now) (s .args .b .now) _ _ (counted k) (bytes k) (room (c .before .before .before .before .before .before .before .before .before .before))
     (filled .last .1 .1 .0) (filled .last .1 .1 .1 .0) (filled .last .1 .1 .1 .1 .0) (filled .ensures)
 
@@ -102,7 +102,7 @@ read-network-spec =
     same-length-2
     same-length-3
     returns
-    fill-requires
+    fill-rows-requires
     returns-2
     same-length-4
     same-length-5

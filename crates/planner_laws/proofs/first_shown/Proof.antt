@@ -4,7 +4,7 @@ use types.Kit.{Item}
 use denote.Enum.Laws as EL
 use Rattle.packing.proofs.Relays.{refl, ℕ, _<_, _^_, List, [], _∷_, URA, w16, Val, vint, SProp, ent, id⊢, Lft, Share, ftrue, flft, Memory, Routine, Heap, Tables, WpFn, Atoms, fmOf, Fun, factI, givenOf, tables, tablesOf}
 use Rattle.packing.proofs.Relays.{Given, ‵, _⊛_, _$_, _∵_, !, qed, by, look-in, stop, from, land, returns, enter, allots, takes-in, within, copies, fills, lends, frees-all, uint-vals, uint-tells, u8, u16, RefT, now, slice-vals, MutSlice, Room, mut-slice-tells, length, named}
-use Rattle.packing.proofs.Relays.{Bound, Contract, Triple, entered, cited, Reach, Promise, meets, ending, calls-known, val, table, table-tells, TableRoom}
+use Rattle.packing.proofs.Relays.{Bound, Contract, Triple, entered, cited, Reach, Promise, meets, call-end, calls-known, val, table, table-tells, TableRoom}
 use Rattle.network.specs.Networks.{net}
 use Rattle.replies.proofs.Answer as S
 use Rattle.replies.proofs.Answer.Laws as S′
@@ -53,7 +53,7 @@ module _ {M : Type 1} (𝓤 : URA M) (H : Heap 𝓤) (A : Atoms 𝓤) (mem : Mem
         land ! (from ! (stop !)) (fills ! 0 refl (EL.lawful S.the-type S′.the-laws 𝓤 H A W tt .typed r _ is .0)) $
         -- [the locals; the tokens; the last values; the answer]
         returns ! (look-in ! 0 (within ! 0 refl)) $ frees-all ! $
-        by ! (ending 𝓤 H A f.ended (f.clauses 𝓤 H A mem run) W x tt w r ws (factI 𝓤 _ _ (first-asked (net basins (now t)) e)))))
+        by ! (call-end 𝓤 H A f.ended (f.clauses 𝓤 H A mem run) W x tt w r ws (factI 𝓤 _ _ (first-asked (net basins (now t)) e)))))
 
 pub first-shown-spec : {M : Type 1} → stated.statement M
 unfolding code.routine tablesOf

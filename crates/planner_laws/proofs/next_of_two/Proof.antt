@@ -14,7 +14,7 @@ use denote.Enum.Laws as EL
 use denote.Triple.Clauses.{Lasts, lasts}
 use Rattle.packing.proofs.Relays.{refl, ℕ, _<_, _^_, List, [], _∷_, URA, w16, Val, vint, SProp, ent, id⊢, Lft, Share, ftrue, flft, Memory, Routine, Heap, Tables, WpFn, Atoms, fmOf, Fun, factI, givenOf, tables, tablesOf}
 use Rattle.packing.proofs.Relays.{Given, ‵, _⊛_, _$_, _∵_, !, qed, by, move, join, agg, look-in, stop, from, land, assigns, returns, enter, allots, takes-in, within, copies, fills, lends, frees-all, uint-vals, uint-tells, u8, u16, RefT, now, slice-vals, ShrSlice, MutSlice, Room, shr-slice-tells, mut-slice-tells, length, named, Fml}
-use Rattle.packing.proofs.Relays.{Bound, Contract, Triple, entered, cited, Reach, Promise, meets, ending, calls-known, val, table, table-tells, TableRoom}
+use Rattle.packing.proofs.Relays.{Bound, Contract, Triple, entered, cited, Reach, Promise, meets, call-end, calls-known, val, table, table-tells, TableRoom}
 use Rattle.network.proofs.Reach as R
 use Rattle.network.specs.Networks.{net}
 use Rattle.replies.specs.declared.Answer.{Answer}
@@ -165,7 +165,7 @@ module _ {M : Type 1} (𝓤 : URA M) (H : Heap 𝓤) (A : Atoms 𝓤) (mem : Mem
         use1 W (tok κ q ⊛ tokens j) (id⊢ 𝓤 _) $ cut ((tok κ q ⊛ tokens j) ∷ []) (tok κ q ∷ tok (j .κs) (j .qs) ∷ tok (j .κp) (j .qp) ∷ tok (j .κm) (j .qm) ∷ ‵ ftrue ∷ []) _ (id⊢ 𝓤 _) $
         -- [the table's token; the second's; true; the first's; true; the result; the last values; the answers]
         move ! (0 ∷ 5 ∷ 1 ∷ 6 ∷ 7 ∷ 2 ∷ 3 ∷ 4 ∷ []) $ group ! 8 $ keep ! (0 ∷ 3 ∷ 2 ∷ []) $
-        by ! (ending 𝓤 H A f.ended (f.clauses 𝓤 H A mem run) W x tt (spelt w w′) (made r r′) (both-ended ws zs) (factI 𝓤 _ _ (next-of-two (net basins (now t)) (now (i .setting)) (now (j .setting)) e e′))))))
+        by ! (call-end 𝓤 H A f.ended (f.clauses 𝓤 H A mem run) W x tt (spelt w w′) (made r r′) (both-ended ws zs) (factI 𝓤 _ _ (next-of-two (net basins (now t)) (now (i .setting)) (now (j .setting)) e e′))))))
 
 pub next-of-two-spec : {M : Type 1} → stated.statement M
 unfolding code.routine tablesOf

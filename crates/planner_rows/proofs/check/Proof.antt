@@ -9,7 +9,7 @@ use Rattle.network.specs.Replies.{checkFault}
 use Rattle.tables.specs.Rows.{netOf}
 use Rattle.tables.proofs.Faults.{answer-refused, answer-accepted}
 use Rattle.tables.proofs.Cuts.{cut-kinds, cut-a, cut-b, cut-net}
-use Rattle.refusals.proofs.Dues.{fitting}
+use Rattle.refusals.proofs.Dues.{unrefused-fits}
 use Rattle.seeking.proofs.Levels.{cut-level}
 use Rattle.planning.proofs.Calls.{check-given}
 use Rattle.replies.proofs.Refusals.{check-refused}
@@ -61,7 +61,7 @@ check-accepted-requires : tie.Need-check-accepted-requires
 check-accepted-requires c κs =
     let s = c .before .before .before .before .before .before .before .before .before .before .before in
     let m = c .before .before .before .row-count in
-    cut-level (s .args .basins) (s .args .kinds .now) (s .args .a .now) (s .args .b .now) (m .result) (m .ensures) (fitting (net s) (s .args .setting .now) (clear (c .before .before .before .before)) .0)
+    cut-level (s .args .basins) (s .args .kinds .now) (s .args .a .now) (s .args .b .now) (m .result) (m .ensures) (unrefused-fits (net s) (s .args .setting .now) (clear (c .before .before .before .before)) .0)
 
 yes-or-requires : tie.Need-yes-or-requires
 yes-or-requires c κs = search needs

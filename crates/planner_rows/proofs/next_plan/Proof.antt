@@ -10,9 +10,9 @@ use Rattle.network.specs.Replies.{firstOf, checkFault, roomFault}
 use Rattle.tables.specs.Rows.{netOf}
 use Rattle.tables.proofs.Faults.{answer-refused, answer-accepted}
 use Rattle.tables.proofs.Cuts.{cut-kinds, cut-a, cut-b, cut-net}
-use Rattle.planning.proofs.Calls.{cut-lent, cut-is-setting, next-given}
+use Rattle.planning.proofs.Calls.{cut-lent, cut-is-setting, next-replied}
 use Rattle.network.proofs.Replies.{first-of-none}
-use Rattle.refusals.proofs.Dues.{fitting}
+use Rattle.refusals.proofs.Dues.{unrefused-fits}
 use Rattle.replies.proofs.Refusals.{refused-written, next-by}
 use Rattle.planner_rows.proofs.next_plan.Statement.{statement}
 use Rattle.planner_rows.proofs.next_plan.Tie as tie
@@ -63,7 +63,7 @@ next-accepted-requires c κs =
     let s = c .before .before .before .before .before .before .before .before .before .before .before .before .before .before .before in
     let m = c .before .before .before .before .before .row-count in
     let due = first-of-none (checkFault (net s) (s .args .setting .now)) (roomFault (net s) (length (s .args .plan .now)) (length (s .args .marks .now))) (clear (c .before .before .before .before .before .before)) in
-    let ok = fitting (net s) (s .args .setting .now) (due .0) in (
+    let ok = unrefused-fits (net s) (s .args .setting .now) (due .0) in (
       cut-lent (s .args .basins) (s .args .kinds .now) (s .args .a .now) (s .args .b .now) (m .result) (m .ensures) (s .args .plan .now) (s .args .marks .now) (ok .0) (due .1),
       cut-is-setting (s .args .basins) (s .args .kinds .now) (s .args .a .now) (s .args .b .now) (m .result) (m .ensures) (s .args .setting .now) (ok .1),
     )
@@ -78,7 +78,7 @@ returns-2 : tie.Need-returns-2
 returns-2 c =
     let s = c .before .before .before .before .before .before .before .before .before .before .before .before .before .before .before .before .before .before .before .before in
     let m = c .before .before .before .before .before .before .before .before .before .before .row-count in
-    next-given (cut-net (s .args .kinds .now) (s .args .a .now) (s .args .b .now) (m .result) (m .ensures) (s .args .basins)) (s .args .setting .now) _ _ (clear (c .before .before .before .before .before .before .before .before .before .before .before)) (c .before .before .before .before .next-accepted .ensures)
+    next-replied (cut-net (s .args .kinds .now) (s .args .a .now) (s .args .b .now) (m .result) (m .ensures) (s .args .basins)) (s .args .setting .now) _ _ (clear (c .before .before .before .before .before .before .before .before .before .before .before)) (c .before .before .before .before .next-accepted .ensures)
 
 pub next-plan-spec : {M : Type 1} → statement M
 next-plan-spec =

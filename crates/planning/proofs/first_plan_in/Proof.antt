@@ -10,7 +10,7 @@ use Rattle.network.specs.Replies.{firstOf, roomFault}
 use Rattle.tables.specs.Rows.{netOf}
 use Rattle.tables.proofs.Faults.{answer-refused, answer-accepted}
 use Rattle.tables.proofs.Cuts.{cut-kinds, cut-a, cut-b, cut-net}
-use Rattle.planning.proofs.Calls.{cut-lent, first-given}
+use Rattle.planning.proofs.Calls.{cut-lent, first-replied}
 use Rattle.network.proofs.Replies.{first-of-none}
 use Rattle.replies.proofs.Refusals.{refused-written, first-by}
 use Rattle.planning.proofs.first_plan_in.Statement.{statement}
@@ -77,7 +77,7 @@ returns-2 : tie.Need-returns-2
 returns-2 c =
     let s = c .before .before .before .before .before .before .before .before .before .before .before .before .before .before .before .before .before .before .before .before .before .before .before .before .before .before .before in
     let m = c .before .before .before .before .before .before .before .before .before .before .before .before .before .before .before .before .before .row-count in
-    first-given (cut-net (s .args .kinds .now) (s .args .a .now) (s .args .b .now) (m .result) (m .ensures) (s .args .basins)) _ _ (clear (c .before .before .before .before .before .before .before .before .before .before .before .before .before .before .before .before .before .before)) (c .before .before .before .before .before .before .first-in .ensures)
+    first-replied (cut-net (s .args .kinds .now) (s .args .a .now) (s .args .b .now) (m .result) (m .ensures) (s .args .basins)) _ _ (clear (c .before .before .before .before .before .before .before .before .before .before .before .before .before .before .before .before .before .before)) (c .before .before .before .before .before .before .first-in .ensures)
 
 pub first-plan-in-spec : {M : Type 1} → statement M
 first-plan-in-spec =

@@ -5,8 +5,8 @@ use Rattle.search.proofs.Fronts.{first-visit}
 use Rattle.search.proofs.begin.Statement.{statement}
 use Rattle.search.proofs.begin.Tie as tie
 
-fill-requires : tie.Need-fill-requires
-fill-requires c κs = search needs
+fill-row-requires : tie.Need-fill-row-requires
+fill-row-requires c κs = search needs
 
 mul-seen : tie.Need-mul-seen
 mul-seen c = search needs
@@ -26,7 +26,7 @@ same-length-2 c = search needs
 returns : tie.Need-returns
 returns c =
     let s = c .before .before .before .before .before .before in
-    first-visit (s .args .seen .now) (s .pre .0) (s .pre .1 .0) (c .before .before .fill .ensures)
+    first-visit (s .args .seen .now) (s .pre .0) (s .pre .1 .0) (c .before .before .fill-row .ensures)
 
 pub begin-spec : {M : Type 1} → statement M
-begin-spec = tie.close (tie.spec fill-requires mul-seen slice-write-seen slice-write-queue same-length same-length-2 returns)
+begin-spec = tie.close (tie.spec fill-row-requires mul-seen slice-write-seen slice-write-queue same-length same-length-2 returns)

@@ -4,7 +4,7 @@ use Prim.Native.Nat.{_<_}
 use native.Mathlib.Omega.{arith}
 use mathlib.Core.Path.{refl}
 use Rattle.half_edges.specs.Ends.{halves, endOf}
-use Rattle.half_edges.specs.Chains.{none}
+use Rattle.half_edges.specs.Chains.{noHalf}
 use Rattle.half_edges.proofs.Halves.{end-below}
 use Rattle.series_channels.specs.Channels.{nobody}
 use Rattle.series_channels.proofs.Partners.{Looked, looked-start, looked-below, looked-on, looked-found, looked-all}
@@ -29,7 +29,7 @@ basin-below c = let s = c .before .before .before .before .before .before in rw 
 here-below : (c : tie.Else1 Inv-loop μ-loop) → c .before .before .loop .o < halves (entry (c .before .before) .args .a .now)
 here-below c = looked-below (entry (c .before .before) .pre .0) (c .before .before .loop .inv) (omega (arith, c .if1 .left))
 
-here-few : (c : tie.Else1 Inv-loop μ-loop) → c .before .before .loop .o < none
+here-few : (c : tie.Else1 Inv-loop μ-loop) → c .before .before .loop .o < noHalf
 here-few c = omega (arith, c .if1 .left)
 
 end-of-requires : tie.Need-end-of-requires Inv-loop μ-loop
@@ -54,7 +54,7 @@ sub-left : tie.Need-sub-left Inv-loop μ-loop
 sub-left c = omega arith
 
 returns : tie.Need-returns Inv-loop μ-loop
-returns c = nobody {r = none} (omega arith)
+returns c = nobody {r = noHalf} (omega arith)
 
 returns-2 : tie.Need-returns-2 Inv-loop μ-loop
 returns-2 c = let l = c .before .before .before in looked-all (entry l .pre .0) (l .loop .inv) refl (c .before .if1 .taken) (λ q. absurd (omega (arith, q, c .if2 .left)))
@@ -87,7 +87,7 @@ loop-again-2 : tie.Need-loop-again-2 Inv-loop μ-loop
 loop-again-2 c = let t = c .before .before .before .before in let l = t .before .before in looked-on (entry l .pre .0) (l .loop .inv) (here-few t) (λ z. absurd (omega (arith, z, c .if4 .taken)))
 
 returns-3 : tie.Need-returns-3 Inv-loop μ-loop
-returns-3 c = nobody {r = none} (omega arith)
+returns-3 c = nobody {r = noHalf} (omega arith)
 
 loop-less-3 : tie.Need-loop-less-3 Inv-loop μ-loop
 loop-less-3 c = omega arith
@@ -99,7 +99,7 @@ loop-again-3 c =
     looked-found (entry l .pre .0) (l .loop .inv) (here-few t) (c .before .before .before .if3 .left) (omega (arith, c .before .if4 .left)) (omega (arith, c .if5 .left))
 
 returns-4 : tie.Need-returns-4 Inv-loop μ-loop
-returns-4 c = nobody {r = none} (omega arith)
+returns-4 c = nobody {r = noHalf} (omega arith)
 
 pub partner-spec : {M : Type 1} → statement M
 partner-spec =

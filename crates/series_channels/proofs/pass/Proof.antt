@@ -4,7 +4,7 @@ use Prim.Native.Nat.{_+_, _*_, _-_, _≤_, _<_}
 use native.Mathlib.Omega.{arith}
 use mathlib.Core.Path.{_≡_, refl, _∙_}
 use lib.ListN.{length}
-use Rattle.half_edges.specs.Chains.{none}
+use Rattle.half_edges.specs.Chains.{noHalf}
 use Rattle.series_channels.specs.Channels.{Guiding}
 use Rattle.series_channels.proofs.Ways.{kind-even, kind-odd}
 use Rattle.series_channels.proofs.pass.Statement.{statement}
@@ -21,7 +21,7 @@ abbrev entry : tie.At-loop Inv-loop μ-loop → tie.Start Inv-loop μ-loop
 entry c = c .before .before .before .before .before .before .before
 
 -- half-edges of the reach in hand have numbers of 16 bits
-few : (t : tie.In-loop Inv-loop μ-loop) → 2 * t .before .loop .i + 1 < none
+few : (t : tie.In-loop Inv-loop μ-loop) → 2 * t .before .loop .i + 1 < noHalf
 few t = omega (arith, t .loop-test .taken, entry (t .before) .pre .0 .table .few)
 
 loop-holds : tie.Need-loop-holds Inv-loop μ-loop

@@ -3,7 +3,7 @@
 use Prim.Native.Nat.{_-_}
 use native.Mathlib.Omega.{arith}
 use lib.ListN.{length}
-use Rattle.sheet_format.proofs.Gates.{GatesPassed, passed-none, passed-more, passed-to, passed-all}
+use Rattle.sheet_format.proofs.Gates.{GatesPassed, gates-passed-none, gates-passed-more, gates-passed-to, gates-passed-all}
 use Rattle.sheet_format.proofs.next_gate.Statement.{statement}
 use Rattle.sheet_format.proofs.next_gate.Tie as tie
 
@@ -14,7 +14,7 @@ abbrev μ-loop : tie.MeasureT-loop
 μ-loop kinds from i₀ i = length kinds - i
 
 loop-holds : tie.Need-loop-holds Inv-loop μ-loop
-loop-holds c = passed-none (c .args .kinds .now) (c .args .from) (c .pre)
+loop-holds c = gates-passed-none (c .args .kinds .now) (c .args .from) (c .pre)
 
 shared-slice-read-if1 : tie.Need-shared-slice-read-if1 Inv-loop μ-loop
 shared-slice-read-if1 c = omega arith
@@ -23,7 +23,7 @@ returns : tie.Need-returns Inv-loop μ-loop
 returns c =
     let s = c .before .before .before .before .args in
     let l = c .before .before .before .loop in
-    passed-to (s .kinds .now) (s .from) (l .i) (l .inv) (c .before .before .loop-test .taken) (c .if1 .taken)
+    gates-passed-to (s .kinds .now) (s .from) (l .i) (l .inv) (c .before .before .loop-test .taken) (c .if1 .taken)
 
 add-i : tie.Need-add-i Inv-loop μ-loop
 add-i c = omega arith
@@ -35,13 +35,13 @@ loop-again : tie.Need-loop-again Inv-loop μ-loop
 loop-again c =
     let s = c .before .before .before .before .args in
     let l = c .before .before .before .loop in
-    passed-more (s .kinds .now) (s .from) (l .i) (l .inv) (c .before .before .loop-test .taken) (c .if1 .left)
+    gates-passed-more (s .kinds .now) (s .from) (l .i) (l .inv) (c .before .before .loop-test .taken) (c .if1 .left)
 
 returns-2 : tie.Need-returns-2 Inv-loop μ-loop
 returns-2 c =
     let s = c .before .before .args in
     let l = c .before .loop in
-    passed-all (s .kinds .now) (s .from) (l .i) (l .inv) (c .loop-test .left)
+    gates-passed-all (s .kinds .now) (s .from) (l .i) (l .inv) (c .loop-test .left)
 
 pub next-gate-spec : {M : Type 1} → statement M
 next-gate-spec =

@@ -6,7 +6,7 @@ use mathlib.Core.Path.{sym, _∙_}
 use lib.ListN.{length, drop}
 use borrow.Author.Needs.{needs}
 use Rattle.sheet_format.proofs.Steps.{GateStood}
-use Rattle.sheet_format.proofs.Scan.{SheetScanned, scan-start, scan-broken, scan-early, scan-over, scan-end, scan-fits, scan-after, scan-other, scan-room, scan-next}
+use Rattle.sheet_format.proofs.Scan.{SheetScanned, sheet-scan-start, sheet-scan-broken, sheet-scan-early, sheet-scan-over, sheet-scan-end, sheet-scan-fits, sheet-scan-after, sheet-scan-other, sheet-scan-room, sheet-scan-next}
 use Rattle.sheet_reading.proofs.read_gates.Statement.{statement}
 use Rattle.sheet_reading.proofs.read_gates.Tie as tie
 
@@ -22,10 +22,10 @@ here c = sym (c .before .before .before .before .gate-or-end .ensures) ∙ c .be
 
 -- where it is a gated reach, it fits
 reach : (c : tie.Else1 Inv-loop μ-loop) → c .before .before .before .before .before .before .loop .at + 3 ≤ length (c .before .before .before .before .before .before .before .before .before .before .args .sheet .now)
-reach c = scan-fits (c .before .before .before .before .before .before .loop .inv) (here (c .before)) (c .before .next-gate .ensures) (c .if1 .left)
+reach c = sheet-scan-fits (c .before .before .before .before .before .before .loop .inv) (here (c .before)) (c .before .next-gate .ensures) (c .if1 .left)
 
 loop-holds : tie.Need-loop-holds Inv-loop μ-loop
-loop-holds c = let s = c .before .before .before in scan-start (s .args .kinds .now) (s .args .sheet .now) (s .args .held .now) (s .pre .0)
+loop-holds c = let s = c .before .before .before in sheet-scan-start (s .args .kinds .now) (s .args .sheet .now) (s .args .held .now) (s .pre .0)
 
 gate-or-end-requires : tie.Need-gate-or-end-requires Inv-loop μ-loop
 gate-or-end-requires c κs = search needs
@@ -38,7 +38,7 @@ same-length c = c .before .before .before .before .loop .inv .long
 
 returns : tie.Need-returns Inv-loop μ-loop
 returns c =
-    scan-broken (c .before .before .before .before .loop .inv) (c .before .r .given .0 .0) (sym (c .before .before .before .gate-or-end .ensures) ∙ c .before .r .given .1)
+    sheet-scan-broken (c .before .before .before .before .loop .inv) (c .before .r .given .0 .0) (sym (c .before .before .before .gate-or-end .ensures) ∙ c .before .r .given .1)
 
 enum-known-kind : tie.Need-enum-known-kind Inv-loop μ-loop
 enum-known-kind c = search needs
@@ -50,7 +50,7 @@ same-length-2 : tie.Need-same-length-2 Inv-loop μ-loop
 same-length-2 c = c .before .before .before .before .before .before .before .loop .inv .long
 
 returns-2 : tie.Need-returns-2 Inv-loop μ-loop
-returns-2 c = scan-early (c .before .before .before .before .before .before .before .loop .inv) (here (c .before .before)) (c .before .before .next-gate .ensures) (c .before .if1 .taken) (omega (arith, c .if2 .taken))
+returns-2 c = sheet-scan-early (c .before .before .before .before .before .before .before .loop .inv) (here (c .before .before)) (c .before .before .next-gate .ensures) (c .before .if1 .taken) (omega (arith, c .if2 .taken))
 
 add-if3 : tie.Need-add-if3 Inv-loop μ-loop
 add-if3 c = omega (arith, c .before .before .before .before .before .before .before .loop .inv .below)
@@ -59,21 +59,21 @@ same-length-3 : tie.Need-same-length-3 Inv-loop μ-loop
 same-length-3 c = c .before .before .before .before .before .before .before .before .loop .inv .long
 
 returns-3 : tie.Need-returns-3 Inv-loop μ-loop
-returns-3 c = scan-over (c .before .before .before .before .before .before .before .before .loop .inv) (here (c .before .before .before)) (c .before .before .before .next-gate .ensures) (c .before .before .if1 .taken) (omega (arith, c .before .if2 .left)) (c .if3 .taken)
+returns-3 c = sheet-scan-over (c .before .before .before .before .before .before .before .before .loop .inv) (here (c .before .before .before)) (c .before .before .before .next-gate .ensures) (c .before .before .if1 .taken) (omega (arith, c .before .if2 .left)) (c .if3 .taken)
 
 same-length-4 : tie.Need-same-length-4 Inv-loop μ-loop
 same-length-4 c = c .before .before .before .before .before .before .before .before .loop .inv .long
 
 returns-4 : tie.Need-returns-4 Inv-loop μ-loop
 returns-4 c =
-    scan-end (c .before .before .before .before .before .before .before .before .loop .inv) (here (c .before .before .before)) (c .before .before .before .next-gate .ensures) (c .before .before .if1 .taken) (omega (arith, c .before .if2 .left)) (c .if3 .left)
+    sheet-scan-end (c .before .before .before .before .before .before .before .before .loop .inv) (here (c .before .before .before)) (c .before .before .before .next-gate .ensures) (c .before .before .if1 .taken) (omega (arith, c .before .if2 .left)) (c .if3 .left)
     (c .before .before .before .before .before .before .before .before .before .before .before .before .pre .1)
 
 same-length-5 : tie.Need-same-length-5 Inv-loop μ-loop
 same-length-5 c = c .before .before .before .before .before .before .before .loop .inv .long
 
 returns-5 : tie.Need-returns-5 Inv-loop μ-loop
-returns-5 c = scan-after (c .before .before .before .before .before .before .before .loop .inv) (here (c .before .before)) (c .before .before .next-gate .ensures) (c .before .if1 .left) (c .if4 .taken)
+returns-5 c = sheet-scan-after (c .before .before .before .before .before .before .before .loop .inv) (here (c .before .before)) (c .before .before .next-gate .ensures) (c .before .if1 .left) (c .if4 .taken)
 
 add-word-at : tie.Need-add-word-at Inv-loop μ-loop
 add-word-at c = omega (arith, reach (c .before))
@@ -89,7 +89,7 @@ same-length-6 c = c .before .before .before .before .before .before .before .bef
 
 returns-6 : tie.Need-returns-6 Inv-loop μ-loop
 returns-6 c =
-    scan-other (c .before .before .before .before .before .before .before .before .before .loop .inv) (here (c .before .before .before .before)) (c .before .before .before .before .next-gate .ensures) (c .before .before .before .if1 .left) (c .before .before .if4 .left)
+    sheet-scan-other (c .before .before .before .before .before .before .before .before .before .loop .inv) (here (c .before .before .before .before)) (c .before .before .before .before .next-gate .ensures) (c .before .before .before .if1 .left) (c .before .before .if4 .left)
     (c .before .word-at .result) (c .before .word-at .ensures) (λ e. omega (arith, c .if5 .taken))
 
 byte-in-requires : tie.Need-byte-in-requires Inv-loop μ-loop
@@ -97,7 +97,7 @@ byte-in-requires c κs = search needs
 
 slice-write-held : tie.Need-slice-write-held Inv-loop μ-loop
 slice-write-held c =
-    scan-room (c .before .before .before .before .before .before .before .before .before .before .loop .inv) (here (c .before .before .before .before .before)) (c .before .before .before .before .before .next-gate .ensures) (c .before .before .before .before .if1 .left) (c .before .before .before .if4 .left)
+    sheet-scan-room (c .before .before .before .before .before .before .before .before .before .before .loop .inv) (here (c .before .before .before .before .before)) (c .before .before .before .before .before .next-gate .ensures) (c .before .before .before .before .if1 .left) (c .before .before .before .if4 .left)
     (c .before .before .word-at .result) (c .before .before .word-at .ensures) (c .before .before .before .before .before .before .before .before .before .before .before .before .before .before .pre .1)
 
 add-at : tie.Need-add-at Inv-loop μ-loop
@@ -114,7 +114,7 @@ loop-less c = omega (arith, reach (c .before .before .before .before))
 
 loop-again : tie.Need-loop-again Inv-loop μ-loop
 loop-again c =
-    scan-next (c .before .before .before .before .before .before .before .before .before .before .loop .inv) (here (c .before .before .before .before .before)) (c .before .before .before .before .before .next-gate .ensures) (c .before .before .before .before .if1 .left) (c .before .before .before .if4 .left)
+    sheet-scan-next (c .before .before .before .before .before .before .before .before .before .before .loop .inv) (here (c .before .before .before .before .before)) (c .before .before .before .before .before .next-gate .ensures) (c .before .before .before .before .if1 .left) (c .before .before .before .if4 .left)
     (c .before .before .word-at .result) (c .before .before .word-at .ensures) (c .before .if5 .left) (c .before .before .before .before .before .before .before .before .before .before .before .before .before .before .pre .1) (c .byte-in .result) (c .byte-in .ensures)
 
 pub read-gates-spec : {M : Type 1} → statement M

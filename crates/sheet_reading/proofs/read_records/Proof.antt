@@ -8,7 +8,7 @@ use Rattle.file_records.specs.Records.{takeRecord, takenAnswer}
 use Rattle.sheet_format.specs.Readings.{planHeadDue}
 use Rattle.sheet_format.specs.Rows.{gatesRow}
 use Rattle.sheet_format.proofs.Gates.{count-row}
-use Rattle.sheet_format.proofs.Steps.{head-at, head-broken}
+use Rattle.sheet_format.proofs.Steps.{sheet-head-at, sheet-head-broken}
 use Rattle.sheet_format.proofs.Scan.{held-refused}
 use Rattle.sheet_format.proofs.Heads.{head-wrong, head-right}
 use Rattle.sheet_reading.proofs.read_records.Statement.{statement}
@@ -31,7 +31,7 @@ enum-told : tie.Need-enum-told
 enum-told c = search needs
 
 word-at-requires : tie.Need-word-at-requires
-word-at-requires c κs = let s = c .before .before .before .before .before .before .before .args in omega (arith, head-at (gatesRow 0 (s .kinds .now)) (s .sheet .now) _ (head c) .fits)
+word-at-requires c κs = let s = c .before .before .before .before .before .before .before .args in omega (arith, sheet-head-at (gatesRow 0 (s .kinds .now)) (s .sheet .now) _ (head c) .fits)
 
 cast-if1 : tie.Need-cast-if1
 cast-if1 c = search needs
@@ -48,12 +48,12 @@ returns c =
 read-gates-requires : tie.Need-read-gates-requires
 read-gates-requires c κs =
     let s = c .before .before .before .before .before .before .before .before .before .before .before in
-    (head-at (gatesRow 0 (s .args .kinds .now)) (s .args .sheet .now) _ (head (c .before .before .before .before)) .fits, s .pre)
+    (sheet-head-at (gatesRow 0 (s .args .kinds .now)) (s .args .sheet .now) _ (head (c .before .before .before .before)) .fits, s .pre)
 
 returns-2 : tie.Need-returns-2
 returns-2 c =
     let s = c .before .before .before .before .before .before .before .before .args in
-    held-refused _ (s .held .now) (head-broken (gatesRow 0 (s .kinds .now)) (s .sheet .now) _ (sym (c .before .before .before .take-record .ensures) ∙ c .before .r .given .1))
+    held-refused _ (s .held .now) (sheet-head-broken (gatesRow 0 (s .kinds .now)) (s .sheet .now) _ (sym (c .before .before .before .take-record .ensures) ∙ c .before .r .given .1))
 
 same-length : tie.Need-same-length
 same-length c = search needs

@@ -11,7 +11,7 @@ use Rattle.tables.specs.Rows.{netOf}
 use Rattle.tables.proofs.Faults.{answer-refused, answer-accepted}
 use Rattle.sheet_format.proofs.Gates.{gates-few}
 use Rattle.tables.proofs.Cuts.{cut-kinds}
-use Rattle.sheet_format.proofs.Puts.{cut-gates}
+use Rattle.sheet_format.proofs.Puts.{cut-gates-row}
 use Rattle.sheet_format.proofs.Getting.{stored, held-table, held-torn, held-judged}
 use Rattle.sheet_rows.proofs.read_plan.Statement.{statement}
 use Rattle.sheet_rows.proofs.read_plan.Tie as tie
@@ -83,7 +83,7 @@ returns-2 : tie.Need-returns-2
 returns-2 c =
     let s = c .before .before .before .before .before .before .before .before .before .before .before .before .before .before .before .before .before in
     let count = c .before .before .before .before .before .before .before .before .row-count in
-    held-torn (net s) (s .args .sheet .now) (sound (c .before .before .before .before .before .before .before .before .before)) (cut-gates (s .args .kinds .now) (s .args .a .now) (s .args .b .now) (count .result) (count .ensures))
+    held-torn (net s) (s .args .sheet .now) (sound (c .before .before .before .before .before .before .before .before .before)) (cut-gates-row (s .args .kinds .now) (s .args .a .now) (s .args .b .now) (count .result) (count .ensures))
     (c .before .before .before .before .before .read-records .ensures) (c .before .r2 .given .1)
 
 same-length-2 : tie.Need-same-length-2
@@ -93,7 +93,7 @@ returns-3 : tie.Need-returns-3
 returns-3 c =
     let s = c .before .before .before .before .before .before .before .before .before .before .before .before .before .before .before .before .before .before .before in
     let count = c .before .before .before .before .before .before .before .before .before .before .row-count in
-    held-judged (net s) (s .args .sheet .now) (sound (c .before .before .before .before .before .before .before .before .before .before .before)) (cut-gates (s .args .kinds .now) (s .args .a .now) (s .args .b .now) (count .result) (count .ensures))
+    held-judged (net s) (s .args .sheet .now) (sound (c .before .before .before .before .before .before .before .before .before .before .before)) (cut-gates-row (s .args .kinds .now) (s .args .a .now) (s .args .b .now) (count .result) (count .ensures))
     (c .before .before .before .before .before .before .before .read-records .ensures) (c .before .before .before .n .given .1) (c .judge-plan .ensures)
 
 pub read-plan-spec : {M : Type 1} → statement M

@@ -11,14 +11,14 @@ use Rattle.orientations.specs.Partials.{Binds}
 use Rattle.orienting.specs.Ready.{Ready}
 use Rattle.orienting.proofs.Readies.{ready-ways, ready-notes}
 use Rattle.seeking.specs.Seeks.{AtPlan}
-use Rattle.skipping.proofs.Skips.{Noted, noted-on}
+use Rattle.skipping.proofs.Skips.{BoundNoted, noted-on}
 use Rattle.skipping.proofs.note_from.Statement.{statement}
 use Rattle.skipping.proofs.note_from.Tie as tie
 
 abbrev Inv-loop : tie.InvT-loop
 Inv-loop n guide a b tried₀ loose₀ ways head next from to seen₀ queue₀ i₀ tried loose seen queue i =
     Ready n a b loose head next seen queue
-    × ((ks s : List ℕ) → loose₀ ≡ waysRow ks [] → AtPlan n ks a b s ways → Binds (netOf n ks a b) tried₀ ways → Noted n ks a b ways tried loose)
+    × ((ks s : List ℕ) → loose₀ ≡ waysRow ks [] → AtPlan n ks a b s ways → Binds (netOf n ks a b) tried₀ ways → BoundNoted n ks a b ways tried loose)
     × (length tried ≡ length tried₀) × (length loose ≡ length loose₀) × (length seen ≡ length seen₀) × (length queue ≡ length queue₀)
 
 abbrev μ-loop : tie.MeasureT-loop

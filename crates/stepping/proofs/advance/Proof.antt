@@ -23,8 +23,8 @@ copied c ks p h = let s = c .before .before .before .before .before .before .bef
 copy-row-requires : tie.Need-copy-row-requires
 copy-row-requires c κs = search needs
 
-step-requires : tie.Need-step-requires
-step-requires c κs =
+step-from-requires : tie.Need-step-from-requires
+step-from-requires c κs =
     let s = c .before .before .before .before .before .before .before .before .before .before .before .before .before .before .before .before .before .before .before in
     (s .pre .0, (s .pre .1 .0, (ap length (c .before .before .before .before .before .before .copy-row .ensures) ∙ s .pre .0 .ways-full, omega arith)))
 
@@ -49,8 +49,8 @@ returns c =
           let h′ = copied t ks p h in
           let f′ = subst (λ u. Binds (netOf (s .n) ks (s .a .now) (s .b .now)) (s .tried .now) u) (sym (t .copy-row .ensures)) f in
           advanced (s .n) ks (s .a .now) (s .b .now) (h .level) h′ (h .oriented) f′
-          (c .before .before .before .before .before .before .step .ensures .from ks (plan-partable (s .n) ks (s .a .now) (s .b .now) h′ (h .oriented) f′) guides);
+          (c .before .before .before .before .before .before .step-from .ensures .from ks (plan-partable (s .n) ks (s .a .now) (s .b .now) h′ (h .oriented) f′) guides);
     }
 
 pub advance-spec : {M : Type 1} → statement M
-advance-spec = tie.close (tie.spec copy-row-requires step-requires same-length same-length-2 same-length-3 same-length-4 returns)
+advance-spec = tie.close (tie.spec copy-row-requires step-from-requires same-length same-length-2 same-length-3 same-length-4 returns)

@@ -3,12 +3,12 @@
 use Prim.Native.Nat.{_<_}
 use native.Mathlib.Omega.{arith}
 use lib.ListN.{length, getD}
-use Rattle.union_find.proofs.Roots.{Finding, finding-none, finding-more, finding-all}
+use Rattle.union_find.proofs.Roots.{Climbing, climbing-none, climbing-more, climbing-all}
 use Rattle.union_find.proofs.find.Statement.{statement}
 use Rattle.union_find.proofs.find.Tie as tie
 
 abbrev Inv-loop : tie.InvT-loop
-Inv-loop n parents₀ v x₀ parents x = Finding n parents₀ v parents x
+Inv-loop n parents₀ v x₀ parents x = Climbing n parents₀ v parents x
 
 abbrev μ-loop : tie.MeasureT-loop
 μ-loop n parents₀ v x₀ parents x = x
@@ -18,7 +18,7 @@ here : (c : tie.At-loop Inv-loop μ-loop) → c .loop .x < length (c .loop .pare
 here c = omega (arith, c .loop .inv .within, c .loop .inv .rising .long)
 
 loop-holds : tie.Need-loop-holds Inv-loop μ-loop
-loop-holds c = finding-none (c .pre .0) (c .pre .1)
+loop-holds c = climbing-none (c .pre .0) (c .pre .1)
 
 cast-if1 : tie.Need-cast-if1 Inv-loop μ-loop
 cast-if1 c = omega arith
@@ -62,13 +62,13 @@ loop-less c =
     omega (arith, t .inv .within, c .before .before .if1 .taken, t .inv .rising .parent (getD (t .parents) (t .x) 0) (omega (arith, t .inv .within, c .before .before .if1 .taken)))
 
 loop-again : tie.Need-loop-again Inv-loop μ-loop
-loop-again c = finding-more (c .before .before .before .before .loop .inv) (c .before .before .if1 .taken)
+loop-again c = climbing-more (c .before .before .before .before .loop .inv) (c .before .before .if1 .taken)
 
 same-length : tie.Need-same-length Inv-loop μ-loop
 same-length c = c .before .before .loop .inv .kept
 
 returns : tie.Need-returns Inv-loop μ-loop
-returns c = finding-all (c .before .before .loop .inv) (c .if1 .left)
+returns c = climbing-all (c .before .before .loop .inv) (c .if1 .left)
 
 pub find-spec : {M : Type 1} → statement M
 find-spec =

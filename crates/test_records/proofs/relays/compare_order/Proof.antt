@@ -10,8 +10,8 @@ use denote.Steps.{only, owned}
 use denote.Struct.Declared.{Declared}
 use denote.Struct.Laws as LL
 use denote.Enum.Laws as EL
-use Rattle.test_records.proofs.Lending.{ap, subst, refl, ℕ, _<_, _^_, List, [], _∷_, URA, w16, w64, Val, vint, SProp, ent, id⊢, Lft, Share, flft, fullShare, ftrue, Memory, Routine, Heap, Tables, WpFn, Atoms, fmOf, Fun, givenOf, tables, tablesOf, Given, ‵, _⊛_, _$_, _∵_, !, qed, by, move, look-in, stop, from, load, addr, agg, of-opd, and-then, no-more, assigns, land, returns, enter, allots, takes-in, within, copied, copies, known, fills, frees-all, uint-vals, uint-tells, u8, now, Room, length, u16, owns, RefT, slice-vals, named, ShrSlice, shr-slice-tells, Fml, sliceVal, array-vals, array-tells, Bound, Contract, Triple, entered, cited, Reach, reachVals, reach-tells, Promise, meets, ending, calls-known, val, front, Holds, array, table-typed, table-room, had, picked, hears, lends-table, table-back, tableRoom}
-use Rattle.packing.proofs.Locals.{room, full, locals, holding}
+use Rattle.test_records.proofs.Lending.{ap, subst, refl, ℕ, _<_, _^_, List, [], _∷_, URA, w16, w64, Val, vint, SProp, ent, id⊢, Lft, Share, flft, fullShare, ftrue, Memory, Routine, Heap, Tables, WpFn, Atoms, fmOf, Fun, givenOf, tables, tablesOf, Given, ‵, _⊛_, _$_, _∵_, !, qed, by, move, look-in, stop, from, load, addr, agg, of-opd, and-then, no-more, assigns, land, returns, enter, allots, takes-in, within, copied, copies, known, fills, frees-all, uint-vals, uint-tells, u8, now, Room, length, u16, owns, RefT, slice-vals, named, ShrSlice, shr-slice-tells, Fml, sliceVal, array-vals, array-tells, Bound, Contract, Triple, entered, cited, Reach, reachVals, reach-tells, Promise, meets, call-end, calls-known, val, front, Holds, array, table-typed, table-room, had, picked, hears, lends-table, table-back, tableRoom}
+use Rattle.packing.proofs.Locals.{room, full, locals, withContents}
 use Rattle.network.proofs.Reach as R
 use Rattle.sheet_order.proofs.Order as O
 use Rattle.sheet_order.proofs.Order.Laws as O′
@@ -66,12 +66,12 @@ module _ {M : Type 1} (𝓤 : URA M) (H : Heap 𝓤) (A : Atoms 𝓤) (mem : Mem
         calls-known ! core.ended (core.clauses 𝓤 H A mem run) (y α (front (bs .1 .1 .1 .1 .1 .1 .0) γ xs n)) tt (fmOf 𝓤 H (W .laws) 𝓣) core-met (id⊢ 𝓤 _) _ (λ r e′. id⊢ 𝓤 _) (and-then ! (picked ! 2 refl) (and-then ! (picked ! 8 refl) (and-then ! (picked ! 4 refl) (and-then ! (picked ! 5 refl) (no-more !))))) (λ w r ws e′ is′.
         land ! (from ! (stop !)) (fills ! 6 refl (LL.lawful (D α) (L α) 𝓤 H A W .typed r _ is′ .0)) $ table-back ! tt 6 (‵ (flft κ q) ⊛ ‵ ftrue) xs n (is .1 .0 .1) (id⊢ 𝓤 _) (λ u.
         -- the struct's value is written out, so that its field is an operand
-        rewrite ! 0 (λ (w′ : Val). locals (holding (code.function .locals) bs (room ∷ full (vint w64 n) ∷ full (vint w16 basins) ∷ full v ∷ full (val first) ∷ full (val second) ∷ full u ∷ full w′ ∷ full (vptr (bs .1 .1 .1 .1 .1 .1 .0) 0) ∷ full (val (front (bs .1 .1 .1 .1 .1 .1 .0) γ xs n)) ∷ []))) (ap only (LL.tells (D α) (L α) r (w ∷ []) is′)) refl $
+        rewrite ! 0 (λ (w′ : Val). locals (withContents (code.function .locals) bs (room ∷ full (vint w64 n) ∷ full (vint w16 basins) ∷ full v ∷ full (val first) ∷ full (val second) ∷ full u ∷ full w′ ∷ full (vptr (bs .1 .1 .1 .1 .1 .1 .0) 0) ∷ full (val (front (bs .1 .1 .1 .1 .1 .1 .0) γ xs n)) ∷ []))) (ap only (LL.tells (D α) (L α) r (w ∷ []) is′)) refl $
         assigns ! (of-opd ! (load ! (from ! (fld ! refl (stop !))) (look-in ! 0 (sub ! 0 refl (within ! 7 refl))))) (from ! (stop !)) (fills ! 0 refl (EL.lawful O.the-type O′.the-laws 𝓤 H A W tt .typed (r .order) _ (LL.owed (D α) (L α) r (w ∷ []) is′ .0) .0)) $
         returns ! (look-in ! 0 (within ! 0 refl)) $ frees-all ! $
         -- [the token; the last values; the struct]: the order is had for nothing
         move ! (2 ∷ []) $ drop ! $ owned ! O.the-row (Is O.the-row) (EL.makes O.the-type O′.the-plain 𝓤 H A) (r .order) _ (LL.owed (D α) (L α) r (w ∷ []) is′ .0) $ move ! (1 ∷ 2 ∷ 0 ∷ []) $
-        by ! (ending 𝓤 H A f.ended (f.clauses 𝓤 H A mem run) W x tt _ (r .order) (tt, ws) (id⊢ 𝓤 _)))))))
+        by ! (call-end 𝓤 H A f.ended (f.clauses 𝓤 H A mem run) W x tt _ (r .order) (tt, ws) (id⊢ 𝓤 _)))))))
 
 pub compare-order-spec : {M : Type 1} → stated.statement M
 unfolding code.routine tablesOf

@@ -8,7 +8,7 @@ use denote.Steps.{owned}
 use types.Kit.{split, drop}
 use denote.Enum.Laws as EL
 use denote.Struct.Laws as LL
-use Rattle.test_records.proofs.Lending.{ap, subst, refl, ℕ, _<_, _^_, List, [], _∷_, URA, w16, w64, Val, vint, SProp, ent, id⊢, fullShare, ftrue, Memory, Routine, Heap, Tables, WpFn, Atoms, fmOf, Fun, givenOf, tables, tablesOf, Given, ‵, _$_, _∵_, !, qed, by, move, look-in, stop, from, addr, agg, of-opd, and-then, no-more, assigns, land, returns, enter, allots, takes-in, within, copied, copies, known, fills, frees-all, uint-vals, uint-tells, u16, owns, RefT, Fml, sliceVal, array-vals, array-tells, Bound, Contract, Triple, entered, cited, Reach, reachVals, reach-tells, Promise, meets, ending, calls-known, val, front, Holds, array, table-typed, table-room, had-two, picked, hears-two, lends-table, lends-table-mut, tables-back, Array, tableRoom, as-field}
+use Rattle.test_records.proofs.Lending.{ap, subst, refl, ℕ, _<_, _^_, List, [], _∷_, URA, w16, w64, Val, vint, SProp, ent, id⊢, fullShare, ftrue, Memory, Routine, Heap, Tables, WpFn, Atoms, fmOf, Fun, givenOf, tables, tablesOf, Given, ‵, _$_, _∵_, !, qed, by, move, look-in, stop, from, addr, agg, of-opd, and-then, no-more, assigns, land, returns, enter, allots, takes-in, within, copied, copies, known, fills, frees-all, uint-vals, uint-tells, u16, owns, RefT, Fml, sliceVal, array-vals, array-tells, Bound, Contract, Triple, entered, cited, Reach, reachVals, reach-tells, Promise, meets, call-end, calls-known, val, front, Holds, array, table-typed, table-room, had-two, picked, hears-two, lends-table, lends-table-mut, tables-back, Array, tableRoom, as-field}
 use Rattle.packing.proofs.Relays.{table}
 use Rattle.network.proofs.Reach as R
 use Rattle.contraction.specs.declared.ContractAnswer.{ContractAnswer}
@@ -71,7 +71,7 @@ module _ {M : Type 1} (𝓤 : URA M) (H : Heap 𝓤) (A : Atoms 𝓤) (mem : Mem
         returns ! (look-in ! 0 (within ! 0 refl)) $ frees-all ! $
         -- [the token; the last values; what was replied]: the struct is had for nothing
         move ! (2 ∷ []) $ drop ! $ owned ! P.the-row (Is P.the-row) (LL.makes P.the-type P′.the-plain 𝓤 H A) (made r (ws .1 .1 .0 ++ skip k ys)) (spelt u u₂ ∷ []) ((u ∷ [], (u₂ ∷ [], tt)), (refl, (is′, (as-field (ws .1 .1 .0 ++ skip k ys) is″, tt)))) $ move ! (1 ∷ 2 ∷ 0 ∷ []) $
-        by ! (ending 𝓤 H A f.ended (f.clauses 𝓤 H A mem run) W x tt (spelt u u₂) (made r (ws .1 .1 .0 ++ skip k ys)) (tt, (tt, (tt, (tt, (tt, tt))))) (id⊢ 𝓤 _))))))))
+        by ! (call-end 𝓤 H A f.ended (f.clauses 𝓤 H A mem run) W x tt (spelt u u₂) (made r (ws .1 .1 .0 ++ skip k ys)) (tt, (tt, (tt, (tt, (tt, tt))))) (id⊢ 𝓤 _))))))))
 
 pub contract-spec : {M : Type 1} → stated.statement M
 unfolding code.routine tablesOf

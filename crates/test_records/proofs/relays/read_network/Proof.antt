@@ -8,7 +8,7 @@ use denote.Laws.{Is}
 use denote.Steps.{owned}
 use denote.Enum.Laws as EL
 use denote.Struct.Laws as LL
-use Rattle.test_records.proofs.Lending.{ap, subst, refl, ℕ, _<_, _^_, List, [], _∷_, URA, w64, Val, vint, SProp, ent, id⊢, Lft, Share, flft, fullShare, ftrue, Memory, Routine, Heap, Tables, WpFn, Atoms, fmOf, Fun, givenOf, tables, tablesOf, Given, ‵, _⊛_, _$_, _∵_, !, qed, by, look-in, stop, from, addr, agg, of-opd, and-then, no-more, assigns, land, returns, enter, allots, takes-in, within, copied, copies, known, fills, frees-all, uint-vals, uint-tells, u8, now, Room, length, RefT, slice-vals, named, ShrSlice, shr-slice-tells, Fml, sliceVal, array-vals, array-tells, Bound, Contract, Triple, entered, cited, Reach, reachVals, reach-tells, Promise, meets, ending, calls-known, val, front, Holds, array, table-typed, table-room, had, picked, hears, lends-table-mut, table-back-mut, move, tableRoom, as-field}
+use Rattle.test_records.proofs.Lending.{ap, subst, refl, ℕ, _<_, _^_, List, [], _∷_, URA, w64, Val, vint, SProp, ent, id⊢, Lft, Share, flft, fullShare, ftrue, Memory, Routine, Heap, Tables, WpFn, Atoms, fmOf, Fun, givenOf, tables, tablesOf, Given, ‵, _⊛_, _$_, _∵_, !, qed, by, look-in, stop, from, addr, agg, of-opd, and-then, no-more, assigns, land, returns, enter, allots, takes-in, within, copied, copies, known, fills, frees-all, uint-vals, uint-tells, u8, now, Room, length, RefT, slice-vals, named, ShrSlice, shr-slice-tells, Fml, sliceVal, array-vals, array-tells, Bound, Contract, Triple, entered, cited, Reach, reachVals, reach-tells, Promise, meets, call-end, calls-known, val, front, Holds, array, table-typed, table-room, had, picked, hears, lends-table-mut, table-back-mut, move, tableRoom, as-field}
 use Rattle.network.proofs.Reach as R
 use Rattle.netfile_format.specs.declared.ReadAnswer.{ReadAnswer}
 use Rattle.netfile_format.proofs.ReadAnswer as S
@@ -65,7 +65,7 @@ module _ {M : Type 1} (𝓤 : URA M) (H : Heap 𝓤) (A : Atoms 𝓤) (mem : Mem
         returns ! (look-in ! 0 (within ! 0 refl)) $ frees-all ! $
         -- [the token; the last values; what was replied]: the struct is had for nothing
         move ! (2 ∷ []) $ drop ! $ owned ! P.the-row (Is P.the-row) (LL.makes P.the-type P′.the-plain 𝓤 H A) (made r (ws .1 .0 ++ skip n xs)) (spelt w u ∷ []) ((w ∷ [], (u ∷ [], tt)), (refl, (is′, (as-field (ws .1 .0 ++ skip n xs) is″, tt)))) $ move ! (1 ∷ 2 ∷ 0 ∷ []) $
-        by ! (ending 𝓤 H A f.ended (f.clauses 𝓤 H A mem run) W x tt (spelt w u) (made r (ws .1 .0 ++ skip n xs)) (tt, (tt, (tt, tt))) (id⊢ 𝓤 _)))))))
+        by ! (call-end 𝓤 H A f.ended (f.clauses 𝓤 H A mem run) W x tt (spelt w u) (made r (ws .1 .0 ++ skip n xs)) (tt, (tt, (tt, tt))) (id⊢ 𝓤 _)))))))
 
 pub read-network-spec : {M : Type 1} → stated.statement M
 unfolding code.routine tablesOf

@@ -1,4 +1,4 @@
--- `sheet_laws::read_then_write` meets its contract, by what the reader and the writer promise.
+-- `sheet_laws::read_then_write_sheet` meets its contract, by what the reader and the writer promise.
 -- Assumes nothing.
 use mathlib.Core.Path.{sym, subst}
 use lib.Seq.{length-take-le}
@@ -10,8 +10,8 @@ use Rattle.sheet_format.specs.declared.SheetAnswer.{SheetAnswer}
 use Rattle.sheet_format.specs.declared.SheetAnswer.the-variants.{Read}
 use Rattle.sheet_format.specs.Answers.{SheetRead}
 use Rattle.sheet_laws.proofs.RoundTrips.{read-fits, sheet-unread, sheet-written-again}
-use Rattle.sheet_laws.proofs.read_then_write.Statement.{statement}
-use Rattle.sheet_laws.proofs.read_then_write.Tie as tie
+use Rattle.sheet_laws.proofs.read_then_write_sheet.Statement.{statement}
+use Rattle.sheet_laws.proofs.read_then_write_sheet.Tie as tie
 
 -- the network that is lent
 abbrev net : tie.Start → Network
@@ -69,8 +69,8 @@ returns-2 c =
     sheet-written-again (net s) (s .args .sheet .now) (was-read (c .before .before .before .before .before .before))
     (bytes-make (s .args .sheet .now) (λ i. c .before .before .before .before .before .before .before .before .before .before .before .before .before .before .shared-slice-known4 .given i .fits)) (c .before .before .write-sheet .ensures)
 
-pub read-then-write-spec : {M : Type 1} → statement M
-read-then-write-spec =
+pub read-then-write-sheet-spec : {M : Type 1} → statement M
+read-then-write-sheet-spec =
     tie.close
     (tie.spec
     read-sheet-requires

@@ -1,4 +1,4 @@
--- `netfile_laws::read_then_write` meets its contract, by what the reader and the writer promise.
+-- `netfile_laws::read_then_write_network` meets its contract, by what the reader and the writer promise.
 -- Assumes nothing.
 use Prim.Native.Nat.{_≤_}
 use mathlib.Core.Path.{sym, subst}
@@ -11,8 +11,8 @@ use Rattle.file_records.proofs.Records.{bytes-make}
 use Rattle.netfile_laws.proofs.RoundTrips.{rows-unread, rows-written-again}
 use Rattle.netfile_format.proofs.Calls.{rows-long}
 use borrow.Author.Needs.{needs}
-use Rattle.netfile_laws.proofs.read_then_write.Statement.{statement}
-use Rattle.netfile_laws.proofs.read_then_write.Tie as tie
+use Rattle.netfile_laws.proofs.read_then_write_network.Statement.{statement}
+use Rattle.netfile_laws.proofs.read_then_write_network.Tie as tie
 
 -- what the reader promises of its answer r
 abbrev Got : tie.After-read-network → ReadAnswer → Type 0
@@ -100,8 +100,8 @@ returns-2 c =
     (bytes-make (s .file .now) (λ i. c .before .before .before .before .before .before .before .before .before .before .before .before .before .before .before .before .before .before .before .before .before .before .before .before .shared-slice-known .given i .fits))
     (was-read (c .before .before .before .before .before .before .before .before)) (c .before .before .write-network .ensures)
 
-pub read-then-write-spec : {M : Type 1} → statement M
-read-then-write-spec =
+pub read-then-write-network-spec : {M : Type 1} → statement M
+read-then-write-network-spec =
     tie.close
     (tie.spec
     read-network-requires

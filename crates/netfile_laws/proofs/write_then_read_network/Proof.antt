@@ -1,4 +1,4 @@
--- `netfile_laws::write_then_read` meets its contract, by what the writer and the reader promise.
+-- `netfile_laws::write_then_read_network` meets its contract, by what the writer and the reader promise.
 -- Assumes nothing.
 use Prim.Native.Nat.{_≤_}
 use mathlib.Core.Path.{sym, subst}
@@ -12,8 +12,8 @@ use Rattle.netfile_format.specs.Answers.{NetworkWritten}
 use Rattle.file_records.proofs.Puts.{written-fits}
 use Rattle.netfile_laws.proofs.RoundTrips.{rows-unwritten, rows-read-again}
 use borrow.Author.Needs.{needs}
-use Rattle.netfile_laws.proofs.write_then_read.Statement.{statement}
-use Rattle.netfile_laws.proofs.write_then_read.Tie as tie
+use Rattle.netfile_laws.proofs.write_then_read_network.Statement.{statement}
+use Rattle.netfile_laws.proofs.write_then_read_network.Tie as tie
 
 -- the network that is lent
 abbrev net : tie.Start → Network
@@ -75,8 +75,8 @@ returns-2 c =
     let s = c .before .before .before .before .before .before .before .before .before .before .before .before .before .before .before .before .before .before .before .before .before .before .before .before .before in
     rows-read-again (net s) (wrote (c .before .before .before .before .before .before .before .before .before .before .before .before)) (c .before .before .before .before .before .before .read-network .ensures)
 
-pub write-then-read-spec : {M : Type 1} → statement M
-write-then-read-spec =
+pub write-then-read-network-spec : {M : Type 1} → statement M
+write-then-read-network-spec =
     tie.close
     (tie.spec
     write-network-requires

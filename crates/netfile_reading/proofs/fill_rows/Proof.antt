@@ -1,4 +1,4 @@
--- `netfile_reading::fill` meets its contract. The loop's invariant: the first i entries of each row are those of the file's first i reaches.
+-- `netfile_reading::fill_rows` meets its contract. The loop's invariant: the first i entries of each row are those of the file's first i reaches.
 -- The measure is how many reaches are left. Assumes nothing.
 use Prim.Native.Nat.{_+_, _-_, _≤_, _<_}
 use native.Mathlib.Omega.{arith}
@@ -6,8 +6,8 @@ use lib.ListN.{length, getD}
 use Rattle.netfile_format.specs.Answers.{recordLength}
 use Rattle.netfile_format.proofs.Steps.{record-long}
 use Rattle.netfile_format.proofs.Filling.{RowsFilling, filling-none, filling-fits, filling-more, filling-all}
-use Rattle.netfile_reading.proofs.fill.Statement.{statement}
-use Rattle.netfile_reading.proofs.fill.Tie as tie
+use Rattle.netfile_reading.proofs.fill_rows.Statement.{statement}
+use Rattle.netfile_reading.proofs.fill_rows.Tie as tie
 
 abbrev Inv-loop : tie.InvT-loop
 Inv-loop file n kinds₀ a₀ b₀ i₀ at₀ kinds a b i at = RowsFilling file n kinds₀ a₀ b₀ kinds a b i at
@@ -104,8 +104,8 @@ returns c =
     let s = c .before .before .before .before .before .before in
     filling-all (s .args .file .now) (s .args .n) (s .args .kinds .now) (s .args .a .now) (s .args .b .now) (s .pre) (c .before .loop .inv) (c .loop-test .left)
 
-pub fill-spec : {M : Type 1} → statement M
-fill-spec =
+pub fill-rows-spec : {M : Type 1} → statement M
+fill-rows-spec =
     tie.close
     (tie.spec
     Inv-loop

@@ -1,4 +1,4 @@
--- `fill` meets its contract. The loop's invariant, for every basin count that fits: `KeptFilling`. The measure is how many reaches are left.
+-- `fill_kept` meets its contract. The loop's invariant, for every basin count that fits: `KeptFilling`. The measure is how many reaches are left.
 -- Assumes nothing.
 use Prim.Native.Nat.{ℕ, _-_}
 use mathlib.Core.Path.{sym, _∙_}
@@ -7,8 +7,8 @@ use lib.ListN.{length}
 use borrow.Author.Tests.{not-true, not-false}
 use Rattle.contracting.specs.Filling.{FillableOf}
 use Rattle.contracting.proofs.Turns.{KeptFilling, Places, kept-filling-none, kept-filling-all, places, kept-filling-drop, kept-filling-stay}
-use Rattle.contracting.proofs.fill.Statement.{statement}
-use Rattle.contracting.proofs.fill.Tie as tie
+use Rattle.contracting.proofs.fill_kept.Statement.{statement}
+use Rattle.contracting.proofs.fill_kept.Tie as tie
 
 abbrev Inv-loop : tie.InvT-loop
 Inv-loop kinds a b labels notes₀ kinds2₀ a2₀ b2₀ k₀ i₀ notes kinds2 a2 b2 k i = (n : ℕ) → FillableOf n kinds a b labels notes₀ kinds2₀ a2₀ b2₀ → KeptFilling n kinds a b notes₀ kinds2₀ a2₀ b2₀ notes kinds2 a2 b2 k i
@@ -148,8 +148,8 @@ returns c =
     let s = c .before .before .before .before .before .before .before .before .before .before in
     record { of = λ n p. kept-filling-all n (s .args .kinds .now) (s .args .a .now) (s .args .b .now) (s .args .labels .now) (s .args .notes .now) (s .args .kinds2 .now) (s .args .a2 .now) (s .args .b2 .now) p (c .before .loop .inv n p) (c .loop-test .left) }
 
-pub fill-spec : {M : Type 1} → statement M
-fill-spec =
+pub fill-kept-spec : {M : Type 1} → statement M
+fill-kept-spec =
     tie.close
     (tie.spec
     Inv-loop

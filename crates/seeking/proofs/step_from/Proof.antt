@@ -1,12 +1,12 @@
--- `seeking::step` meets its contract: the gates after the last one at which a plan can part are decided.
+-- `seeking::step_from` meets its contract: the gates after the last one at which a plan can part are decided.
 -- Assumes nothing.
 use mathlib.Core.Path.{_∙_}
 use native.Mathlib.Omega.{arith}
 use borrow.Author.Needs.{needs}
 use Rattle.orienting.proofs.Readies.{ready-ways, ready-notes}
-use Rattle.seeking.proofs.Seeks.{bridgeless, part-following, step-completable, step-made, step-none}
-use Rattle.seeking.proofs.step.Statement.{statement}
-use Rattle.seeking.proofs.step.Tie as tie
+use Rattle.seeking.proofs.Seeks.{bridgeless, part-following, step-completable, step-completed, step-none}
+use Rattle.seeking.proofs.step_from.Statement.{statement}
+use Rattle.seeking.proofs.step_from.Tie as tie
 
 turn-back-requires : tie.Need-turn-back-requires
 turn-back-requires c κs = c .before .before .before .before .before .before .before .before .before .before .before .before .before .pre
@@ -39,7 +39,7 @@ returns c =
     record {
       from = λ ks p guides.
           let d = t .from ks (part-following (s .args .n) ks (s .args .a .now) (s .args .b .now) p) (p .connected-below) guides in
-          step-made (s .args .n) ks (s .args .a .now) (s .args .b .now) p d l
+          step-completed (s .args .n) ks (s .args .a .now) (s .args .b .now) p d l
           (c .before .before .before .before .before .before .complete .ensures .from ks (step-completable (s .args .n) ks (s .args .a .now) (s .args .b .now) p d l) (bridgeless _ (p .some-plan)) guides);
     }
 
@@ -62,5 +62,5 @@ returns-2 c =
           (λ l. omega (arith, c .if1 .left));
     }
 
-pub step-spec : {M : Type 1} → statement M
-step-spec = tie.close (tie.spec turn-back-requires add-complete complete-requires same-length same-length-2 same-length-3 returns same-length-4 same-length-5 same-length-6 returns-2)
+pub step-from-spec : {M : Type 1} → statement M
+step-from-spec = tie.close (tie.spec turn-back-requires add-complete complete-requires same-length same-length-2 same-length-3 returns same-length-4 same-length-5 same-length-6 returns-2)

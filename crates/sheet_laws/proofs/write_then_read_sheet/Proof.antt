@@ -1,4 +1,4 @@
--- `sheet_laws::write_then_read` meets its contract, by what the writer and the reader promise.
+-- `sheet_laws::write_then_read_sheet` meets its contract, by what the writer and the reader promise.
 -- Assumes nothing.
 use mathlib.Core.Path.{sym, subst}
 use lib.Seq.{length-take-le}
@@ -10,8 +10,8 @@ use Rattle.file_records.specs.declared.WriteAnswer.the-variants.{Written}
 use Rattle.sheet_format.specs.Answers.{SheetWritten}
 use Rattle.file_records.proofs.Puts.{written-fits}
 use Rattle.sheet_laws.proofs.RoundTrips.{plan-unwritten, plan-read-again}
-use Rattle.sheet_laws.proofs.write_then_read.Statement.{statement}
-use Rattle.sheet_laws.proofs.write_then_read.Tie as tie
+use Rattle.sheet_laws.proofs.write_then_read_sheet.Statement.{statement}
+use Rattle.sheet_laws.proofs.write_then_read_sheet.Tie as tie
 
 -- the network that is lent
 abbrev net : tie.Start → Network
@@ -64,8 +64,8 @@ returns-2 c =
     let s = c .before .before .before .before .before .before .before .before .before .before .before .before .before .before .before .before .before .before in
     plan-read-again (net s) (s .args .setting .now) (wrote (c .before .before .before .before .before .before)) (c .before .before .read-sheet .ensures)
 
-pub write-then-read-spec : {M : Type 1} → statement M
-write-then-read-spec =
+pub write-then-read-sheet-spec : {M : Type 1} → statement M
+write-then-read-sheet-spec =
     tie.close
     (tie.spec
     write-sheet-requires

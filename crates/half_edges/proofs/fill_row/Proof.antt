@@ -1,13 +1,13 @@
--- `fill` meets its contract. The loop's invariant: the first i numbers are x and the others as they were. The measure is n less i.
+-- `fill_row` meets its contract. The loop's invariant: the first i numbers are x and the others as they were. The measure is n less i.
 -- Assumes nothing.
 use Prim.Native.Nat.{_-_}
 use native.Mathlib.Omega.{arith}
-use Rattle.half_edges.proofs.Fills.{Filled, filled-none, filled-more, filled-all}
-use Rattle.half_edges.proofs.fill.Statement.{statement}
-use Rattle.half_edges.proofs.fill.Tie as tie
+use Rattle.half_edges.proofs.Fills.{FilledTo, filled-none, filled-more, filled-all}
+use Rattle.half_edges.proofs.fill_row.Statement.{statement}
+use Rattle.half_edges.proofs.fill_row.Tie as tie
 
 abbrev Inv-loop : tie.InvT-loop
-Inv-loop n x row₀ i₀ row i = Filled n x row₀ row i
+Inv-loop n x row₀ i₀ row i = FilledTo n x row₀ row i
 
 abbrev μ-loop : tie.MeasureT-loop
 μ-loop n x row₀ i₀ row i = n - i
@@ -40,8 +40,8 @@ returns c =
     let s = c .before .before in
     filled-all (s .args .n) (s .args .x) (s .args .row .now) (c .before .loop .row) (c .before .loop .i) (c .loop-test .left) (c .before .loop .inv)
 
-pub fill-spec : {M : Type 1} → statement M
-fill-spec =
+pub fill-row-spec : {M : Type 1} → statement M
+fill-row-spec =
     tie.close
     (tie.spec
     Inv-loop
