@@ -28,16 +28,17 @@ module _ (ks ws plan₀ plan : List ℕ) (k i : ℕ) (paired : length ws ≡ len
   gate-room l e = omega (arith, h .count, h .kept, gates-gate ks i l e)
 
   -- one more reach: the byte of a gate is written, of another reach nothing
-  pub gathered-gate : i < length ks → getD ks i 0 ≡ 0 → Gathered ks ws plan₀ (set plan k (getD ws i 0)) (k + 1) (i + 1)
-  gathered-gate l e =
+  pub gathered-gate : i < length ks → getD ks i 0 ≡ 0 → (new : List ℕ) → new ≡ set plan k (getD ws i 0) → Gathered ks ws plan₀ new (k + 1) (i + 1)
+  gathered-gate l e new stored =
       let m : k < length plan = gate-room l e in
-      record {
+      rw stored
+      (record {
         whole = rw (take-stored plan k (getD ws i 0) _ m) (rw (drop-one ks i 0 l, drop-one ws i 0 (omega arith), e) at (h .whole));
         count = omega (arith, h .count, gates-gate ks i l e);
         rest = rw (drop-set-lt (k + 1) plan k (getD ws i 0) (omega arith), ← drop-drop 1 k plan, ← drop-drop 1 k plan₀, h .rest);
         below = omega arith;
         kept = simp length-set (h .kept);
-      }
+      })
 
   pub gathered-other : i < length ks → (getD ks i 0 ≡ 0 → ⊥) → Gathered ks ws plan₀ plan k (i + 1)
   gathered-other l n =

@@ -1,10 +1,10 @@
 -- `gather` meets its contract. The loop's invariant: the bytes of the gates among the first i reaches are the first k of the plan. The measure is what is left of the kinds.
 -- Assumes nothing.
 use Prim.Native.Nat.{_-_, _<_}
-use mathlib.Core.Path.{_≡_}
+use mathlib.Core.Path.{_≡_, ap, _∙_}
 use mathlib.Core.Logic.{⊎-elim}
 use native.Mathlib.Omega.{arith}
-use lib.ListN.{length, getD}
+use lib.ListN.{length, getD, set}
 use Rattle.tables.proofs.Gathers.{Gathered, gathered-none, gate-room, gathered-gate, gathered-other, gathered-all}
 use Rattle.tables.proofs.gather.Statement.{statement}
 use Rattle.tables.proofs.gather.Tie as tie
@@ -49,7 +49,7 @@ loop-again c =
     let at = turn .before .loop in
     let gate = gathered-gate (s .args .kinds .now) (s .args .ways .now) (s .args .plan .now) (at .plan) (at .k) (at .i) (s .pre .0) (s .pre .1) (at .inv) (turn .loop-test .taken) in
     let other = gathered-other (s .args .kinds .now) (s .args .ways .now) (s .args .plan .now) (at .plan) (at .k) (at .i) (s .pre .0) (s .pre .1) (at .inv) (turn .loop-test .taken) in
-    ⊎-elim (λ w. rw (w .2, w .3) (gate (w .0 .taken))) (λ w. rw (w .1, w .2) (other (w .0 .left))) (c .if1 .came)
+    ⊎-elim (λ w. rw (w .3) (gate (w .0 .taken) (c .if1 .plan) (w .2 ∙ ap (λ x. set (at .plan) (at .k) x) (omega arith)))) (λ w. rw (w .1, w .2) (other (w .0 .left))) (c .if1 .came)
 
 same-length : tie.Need-same-length Inv-loop μ-loop
 same-length c = c .before .loop .inv .kept
