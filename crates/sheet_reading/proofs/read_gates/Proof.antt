@@ -59,14 +59,14 @@ same-length-3 : tie.Need-same-length-3 Inv-loop μ-loop
 same-length-3 c = c .before .before .before .before .before .before .before .before .loop .inv .long
 
 returns-3 : tie.Need-returns-3 Inv-loop μ-loop
-returns-3 c = sheet-scan-over (c .before .before .before .before .before .before .before .before .loop .inv) (here (c .before .before .before)) (c .before .before .before .next-gate .ensures) (c .before .before .if1 .taken) (omega (arith, c .before .if2 .left)) (c .if3 .taken)
+returns-3 c = sheet-scan-over (c .before .before .before .before .before .before .before .before .loop .inv) (here (c .before .before .before)) (c .before .before .before .next-gate .ensures) (c .before .before .if1 .taken) (omega (arith, c .before .if2 .left)) (omega (arith, c .if3 .taken))
 
 same-length-4 : tie.Need-same-length-4 Inv-loop μ-loop
 same-length-4 c = c .before .before .before .before .before .before .before .before .loop .inv .long
 
 returns-4 : tie.Need-returns-4 Inv-loop μ-loop
 returns-4 c =
-    sheet-scan-end (c .before .before .before .before .before .before .before .before .loop .inv) (here (c .before .before .before)) (c .before .before .before .next-gate .ensures) (c .before .before .if1 .taken) (omega (arith, c .before .if2 .left)) (c .if3 .left)
+    sheet-scan-end (c .before .before .before .before .before .before .before .before .loop .inv) (here (c .before .before .before)) (c .before .before .before .next-gate .ensures) (c .before .before .if1 .taken) (omega (arith, c .before .if2 .left)) (omega (arith, c .if3 .left))
     (c .before .before .before .before .before .before .before .before .before .before .before .before .pre .1)
 
 same-length-5 : tie.Need-same-length-5 Inv-loop μ-loop
