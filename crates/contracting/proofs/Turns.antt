@@ -196,10 +196,11 @@ module _ (n : ℕ) (ks xs ys labels notes₀ ks₀ xs₀ ys₀ : List ℕ) (p : 
         kind-there = number-kept kind c d note (sym stayed) ∙ sym (ap (λ r. stateNumber (r .state)) there ∙ ap stateNumber state-is)
 
         pub kept-filling-stay :
-            (x : ℕ) → x ≡ noteAfter (stateOf kind) note
-            → KeptFilling n ks xs ys notes₀ ks₀ xs₀ ys₀ (set notes c x) (set ks₂ k kind) (set xs₂ k c) (set ys₂ k d) (k + 1) (i + 1)
-        kept-filling-stay x e =
-            record {
+            (x : ℕ) → x ≡ noteAfter (stateOf kind) note → {xs′ ys′ : List ℕ} → xs′ ≡ set xs₂ k c → ys′ ≡ set ys₂ k d
+            → KeptFilling n ks xs ys notes₀ ks₀ xs₀ ys₀ (set notes c x) (set ks₂ k kind) xs′ ys′ (k + 1) (i + 1)
+        kept-filling-stay x e a-stored b-stored =
+            rw (a-stored, b-stored)
+            (record {
               below = omega arith;
               kept = ap (λ j. j + 1) (f .kept) ∙ sym (kept-stays N i (rw long l) (stay-is ∙ sym stayed));
               note = noted-next x e;
@@ -207,4 +208,4 @@ module _ (n : ℕ) (ks xs ys labels notes₀ ks₀ xs₀ ys₀ : List ℕ) (p : 
               kind-row = row-more _ _ ks₀ ks₂ k kind (f .kind-row) within (omega (arith, places, f .kind-row .long)) kind-there;
               a-row = row-more _ _ xs₀ xs₂ k c (f .a-row) within (omega (arith, places, f .a-row .long)) (c-is ∙ sym (ap (λ r. r .a) there ∙ ap (componentNumber N) a-is));
               b-row = row-more _ _ ys₀ ys₂ k d (f .b-row) within (omega (arith, places, f .b-row .long)) (d-is ∙ sym (ap (λ r. r .b) there ∙ ap (componentNumber N) b-is));
-            }
+            })

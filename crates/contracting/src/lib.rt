@@ -58,8 +58,10 @@ pub fn fill_kept(
     let mut k = 0;
     let mut i = 0;
     while i < kinds.len() {
-        let c = labels[a[i] as usize];
-        let d = labels[b[i] as usize];
+        let x = a[i];
+        let y = b[i];
+        let c = labels[x as usize];
+        let d = labels[y as usize];
         let note = notes[c as usize];
         notes[c as usize] = note_after(kinds[i], note);
         if !stays(kinds[i], c, d, note) {

@@ -1,9 +1,9 @@
 -- `fill_kept` meets its contract. The loop's invariant, for every basin count that fits: `KeptFilling`. The measure is how many reaches are left.
 -- Assumes nothing.
 use Prim.Native.Nat.{ℕ, _-_}
-use mathlib.Core.Path.{sym, _∙_}
+use mathlib.Core.Path.{sym, ap, _∙_}
 use native.Mathlib.Omega.{arith}
-use lib.ListN.{length}
+use lib.ListN.{length, set}
 use borrow.Author.Tests.{not-true, not-false}
 use Rattle.contracting.specs.Filling.{FillableOf}
 use Rattle.contracting.proofs.Turns.{KeptFilling, Places, kept-filling-none, kept-filling-all, places, kept-filling-drop, kept-filling-stay}
@@ -30,35 +30,35 @@ loop-holds c =
     let s = c .before .before .before .before .before .before .before .before in
     λ n p. kept-filling-none n (s .args .kinds .now) (s .args .a .now) (s .args .b .now) (s .args .labels .now) (s .args .notes .now) (s .args .kinds2 .now) (s .args .a2 .now) (s .args .b2 .now) p
 
-mul-c : tie.Need-mul-c Inv-loop μ-loop
-mul-c c = omega (arith, turn c)
+mul-x : tie.Need-mul-x Inv-loop μ-loop
+mul-x c = omega (arith, turn c)
 
-shared-slice-read-c : tie.Need-shared-slice-read-c Inv-loop μ-loop
-shared-slice-read-c c = omega (arith, turn (c .before))
+shared-slice-read-x : tie.Need-shared-slice-read-x Inv-loop μ-loop
+shared-slice-read-x c = omega (arith, turn (c .before))
+
+mul-y : tie.Need-mul-y Inv-loop μ-loop
+mul-y c = omega (arith, turn (c .before))
+
+shared-slice-read-y : tie.Need-shared-slice-read-y Inv-loop μ-loop
+shared-slice-read-y c = omega (arith, turn (c .before .before))
 
 cast-c : tie.Need-cast-c Inv-loop μ-loop
-cast-c c = omega (arith, turn (c .before))
+cast-c c = omega (arith, turn (c .before .before))
 
-mul-c-2 : tie.Need-mul-c-2 Inv-loop μ-loop
-mul-c-2 c = omega (arith, turn (c .before))
+mul-c : tie.Need-mul-c Inv-loop μ-loop
+mul-c c = omega (arith, turn (c .before .before))
 
-shared-slice-read-c-2 : tie.Need-shared-slice-read-c-2 Inv-loop μ-loop
-shared-slice-read-c-2 c = omega (arith, turn (c .before .before))
-
-mul-d : tie.Need-mul-d Inv-loop μ-loop
-mul-d c = omega (arith, turn (c .before .before))
-
-shared-slice-read-d : tie.Need-shared-slice-read-d Inv-loop μ-loop
-shared-slice-read-d c = omega (arith, turn (c .before .before .before))
+shared-slice-read-c : tie.Need-shared-slice-read-c Inv-loop μ-loop
+shared-slice-read-c c = omega (arith, turn (c .before .before .before))
 
 cast-d : tie.Need-cast-d Inv-loop μ-loop
 cast-d c = omega (arith, turn (c .before .before .before))
 
-mul-d-2 : tie.Need-mul-d-2 Inv-loop μ-loop
-mul-d-2 c = omega (arith, turn (c .before .before .before))
+mul-d : tie.Need-mul-d Inv-loop μ-loop
+mul-d c = omega (arith, turn (c .before .before .before))
 
-shared-slice-read-d-2 : tie.Need-shared-slice-read-d-2 Inv-loop μ-loop
-shared-slice-read-d-2 c = omega (arith, turn (c .before .before .before .before))
+shared-slice-read-d : tie.Need-shared-slice-read-d Inv-loop μ-loop
+shared-slice-read-d c = omega (arith, turn (c .before .before .before .before))
 
 cast-note : tie.Need-cast-note Inv-loop μ-loop
 cast-note c = omega (arith, turn (c .before .before .before .before))
@@ -130,6 +130,7 @@ loop-again-2 c =
     let t = c .before .before .before .before .before .before .before .before .before .before .before in
     λ n p. kept-filling-stay n (s .args .kinds .now) (s .args .a .now) (s .args .b .now) (s .args .labels .now) (s .args .notes .now) (s .args .kinds2 .now) (s .args .a2 .now) (s .args .b2 .now) p
     (t .before .loop .inv n p) (t .loop-test .taken) (sym (not-false (c .before .before .stays .result) (c .before .if1 .left)) ∙ c .before .before .stays .ensures) (c .before .before .before .before .note-after .result) (c .before .before .before .before .note-after .ensures)
+    (ap (λ v. set (t .before .loop .a2) (t .before .loop .k) v) (omega arith)) (ap (λ v. set (t .before .loop .b2) (t .before .loop .k) v) (omega arith))
 
 same-length : tie.Need-same-length Inv-loop μ-loop
 same-length c = (c .before .loop .inv (c .before .before .before .before .before .before .before .before .before .before .pre .n) (c .before .before .before .before .before .before .before .before .before .before .pre .fits)) .long
@@ -155,16 +156,16 @@ fill-kept-spec =
     Inv-loop
     μ-loop
     loop-holds
+    mul-x
+    shared-slice-read-x
+    mul-y
+    shared-slice-read-y
+    cast-c
     mul-c
     shared-slice-read-c
-    cast-c
-    mul-c-2
-    shared-slice-read-c-2
+    cast-d
     mul-d
     shared-slice-read-d
-    cast-d
-    mul-d-2
-    shared-slice-read-d-2
     cast-note
     slice-read-note
     shared-slice-read-note-after
