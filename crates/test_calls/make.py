@@ -38,6 +38,7 @@ class Network:
         self.small = len(self.gates) <= 12 and len(self.wet) <= 7
         self.kept = {}
         self.finding = self.find()
+        assert self.finding is None or self.shows()
         if self.small and try_all:      # the theorem, and the two ways to tell what is passable and to look for a lone reach
             assert self.strong(()) == self.strong((), by_last=True)
             self.plans = [s for s in product((0, 1), repeat=len(self.gates)) if self.strong(s)]
@@ -98,6 +99,17 @@ class Network:
                     return 9, 0, seen
         lone = self.lone_by_divisions() if by_divisions else self.lone_by_removal()
         return (10,) + lone if lone else None
+
+    def shows(self):
+        """What somebody with the map checks of a finding: its side is neither empty nor everything; for 9 every reach in service that crosses it is a flap drawn
+        into it, for 10 the lone gate alone crosses it, and the lowest wet basin is outside."""
+        number, lone, side = self.finding
+        crossing = {i: r for i, r in self.reaches.items() if (side >> r[1] & 1) != (side >> r[2] & 1)}
+        if not 0 < side < self.all or side & ~self.all:
+            return False
+        if number == 9:
+            return all(kind == FLAP and side >> b & 1 for kind, _, b in crossing.values())
+        return list(crossing) == [lone] and lone in self.gates and not side >> self.wet[0] & 1
 
     def lone_by_divisions(self):
         found = {}
@@ -1370,6 +1382,34 @@ assert often(800, 'byte 0', 'byte 1', 'bound and shut') and often(300, 'all byte
 assert often(100, *('%d for want of %d' % (n, k) for n in (9, 10) for k in (G, F, T))) and len({(basins, served(r)) for basins, r in DRAWN}) > 12000
 assert often(400, *('%d with dry %s' % (n, place) for n in (0, 9, 10) for place in ('none', 'below', 'between', 'above'))) and often(100, '0 with dry all')
 assert often(1000, 'dry end') and often(400, 'bound and dry') and often(100, *('0 for want of %d' % k for k in (G, F, T)))
+
+
+# "One basin is always served"; a gated loop "still has both settings"; a two-way reach "counts as two flaps, one each way": exchanged for two, one at its place and
+# one at the table's end, it leaves plans and findings as they are
+
+def as_two_flaps(reaches, i):
+    _, a, b = reaches[i]
+    return reaches[:i] + ((F, a, b),) + reaches[i + 1:] + ((F, b, a),)
+
+
+def hold_rules(reaches):
+    net = network(reaches)
+    if len(net.wet) <= 1:
+        assert len(net.plans) == 2 ** len(net.gates)
+        yield 'one basin'
+    for i, byte in zip(net.gates, net.bound() if net.plans else []):
+        if net.reaches[i][1] == net.reaches[i][2]:
+            assert byte == 2
+            yield 'gated loop'
+    for i, (kind, _, _) in net.reaches.items():
+        if kind == TWO_WAY and len(net.gates) <= 7:
+            split = Network(as_two_flaps(reaches, i))
+            assert (split.finding, split.plans) == (net.finding, net.plans)
+            yield 'two flaps, reply %d' % (net.finding or (0,))[0]
+
+
+RULES = Counter(name for reaches in DRAWN.values() for name in hold_rules(reaches))
+assert RULES['one basin'] > 50 and RULES['gated loop'] > 2000 and all(RULES['two flaps, reply %d' % n] > 2000 for n in (0, 9, 10))
 
 
 # ---- clusters folded into one basin (document 02, item 4)
