@@ -74,7 +74,7 @@ pub record FirstAsked (N : Network) (planBuffer marksBuffer plan′ marks′ : L
 
 -- ---- demand 3
 
--- The same, and a setting of the network.
+-- An accepted network, a setting of it, and lent buffers long enough, whatever they hold.
 pub record Asked (N : Network) (s planBuffer marksBuffer : List ℕ) : Type 0 where
   pub enough : EnoughRoom N planBuffer marksBuffer
   pub fits : isSetting N s ≡ true
