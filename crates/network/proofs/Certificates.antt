@@ -203,6 +203,7 @@ shut-in-shown N ok n =
         side = side;
         only-basins = marked-basin N ok S basins;
         count = marked-count N ok S basins;
+        start = (u, at .1 .is-it, mark);
         closed = λ s c d hs. side-closed N (marked (marksOf S)) (side .crossing) s c d;
         no-plan = shut-in-blocks N (marked (marksOf S)) side;
       },

@@ -15,11 +15,11 @@ use Rattle.network.specs.declared.Reach.{Reach}
 use Rattle.lists.specs.Lists.{keep}
 use Rattle.network.specs.Networks.{Network, basinsOf, lowestBasin}
 use Rattle.network.specs.Settings.{isGated, isSetting}
-use Rattle.network.specs.Orientations.{arc, arcsUnder}
+use Rattle.network.specs.Orientations.{arc, arcsUnder, reached, unoriented}
 use Rattle.network.specs.Plans.{isPlan, passable}
 use Rattle.network.specs.Bridges.{crossesBy, reachAt, isBridge, lowestBridge}
 use Rattle.network.specs.Marks.{marked}
-use Rattle.network.specs.Replies.{chosen, shutInFinding, loneFinding, answer}
+use Rattle.network.specs.Replies.{shutInBasin, shutInFinding, loneFinding, chosen, answer}
 
 -- No setting is a plan.
 abbrev pub NoPlan : Network → Type 0
@@ -47,6 +47,8 @@ pub record ShutInShown (N : Network) (m : List ℕ) (c : ℕ) : Type 0 where
   pub only-basins : (b : ℕ) → marked m b ≡ true → List·Memᴰ b (basinsOf N)
   -- "a count: the count of marked basins"
   pub count : c ≡ length (keep (marked m) (basinsOf N))
+  -- "the basins reached, itself among them, from the lowest-numbered basin that doesn't reach all, gates usable either way"
+  pub start : (u : ℕ) × (shutInBasin N ≡ some u) × ((b : ℕ) → List·Memᴰ b (basinsOf N) → marked m b ≡ reached (arcsUnder N (unoriented N)) u b)
   -- no reach passes out of it under any setting, and no setting is a plan
   pub closed : (s : List ℕ) (u v : ℕ) → isSetting N s ≡ true → List·Memᴰ (arc u v) (arcsUnder N s) → marked m u ≡ true → marked m v ≡ true
   pub no-plan : NoPlan N
