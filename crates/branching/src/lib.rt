@@ -60,7 +60,8 @@ pub fn turn_back(
     requires { ⌜ length (now tried) ≡ length (now a) ⌝ }
     requires { ⌜ length (now under) ≡ length (now a) ⌝ }
     requires { ⌜ to ≤ length (now a) ⌝ }
-    ensures { λ r. ⌜ TurnedBackFrom n (now (guide .entry)) (now (tried .entry)) (now (a .entry)) (now (b .entry)) (now (under .entry)) (now (ways .entry)) to (now (ways .exit)) r ⌝ }
+    ensures { λ r. ⌜ TurnedBackFrom n (now (guide .entry)) (now (tried .entry)) (now (a .entry)) (now (b .entry)) (now (under .entry))
+        (now (ways .entry)) to (now (ways .exit)) r ⌝ }
 {
     let mut i = to;
     while i > 0 {

@@ -48,7 +48,8 @@ pub fn part_at(
 ) -> bool
     requires { ⌜ AtReach n (now kinds) (now a) (now b) (now ways) (now head) (now next) i (now seen) (now queue) ⌝ }
     requires { ⌜ length (now under) ≡ length (now a) ⌝ }
-    ensures { λ r. ⌜ PartedAtFrom n (now (guide .entry)) (now (kinds .entry)) (now (a .entry)) (now (b .entry)) (now (under .entry)) (now (ways .entry)) i (now (ways .exit)) r ⌝ }
+    ensures { λ r. ⌜ PartedAtFrom n (now (guide .entry)) (now (kinds .entry)) (now (a .entry)) (now (b .entry)) (now (under .entry))
+        (now (ways .entry)) i (now (ways .exit)) r ⌝ }
 {
     if kinds[i] != 0 {
         return false;

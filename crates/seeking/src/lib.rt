@@ -94,7 +94,8 @@ pub fn step_from(
     requires { ⌜ length (now tried) ≡ length (now a) ⌝ }
     requires { ⌜ length (now under) ≡ length (now a) ⌝ }
     requires { ⌜ to ≤ length (now a) ⌝ }
-    ensures { λ r. ⌜ StepFrom n (now (guide .entry)) (now (tried .entry)) (now (a .entry)) (now (b .entry)) (now (under .entry)) (now (ways .entry)) to (now (ways .exit)) r ⌝ }
+    ensures { λ r. ⌜ StepFrom n (now (guide .entry)) (now (tried .entry)) (now (a .entry)) (now (b .entry)) (now (under .entry))
+        (now (ways .entry)) to (now (ways .exit)) r ⌝ }
 {
     let at = branching::turn_back(
         n,
