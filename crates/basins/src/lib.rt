@@ -1,5 +1,8 @@
 // Which basins are wet, by the indexed half-edges: the lowest, the lowest that a search has not seen, and the side of a lone reach that is marked.
 // The functions with a `requires` are for the crates above, which have checked it.
+
+#![tactic(auto)]
+
 ghost use Rattle.std.specs.Prelude.{◌≡◌, ◌&&◌, ◌≤◌, ◌<◌, length, set};
 ghost use Rattle.network.specs.Networks.{is_wet};
 ghost use Rattle.tables.specs.Rows.{net_of};

@@ -1,6 +1,9 @@
 // Which gates are bound (document 02, item 2), by one search for each: a gate that a plan hangs one way can be hung the other too exactly if, with all other
 // gates usable either way, its ends stay joined so without it.
 // These functions are for the crates above, which have checked what they require.
+
+#![tactic(auto)]
+
 ghost use Rattle.std.specs.Prelude.{◌≡◌, cond, not, ◌++◌, ◌-◌, ◌≤◌, ◌<◌, length, set, drop};
 ghost use Rattle.network.specs.Choices.{bound_bytes};
 ghost use Rattle.tables.specs.Rows.{net_of, gates_in};

@@ -1,5 +1,8 @@
 // Document 02, item 2, over the running calls: what the bytes of bound gates say of the plans that first and next give. The proofs cite only what these calls
 // promise.
+
+#![tactic(auto)]
+
 ghost use Rattle.tables.specs.Rows.{net_of};
 ghost use Rattle.bound_laws.specs.Bounds.{FlapOfBound, NextOfBound};
 

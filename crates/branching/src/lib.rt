@@ -1,5 +1,8 @@
 // Following a setting gate by gate as far as nothing is lost, and looking back for the last gate at which a later plan parts from it.
 // These functions are for the planner; what they require it has checked.
+
+#![tactic(auto)]
+
 ghost use Rattle.std.specs.Prelude.{◌≡◌, ◌≤◌, length};
 ghost use Rattle.tables.specs.Rows.{net_of};
 ghost use Rattle.orientations.specs.Partials.{StronglyConnected};

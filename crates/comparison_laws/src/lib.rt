@@ -1,4 +1,7 @@
 // The laws of two plan sheets laid side by side, over the running calls on rows. Their proofs cite only what the calls promise.
+
+#![tactic(auto)]
+
 ghost use Rattle.tables.specs.Rows.{net_of};
 ghost use Rattle.comparison_laws.specs.Laws.{BothWays, PartOfTwo, PartOfExchanged};
 

@@ -1,5 +1,8 @@
 // Completing a partial orientation: the gates from a reach on are decided one after the other, each as drawn where that loses nothing, else turned.
 // These functions are for the planner; what they require it has checked.
+
+#![tactic(auto)]
+
 ghost use Rattle.std.specs.Prelude.{◌≡◌, ◌≤◌, length};
 ghost use Rattle.tables.specs.Rows.{net_of};
 ghost use Rattle.orienting.specs.Ready.{Ready};

@@ -1,5 +1,8 @@
 // The reaches of a network that stay when its components are contracted (document 02, item 4), with their new ends, written into lent rows.
 // The functions with a `requires` are for the crates above, which have checked it.
+
+#![tactic(auto)]
+
 ghost use Rattle.std.specs.Prelude.{◌≡◌};
 ghost use Rattle.network.specs.Tables.{state_of};
 ghost use Rattle.contracting.specs.Filling.{stays_by, note_after, Fillable, KeptFilled};

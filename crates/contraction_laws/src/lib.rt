@@ -1,5 +1,8 @@
 // Document 02, item 4, over the running calls: a network is contracted, and first, next, the bound gates and contracting again are asked of what came out. The proofs
 // cite only what these calls promise.
+
+#![tactic(auto)]
+
 ghost use Rattle.std.specs.Prelude.{length};
 ghost use Rattle.network.specs.Replies.{first_reply, next_reply};
 ghost use Rattle.tables.specs.Rows.{net_of};

@@ -1,5 +1,8 @@
 // Deciding one gate of a partial orientation: as drawn where that loses nothing, else turned.
 // These functions are for the planner; what they require it has checked.
+
+#![tactic(auto)]
+
 ghost use Rattle.std.specs.Prelude.{◌≡◌};
 ghost use Rattle.orienting.specs.Ready.{AtReach};
 ghost use Rattle.deciding.specs.Gates.{OrientedGate, SettledFrom};

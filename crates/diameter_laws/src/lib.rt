@@ -1,5 +1,8 @@
 // Document 02, item 6, over the running calls: what the longest of the fewest counts says of a setting that is checked. The proof cites only what the calls
 // promise.
+
+#![tactic(auto)]
+
 ghost use Rattle.tables.specs.Rows.{net_of};
 ghost use Rattle.diameter_laws.specs.Diameters.{LongestOfChecked};
 

@@ -1,5 +1,8 @@
 // How far the water goes over a table whose half-edges are indexed: the longest of the fewest counts from a basin (its eccentricity), and the longest of these.
 // These functions are for the calls above; what they require those have checked. What the searches leave in seen and in the queue is free.
+
+#![tactic(auto)]
+
 ghost use Rattle.std.specs.Prelude.{◌≡◌, cond, ◌≤◌, ◌<◌, max, length};
 ghost use Rattle.network.specs.Networks.{basins_of, is_wet};
 ghost use Rattle.distances.specs.Diameters.{greatest, farthest};

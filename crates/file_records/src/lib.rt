@@ -1,5 +1,8 @@
 // File records, which network files and sheets share: the kinds and their body lengths, the record at a position, two-byte values, and bytes put into a buffer.
 // The functions with a `requires` are for the crates above, which have checked it.
+
+#![tactic(auto)]
+
 ghost use Rattle.std.specs.Prelude.{◌≡◌, ◌+◌, ◌<◌, ◌≤◌, length, take, drop};
 ghost use Rattle.std.proofs.lemmas.List.Edits.{sets};
 ghost use Rattle.lists.specs.Lists.{elem};

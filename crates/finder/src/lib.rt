@@ -1,6 +1,9 @@
 // The first plan and the next, looked for in lent working memory over an accepted table whose rows are of one length.
 // These functions are for the planner; what they require it has checked. What the searches leave in working memory is free but for two things: the
 // ways, where a plan is found, and what is noted for each basin in seen, where a finding is.
+
+#![tactic(auto)]
+
 ghost use Rattle.std.specs.Prelude.{◌≡◌};
 ghost use Rattle.network.specs.Plans.{strongly_connected_under};
 ghost use Rattle.tables.specs.Rows.{net_of};

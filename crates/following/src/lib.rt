@@ -2,6 +2,9 @@
 // setting by following it as far as it goes.
 // These functions are for the planner; what they require it has checked. What the searches leave in working memory is free but for two things: the
 // ways, where a plan is found, and what is noted for each basin in seen, where a finding is.
+
+#![tactic(auto)]
+
 ghost use Rattle.tables.specs.Rows.{net_of};
 ghost use Rattle.orienting.specs.Ready.{Ready};
 ghost use Rattle.seeking.specs.Found.{NextFound};

@@ -1,6 +1,9 @@
 // The half-edges of a reach table: reach i gives half-edge 2 i at its end A, and 2 i + 1 at its end B.
 // An index links the half-edges of each basin, so that a search takes time in proportion to basins plus reaches.
 // The functions with a `requires` are for the crates above, which have checked it.
+
+#![tactic(auto)]
+
 ghost use Rattle.std.specs.Prelude.{◌≡◌, ◌++◌, ◌≤◌, ◌<◌, length, get_or, set, replicate, drop};
 ghost use Rattle.half_edges.specs.Chains.{Index, Indexable};
 

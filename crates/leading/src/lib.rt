@@ -2,6 +2,9 @@
 // they share no basin. So they share one row of notes and one queue: each notes for a basin that it sees the basin that it began at, and the one queues from the
 // front of the row, the other from its back.
 // The functions with a `requires` are for the crates above, which have checked it.
+
+#![tactic(auto)]
+
 ghost use Rattle.std.specs.Prelude.{◌≡◌, ◌+◌, ◌≤◌, ◌<◌, length, get_or};
 ghost use Rattle.distances.specs.Distances.{unreached};
 ghost use Rattle.network.specs.Orientations.{reached};

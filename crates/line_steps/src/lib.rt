@@ -1,5 +1,8 @@
 // From the line of a plan to the next line: how long the line is, and the state after it, by asking for the next plan or by a step that was taken.
 // The functions are for the crates above, which have checked what they require.
+
+#![tactic(auto)]
+
 ghost use Rattle.std.specs.Prelude.{◌≡◌, ◌≤◌, length};
 ghost use Rattle.network.specs.Networks.{max_reaches};
 ghost use Rattle.tables.specs.Rows.{net_of, gates_in, gates_held};

@@ -1,5 +1,8 @@
 // The lines of the lister's text: which line an answer calls for, and the bytes of a line, put into a lent buffer from a place on.
 // The whole text, `listing`, is defined in specs/Listings.antt. No function has a `requires`.
+
+#![tactic(auto)]
+
 ghost use Rattle.std.specs.Prelude.{◌≡◌, map, drop};
 ghost use Rattle.network.specs.Replies.{refusal_number};
 ghost use Rattle.lines.specs.Listings.{line, character, plan_text, end_text, more_text, refused_text};

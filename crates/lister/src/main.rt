@@ -1,5 +1,8 @@
 // The lister: prints the plans of the network file on standard input, by document 01.
 // What it prints is made in the crate `listing`; here are only the reading and the writing.
+
+#![tactic(auto)]
+
 use libc::{STDIN_FILENO, STDOUT_FILENO};
 use listing_state::{Lister, MAX_BYTES};
 use network::MAX_REACHES;

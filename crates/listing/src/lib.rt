@@ -1,6 +1,9 @@
 // The lister's text: all that is printed for a network file, a lent buffer at a time.
 // `listing_state::start` reads the file and finds the first plan; `fill` puts the next bytes of the text into a buffer and hands back the state after it.
 // No call for users has a `requires`.
+
+#![tactic(auto)]
+
 pub mod laws;
 
 ghost use Rattle.std.specs.Prelude.{◌≡◌, ◌≤◌, length, take, drop};

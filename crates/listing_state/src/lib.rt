@@ -1,5 +1,8 @@
 // The lister's state: the line that is being printed and the plan in hand. The file is read and the first plan found here;
 // what is still to be printed in a state is `pending_of`. No function has a `requires`.
+
+#![tactic(auto)]
+
 ghost use Rattle.network.specs.Replies.{refusal_number};
 ghost use Rattle.listing_state.specs.Pending.{Starting};
 ghost use Rattle.listing_state.specs.Parts.{FirstLine, RefusalLine};

@@ -333,6 +333,7 @@ module _ {A : Type 0} (p q : A → Bool) (more : (x : A) → p x ≡ true → q 
       go false false e f h = h
 
   keep-fewer : {y : A} (l : List A) → Memᴰ y l → p y ≡ false → q y ≡ true → length (keep p l) < length (keep q l)
+  keep-fewer {y = y} [] m n h = elim m [ ]
   keep-fewer (x ∷ l) (mathlib.Core.List.Memᴰ.head e) n h = rw (ap p (sym e) ∙ n, ap q (sym e) ∙ h) (omega (arith, keep-le l))
   keep-fewer (x ∷ l) (mathlib.Core.List.Memᴰ.tail m) n h = go (p x) (q x) refl refl (keep-fewer l m n h)
     where

@@ -1,6 +1,9 @@
 // Marks: a set of basins written as 32 bytes, and the count of marked basins.
 // Basin b is bit b mod 8, lowest bit first, of byte b div 8; unused bits are 0.
 // The functions with a `requires` are for the crates above, which have checked it.
+
+#![tactic(auto)]
+
 ghost use Rattle.std.specs.Prelude.{◌≡◌, ◌++◌, ◌+◌, ◌≤◌, ◌<◌, length, take, drop};
 ghost use Rattle.lists.specs.Lists.{elem};
 ghost use Rattle.network.specs.Marks.{mark_bytes, bit, mark_byte, marks_of, mark_count};

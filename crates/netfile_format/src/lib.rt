@@ -1,5 +1,8 @@
 // The network file's format: the kinds of its records, what its bytes are and are read as, what the reader and the writer answer, and the laws of both.
 // The functions stand in the crates above.
+
+#![tactic(auto)]
+
 use file_records::END;
 use network::Refusal;
 

@@ -1,4 +1,7 @@
 // The two laws of the network file over the running calls. Their proofs cite only what the reader and the writer promise.
+
+#![tactic(auto)]
+
 ghost use Rattle.tables.specs.Rows.{net_of};
 ghost use Rattle.netfile_laws.specs.Laws.{NetworkWriteRead, NetworkReadWrite};
 

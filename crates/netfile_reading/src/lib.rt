@@ -1,5 +1,8 @@
 // Network files read: a file is judged to its end, and its reaches go to rows. The functions with a `requires` are for the crate `netfile_rows`, which has
 // checked it.
+
+#![tactic(auto)]
+
 ghost use Rattle.tables.specs.Rows.{RowsFilled};
 ghost use Rattle.std.specs.Prelude.{◌≡◌, ◌+◌, ◌≤◌, length, drop};
 ghost use Rattle.network.specs.Networks.{max_reaches};

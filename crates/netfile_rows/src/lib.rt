@@ -1,4 +1,7 @@
 // The network file's reader and writer. The reach table is lent as three rows of numbers, kinds, ends A and ends B, as the crate `tables` has them.
+
+#![tactic(auto)]
+
 ghost use Rattle.tables.specs.Rows.{net_of};
 ghost use Rattle.netfile_format.specs.Answers.{NetworkRead, NetworkWritten};
 

@@ -1,4 +1,7 @@
 // The records of a network written into a buffer. The functions with a `requires` are for the crate `netfile_rows`, which has checked it.
+
+#![tactic(auto)]
+
 ghost use Rattle.std.specs.Prelude.{◌≡◌, ◌∷◌, ◌++◌, ◌+◌, ◌≤◌, ◌<◌, length};
 ghost use Rattle.std.proofs.lemmas.List.Edits.{sets};
 ghost use Rattle.network.specs.Networks.{max_reaches, kind_in};

@@ -1,6 +1,8 @@
 // The data model of a drainage network: the reach record, its kinds and states, the limits, and the refusals by number.
 // What they mean is in specs/; the laws about those definitions are in proofs/.
 
+#![tactic(auto)]
+
 // The most basins and the most reaches of a network.
 pub const MAX_BASINS: usize = 256;
 

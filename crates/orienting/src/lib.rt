@@ -1,5 +1,8 @@
 // Tests of a partial orientation over a table whose half-edges are indexed: which wet basin fails to reach all, and whether a reach can get a way
 // without loss. These functions are for the planner; what they require it has checked.
+
+#![tactic(auto)]
+
 ghost use Rattle.std.specs.Prelude.{◌≡◌, cond, ◌≤◌, ◌<◌, length, set};
 ghost use Rattle.half_edges.specs.Ends.{arcs_of, sided};
 ghost use Rattle.tables.specs.Rows.{net_of};

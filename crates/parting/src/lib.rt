@@ -1,5 +1,8 @@
 // Following a setting at one reach, and parting from it there upwards.
 // These functions are for the planner; what they require it has checked.
+
+#![tactic(auto)]
+
 ghost use Rattle.std.specs.Prelude.{◌≡◌, length};
 ghost use Rattle.orienting.specs.Ready.{AtReach};
 ghost use Rattle.parting.specs.Parts.{OrientedAs, PartedAtFrom};

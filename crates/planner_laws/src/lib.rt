@@ -1,4 +1,7 @@
 // Demands 2 and 3 over the running calls. The proofs cite only what first and next promise.
+
+#![tactic(auto)]
+
 ghost use Rattle.network.specs.Networks.{net};
 ghost use Rattle.tables.specs.Rows.{net_of};
 ghost use Rattle.planner_laws.specs.Demands.{FirstAsked, NextOfTwo};

@@ -1,5 +1,8 @@
 // The planner over a reach table lent as rows of numbers: the check of a setting, the first plan, the next plan and the findings.
 // Each call refuses bad input by number and has no `requires`; what it replies and every byte of lent memory afterwards is in its `ensures`.
+
+#![tactic(auto)]
+
 ghost use Rattle.tables.specs.Rows.{net_of};
 ghost use Rattle.replies.specs.Answers.{CheckCall, FirstCall, NextCall};
 

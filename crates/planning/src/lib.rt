@@ -1,5 +1,8 @@
 // The first plan in lent working memory, of any table and of an accepted one whose rows are of one length, and the check of a setting of such a one.
 // These functions are for the planner's calls; what they require those have checked. What the `.._in` leave in working memory is free.
+
+#![tactic(auto)]
+
 ghost use Rattle.std.specs.Prelude.{◌≡◌};
 ghost use Rattle.network.specs.Plans.{strongly_connected_under};
 ghost use Rattle.network.specs.Replies.{first_answer};

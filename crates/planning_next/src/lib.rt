@@ -1,5 +1,8 @@
 // The next plan of a setting of an accepted table whose rows are of one length, in working memory of its own.
 // These functions are for the planner's calls; what they require those have checked. What `next_in` leaves in working memory is free.
+
+#![tactic(auto)]
+
 ghost use Rattle.std.specs.Prelude.{◌≡◌, true, length};
 ghost use Rattle.network.specs.Networks.{max_reaches};
 ghost use Rattle.network.specs.Settings.{is_setting};

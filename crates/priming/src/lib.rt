@@ -1,5 +1,8 @@
 // Working memory prepared for the plans after a setting, if it is a plan.
 // The function is for the crates above, which have checked what it requires.
+
+#![tactic(auto)]
+
 ghost use Rattle.priming.specs.Priming.{Spare, Primed};
 
 use replies::CheckAnswer;

@@ -1,4 +1,7 @@
 // One record of the lent reach table as the numbers that stand of it in rows, and back; and how many reaches go into rows, or out of them.
+
+#![tactic(auto)]
+
 ghost use Rattle.std.specs.Prelude.{◌≡◌};
 ghost use Rattle.network.specs.Tables.{state_of, state_number};
 ghost use Rattle.reach_numbers.specs.Records.{held_of, numbers_of, fitting_of, filling_of};

@@ -1,5 +1,8 @@
 // What the calls over a table lent as rows refuse by number only, in the order of document 01: 1, 2, 3, 8, 7, each as far as the call can give it.
 // These functions write nothing; a table that gets none of these is accepted.
+
+#![tactic(auto)]
+
 ghost use Rattle.std.specs.Prelude.{◌≡◌};
 ghost use Rattle.network.specs.Networks.{table_fault};
 ghost use Rattle.network.specs.Settings.{setting_fault};

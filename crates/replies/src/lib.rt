@@ -1,5 +1,8 @@
 // The planner's replies: a plan or one of two findings, refusals by number, and how what was found is written down in the lent buffers.
 // The functions with a `requires` are for the crates above, which have checked it.
+
+#![tactic(auto)]
+
 ghost use Rattle.std.specs.Prelude.{◌≡◌, ◌≤◌, length};
 ghost use Rattle.network.specs.Marks.{mark_bytes};
 ghost use Rattle.marks.specs.Sets.{marked_set};

@@ -1,5 +1,8 @@
 // Breadth-first search over the indexed half-edges of a reach table. It notes for each basin the fewest reaches to it.
 // The functions with a `requires` are for the crates above, which have checked it.
+
+#![tactic(auto)]
+
 ghost use Rattle.std.specs.Prelude.{◌≡◌, ◌++◌, ◌+◌, ◌≤◌, ◌<◌, ◌/◌, length, get_or, replicate, drop};
 ghost use Rattle.distances.specs.Distances.{unreached};
 ghost use Rattle.half_edges.specs.Ends.{arcs_of, other_of, sided, leaves};

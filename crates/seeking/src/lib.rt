@@ -1,6 +1,9 @@
 // The first plan, and the step to a later plan, over an accepted table whose rows are of one length and whose half-edges are indexed.
 // These functions are for the planner; what they require it has checked. What the searches leave in working memory is free but for two things: the
 // ways, where a plan is found, and what is noted for each basin in seen, where a finding is.
+
+#![tactic(auto)]
+
 ghost use Rattle.std.specs.Prelude.{◌≡◌, ◌≤◌, length};
 ghost use Rattle.tables.specs.Rows.{net_of};
 ghost use Rattle.orienting.specs.Ready.{Ready};

@@ -1,6 +1,9 @@
 // The finder of channels: from a reach in service, basins at which just two reaches in service end are followed from reach to reach, and a row says which
 // reach guides each gate that was come to. It reads the index of half-edges; there is no search. Which channels are found is free: no promise rests on it.
 // The functions are for the crates above, which have checked what they require.
+
+#![tactic(auto)]
+
 ghost use Rattle.std.specs.Prelude.{◌≡◌, ◌/◌, ◌≤◌, ◌<◌, length, get_or};
 ghost use Rattle.half_edges.specs.Ends.{halves, end_of};
 ghost use Rattle.half_edges.specs.Chains.{no_half};

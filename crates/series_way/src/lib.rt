@@ -1,5 +1,8 @@
 // A gate that another reach guides, as a row says, is tried without a search.
 // The functions are for the crates above, which have checked what they require.
+
+#![tactic(auto)]
+
 ghost use Rattle.std.specs.Prelude.{◌≡◌, ◌≤◌, ◌<◌, length, get_or};
 ghost use Rattle.orienting.specs.Ready.{Ready};
 ghost use Rattle.series_way.specs.Guided.{WayTaken, TriedFrom};

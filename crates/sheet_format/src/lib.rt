@@ -1,6 +1,9 @@
 // The sheets' format: the kinds of their records, what the bytes of plan sheets and finding sheets are and are read as, what the reader and the writers
 // answer, and the laws of both. The functions over bytes stand in the crates above.
 // The functions with a `requires` are for the crates above, which have checked it.
+
+#![tactic(auto)]
+
 ghost use Rattle.std.specs.Prelude.{◌≤◌, length};
 ghost use Rattle.sheet_format.specs.Rows.{NextGate};
 

@@ -1,4 +1,7 @@
 // The laws of the sheets over the running calls. Their proofs cite only what the calls promise.
+
+#![tactic(auto)]
+
 ghost use Rattle.tables.specs.Rows.{net_of};
 ghost use Rattle.sheet_laws.specs.Laws.{SheetWriteRead, SheetReadWrite, SheetReadCheck, ReplyWriteRead};
 

@@ -1,5 +1,8 @@
 // The order of two plan sheets of one network, and the part of the earlier sheet from where they part (document 02, item 5). What they are is in specs/;
 // the laws about those definitions are in proofs/. The calls that read the sheets stand in the crate `comparison`.
+
+#![tactic(auto)]
+
 ghost use Rattle.std.specs.Prelude.{◌≡◌};
 ghost use Rattle.sheet_order.specs.Orders.{setting_order};
 ghost use Rattle.sheet_order.specs.Parts.{common_prefix, PartFrom};

@@ -1,6 +1,9 @@
 // What of the sheets asks the planner, whose promises alone say what is a plan and what a network gets: what a sheet says is judged, and a
 // network's reply is put down as a sheet. For the crate `sheet_rows`.
 // The functions with a `requires` are for the crates above, which have checked it.
+
+#![tactic(auto)]
+
 ghost use Rattle.std.specs.Prelude.{◌≡◌, length};
 ghost use Rattle.network.specs.Networks.{max_reaches};
 ghost use Rattle.network.specs.Marks.{mark_bytes};

@@ -1,5 +1,8 @@
 // Plan sheets read: head, records and end, for the reaches of a row of kinds. What is a plan is not asked here.
 // The functions with a `requires` are for the crate `sheet_rows`, which has checked it.
+
+#![tactic(auto)]
+
 ghost use Rattle.std.specs.Prelude.{◌≡◌, ◌≤◌, length, drop};
 ghost use Rattle.file_records.specs.Records.{take_record, taken_answer};
 ghost use Rattle.sheet_format.specs.Readings.{gate_due, byte_in, read_gates, read_records};

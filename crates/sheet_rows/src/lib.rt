@@ -1,6 +1,9 @@
 // Plan sheets and finding sheets: their reader, their writer, and the writer of a network's reply. The reach table is lent as three rows of
 // numbers, kinds, ends A and ends B, as the crate `tables` has them. What is a plan, and what a network gets, only the planner's promises say.
 // `read_plan`, which has a `requires`, is for the crates above, which have checked it.
+
+#![tactic(auto)]
+
 ghost use Rattle.std.specs.Prelude.{◌≡◌, length};
 ghost use Rattle.network.specs.Networks.{max_reaches};
 ghost use Rattle.tables.specs.Rows.{net_of};

@@ -1,5 +1,8 @@
 // Plan sheets and finding sheets written into a buffer. What is a plan is not asked here.
 // The functions with a `requires` are for the crates `sheet_rows` and `sheet_plans`, which have checked it.
+
+#![tactic(auto)]
+
 ghost use Rattle.std.specs.Prelude.{◌≡◌, ◌+◌, ◌*◌, ◌<◌, length};
 ghost use Rattle.std.proofs.lemmas.List.Edits.{sets};
 ghost use Rattle.network.specs.Tables.{table_of};

@@ -1,6 +1,9 @@
 // Gates that need no trying from plan to plan: those that are bound in the whole network (document 02, item 2). They are looked for only where a step went back
 // over many gates, and each of them once; not if another reach guides them, since they are then tried without a search.
 // These functions are for the crates above, which have checked what they require.
+
+#![tactic(auto)]
+
 ghost use Rattle.std.specs.Prelude.{◌≡◌, ◌≤◌, ◌<◌, length};
 ghost use Rattle.orienting.specs.Ready.{Ready};
 ghost use Rattle.skipping.specs.Skips.{NotedAt, NotedFrom, BindsStill};

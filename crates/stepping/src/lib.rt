@@ -1,6 +1,9 @@
 // The plans of a network one after the other, in working memory that is prepared once: the ways of the plan in hand and the index of the
 // half-edges are kept from plan to plan, so that a step searches only where it turns a gate.
 // These functions are for the calls above; what they require those have checked.
+
+#![tactic(auto)]
+
 ghost use Rattle.std.specs.Prelude.{◌≡◌, ◌++◌, ◌≤◌, length, take, drop};
 ghost use Rattle.tables.specs.Rows.{gates_in, bytes_row};
 ghost use Rattle.orienting.specs.Ready.{Ready};

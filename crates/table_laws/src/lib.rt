@@ -1,5 +1,8 @@
 // Laws over the running calls on two tables: plans and findings are those of the reaches in service (document 02, item 1), and basins numbered before a
 // channel reaches them change no reply (item 3). The proofs cite only what first and next promise.
+
+#![tactic(auto)]
+
 ghost use Rattle.tables.specs.Rows.{net_of};
 ghost use Rattle.table_laws.specs.Tables.{FirstOfTables, NextOfTables};
 

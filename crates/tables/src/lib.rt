@@ -1,6 +1,9 @@
 // The reach table as rows of numbers: kinds (0 gated, 1 flap, 2 two-way; 3, 4, 5 the same shut for works, and any other number shut too), ends A and ends B.
 // What a table gets as an answer, which way each of its reaches passes under a setting, and the setting that its ways make.
 // The functions with a `requires` are for the crates above, which have checked it.
+
+#![tactic(auto)]
+
 ghost use Rattle.std.specs.Prelude.{◌≡◌, ◌&&◌, ◌++◌, ◌≤◌, min, length, drop, leb, eqb};
 ghost use Rattle.lists.specs.Lists.{every};
 ghost use Rattle.network.specs.Tables.{state_of, table_of};

@@ -1,5 +1,8 @@
 // The public calls over rows, replayed from a file of cases. Of each call is printed what it replies, the part that it hands back, and what it leaves in
 // every lent buffer and in two entries beyond. What is to be printed comes from make.py, which knows nothing of this code.
+
+#![tactic(auto)]
+
 mod bounds;
 mod comparisons;
 mod contractions;

@@ -1,5 +1,8 @@
 // Each call over records beside the call over rows, on the same tables of a fixed sequence. All that a call replies and leaves in its buffers goes
 // into a sum, and the two sums are printed.
+
+#![tactic(auto)]
+
 mod relays;
 mod sums;
 mod table;

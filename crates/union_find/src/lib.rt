@@ -1,5 +1,8 @@
 // The components of a network by union-find: each basin has a parent in its component, no higher than itself, and the lowest member is its own.
 // The functions with a `requires` are for the crates above, which have checked it.
+
+#![tactic(auto)]
+
 ghost use Rattle.std.specs.Prelude.{◌≡◌, ◌≤◌, ◌<◌, length};
 ghost use Rattle.network.specs.Networks.{max_basins};
 ghost use Rattle.network.specs.Tables.{state_of};
