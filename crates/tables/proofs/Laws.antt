@@ -83,7 +83,7 @@ module _ (ks xs ys : List ℕ) (e : length xs ≡ length ks) (f : length ys ≡ 
 
   pub row-bytes : (ws : List ℕ) → bytes_of (table_of ks xs ys) ws ≡ bytes_row ks ws
   row-bytes =
-      rows (λ ks xs ys. (ws : List ℕ) → bytes_of (table_of ks xs ys) ws ≡ bytes_row ks ws) (λ ws. refl) (λ k x y ks xs ys r ws. elim ws [ [] ↦ refl | w ∷ vs ↦ ap (λ l. cond (is_gated (state_of k)) (w ∷ l) l) (r vs) ]) ks xs ys e f
+      rows (λ ks xs ys. (ws : List ℕ) → bytes_of (table_of ks xs ys) ws ≡ bytes_row ks ws) (λ ws. refl) (λ k x y ks xs ys r ws. elim ws as (λ vs. bytes_of (table_of (k ∷ ks) (x ∷ xs) (y ∷ ys)) vs ≡ bytes_row (k ∷ ks) vs) [ [] ↦ refl | w ∷ vs ↦ ap (λ l. cond (is_gated (state_of k)) (w ∷ l) l) (r vs) ]) ks xs ys e f
 
   pub row-gates : (o : ℕ) → length (gates_from o (table_of ks xs ys)) ≡ gates_in ks
   row-gates =
