@@ -81,12 +81,15 @@ note-alike N i u v l m h = rw (singleton-same N u v l m h, none_alike N i u v h)
 
 -- ---- what stays, by the note
 
-module _ (one none : Bool) where
-  note-one : eqb (cond one 0 (cond none 1 2)) 0 ≡ one
-  note-one = elim one [ true ↦ refl | false ↦ elim none [ true ↦ refl | false ↦ refl ] ]
+note-one : (one none : Bool) → eqb (cond one 0 (cond none 1 2)) 0 ≡ one
+note-one true none = refl
+note-one false true = refl
+note-one false false = refl
 
-  note-due : not (eqb (cond one 0 (cond none 1 2)) 2) ≡ one || none
-  note-due = elim one [ true ↦ refl | false ↦ elim none [ true ↦ refl | false ↦ refl ] ]
+note-due : (one none : Bool) → not (eqb (cond one 0 (cond none 1 2)) 2) ≡ one || none
+note-due true none = refl
+note-due false true = refl
+note-due false false = refl
 
 pub stays_by-noted :
     (N : Network) (i : ℕ) (s : State) (a b : ℕ) → a < N.basins → b < N.basins

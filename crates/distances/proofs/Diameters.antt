@@ -31,6 +31,7 @@ use Rattle.distances.proofs.Distances.{fewest-most, fewest-walk, fewest-below, f
 
 module _ (f : ℕ → ℕ) where
   pub greatest-at : {x : ℕ} (l : List ℕ) → Memᴰ x l → f x ≤ greatest f l
+  greatest-at [] m = elim m [ ]
   greatest-at (y ∷ l) (Memᴰ.head e) = rw e (omega arith)
   greatest-at (y ∷ l) (Memᴰ.tail m) = omega (arith, greatest-at l m)
 

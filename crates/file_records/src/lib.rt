@@ -115,5 +115,5 @@ pub fn put_bytes(out: &mut [u8], at: usize, values: &[u8])
     requires { at + length values.now ≤ length out.old }
     ensures { out.new ≡ sets out.old at values.now }
 {
-    bytes::copy(values, &mut out[at..]);
+    out[at..at + values.len()].copy_from_slice(values);
 }

@@ -17,8 +17,7 @@ use Rattle.lists.proofs.Ranges.{range-has}
 use Rattle.file_records.specs.declared.Body.TheVariants.{Length, Unknown}
 use Rattle.file_records.specs.Records.{body_of, body_answer}
 use Rattle.file_records.proofs.Records.{body-above}
-use Rattle.file_records.proofs.body_length.Statement.{statement}
-use Rattle.file_records.proofs.body_length.Tie as tie
+use Rattle.file_records.proofs.body_length.Goals as goal
 
 -- the entries of `BODY`
 abbrev table : List ℕ
@@ -48,17 +47,11 @@ unfolding stands
 known none x h e = absurd (e (eqb-true x 255 h))
 known (some n) x h e = ap Length (eqb-true x n (and_elim_left (eqb x n) _ h))
 
-returns : tie.Need-returns
-returns c = rw (body-above _ c.if1.true)
+pub returns-then-kind-gt31 : goal.returns-then-kind-gt31
+returns-then-kind-gt31 c = rw (body-above _ c.if-kind-gt31.true)
 
-array-read-n : tie.Need-array-read-n
-array-read-n c = search rules
+pub returns-then-n : goal.returns-then-n
+returns-then-n c = unknown _ _ (rule _ c.if-kind-gt31.false) c.if-n.true
 
-returns-2 : tie.Need-returns-2
-returns-2 c = unknown _ _ (rule _ c.before.if1.false) c.if2.true
-
-returns-3 : tie.Need-returns-3
-returns-3 c = known _ _ (rule _ c.before.if1.false) c.if2.false
-
-pub body-length-spec : {M : Type 1} → statement M
-body-length-spec = tie.close (tie.spec returns array-read-n returns-2 returns-3)
+pub returns-else-n : goal.returns-else-n
+returns-else-n c = known _ _ (rule _ c.if-kind-gt31.false) c.if-n.false

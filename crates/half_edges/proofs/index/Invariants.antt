@@ -1,0 +1,15 @@
+-- `index` meets its contract. The loop's invariant: the half-edges of the first i reaches are linked, and both slices keep their lengths. The measure is what is left of the reaches.
+-- Assumes nothing.
+use Prim.Native.Nat.{◌*◌, ◌-◌, ◌≤◌, ◌<◌}
+use mathlib.Core.Path.{◌≡◌, refl, ◌∙◌}
+use native.Mathlib.Omega.{arith}
+use lib.ListN.{length, get_or}
+use Rattle.half_edges.specs.Chains.{Linked}
+use Rattle.half_edges.proofs.Links.{linked-none, linked-reach}
+use Rattle.half_edges.proofs.index.Given as goal
+
+abbrev pub invariant-loop-i : goal.invariant-loop-i
+invariant-loop-i l = (l.i ≤ length l.a) × Linked (2 * l.i) l.n l.a l.b l.head l.next × (length l.head ≡ length l.initial.head) × (length l.next ≡ length l.initial.next)
+
+abbrev pub decreases-loop-i : goal.decreases-loop-i
+decreases-loop-i l = length l.a - l.i
