@@ -47,7 +47,7 @@ module _ {A : List Arc} {n start : ℕ} where
       low v l (yes q) = rw (q, get_or-set_same seen w count 0 (omega arith)) (omega arith)
       low v l (no q) = rw (get_or-set_other seen w v count 0 q) (s.low v l)
 
-  grown-sound : {P : ℕ → Type 0} {count tail tail' : ℕ} {seen queue seen' queue' : List ℕ} → ((w : ℕ) → P w → w < n) → count < unreached → ((w : ℕ) → P w → Walk A start w)
+  grown-sound : {P : ℕ → Type 0} {count : ℕ} {seen queue : List ℕ} {tail : ℕ} {seen' queue' : List ℕ} {tail' : ℕ} → ((w : ℕ) → P w → w < n) → count < unreached → ((w : ℕ) → P w → Walk A start w)
       → Sound A n start seen queue tail → Grown P count seen queue tail seen' queue' tail' → Sound A n start seen' queue' tail'
   grown-sound f c g s none_more = s
   grown-sound f c g s (more {w = w} h p v) = visited-sound (f w p) c (g w p) (grown-sound f c g s h) v

@@ -78,7 +78,7 @@ pub visited-seen : {w count : ℕ} {seen queue seen' queue' : List ℕ} {tail ta
 visited-seen l c (again s) = s
 visited-seen {w} {count} {seen} l c (first e) = rw (get_or-set_same seen w count 0 l) c
 
-pub grown-grew : {P : ℕ → Type 0} {count : ℕ} {seen queue seen' queue' : List ℕ} {tail tail' : ℕ} → ((w : ℕ) → P w → w < length seen) → count < unreached → QueueRoom seen queue tail
+pub grown-grew : {P : ℕ → Type 0} {count : ℕ} {seen queue : List ℕ} {tail : ℕ} {seen' queue' : List ℕ} {tail' : ℕ} → ((w : ℕ) → P w → w < length seen) → count < unreached → QueueRoom seen queue tail
     → Grown P count seen queue tail seen' queue' tail' → Grew seen queue tail seen' queue' tail'
 grown-grew {seen} {queue} {tail} f c r stay = grew_none seen queue tail r
 grown-grew f c r (more {w = w} g p v) =
@@ -118,7 +118,7 @@ module _ {P : ℕ → Type 0} {count : ℕ} {seen queue seen' queue' : List ℕ}
         queued = λ j l m. at j l (ℕ_discrete j end) m;
       }
 
-pub grown-counts : {P : ℕ → Type 0} {count : ℕ} {seen queue seen' queue' : List ℕ} {tail tail' : ℕ} → ((w : ℕ) → P w → w < length seen) → count < unreached → QueueRoom seen queue tail
+pub grown-counts : {P : ℕ → Type 0} {count : ℕ} {seen queue : List ℕ} {tail : ℕ} {seen' queue' : List ℕ} {tail' : ℕ} → ((w : ℕ) → P w → w < length seen) → count < unreached → QueueRoom seen queue tail
     → Grown P count seen queue tail seen' queue' tail' → CountsGrew P count seen tail seen' queue' tail'
 grown-counts f c r stay = record { same = λ v s. refl; fresh = λ v s. inl s; queued = λ k l m. absurd (omega arith) }
 grown-counts f c r (more g p (again s)) = grown-counts f c r g

@@ -1,0 +1,12 @@
+-- `note_side` meets its contract.
+-- Assumes nothing.
+use native.Mathlib.Omega.{arith}
+use mathlib.Core.Path.{ap, ◌∙◌}
+use Rattle.tables.specs.Rows.{net_of}
+use Rattle.distances.specs.Distances.{noted}
+use Rattle.basins.proofs.Notes.{side-noted}
+use Rattle.basins.proofs.note_side.Goals as goal
+
+pub returns : goal.returns
+returns c =
+    side-noted (net_of c.args.n c.args.kinds.now c.args.a.now c.args.b.now) c.lowest_wet-low.result c.lowest_wet-low.ensures c.args.seen.now _ (c.is_noted-x.ensures ∙ ap (λ j. noted c.args.seen.now j) (omega arith)) c.note_others.ensures

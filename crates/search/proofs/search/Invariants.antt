@@ -1,0 +1,22 @@
+-- `search` meets its contract. The loop's invariant is `Searching`: all that is seen is reached, and stands in the queue from place `at` on or leads only to what is
+-- seen; and `Counting`: the counts are those of walks, and none of what no longer waits leads to a count of more than one more.
+-- The measure is what is left of the queue.
+-- Assumes nothing.
+use Prim.Native.Nat.{ℕ, ◌+◌, ◌-◌, ◌<◌}
+use mathlib.Core.Path.{◌≡◌, refl, ◌∙◌}
+use native.Mathlib.Omega.{arith}
+use lib.ListN.{length, get_or}
+use Rattle.half_edges.specs.Ends.{arcs_of, sided, Next}
+use Rattle.half_edges.proofs.Halves.{arc-below}
+use Rattle.distances.specs.Distances.{unreached}
+use Rattle.search.specs.Fronts.{Searching, Counting}
+use Rattle.search.proofs.Fronts.{begins, scans, count-below, counts-begin, counts-on, counts_end}
+use Rattle.search.proofs.search.Given as goal
+
+abbrev pub invariant-loop-at : goal.invariant-loop-at
+invariant-loop-at l =
+    Searching (arcs_of l.a l.b (sided l.against l.ways)) l.n l.start l.seen l.queue l.at l.tail × Counting (arcs_of l.a l.b (sided l.against l.ways)) l.n l.start l.seen l.queue l.at l.tail
+    × (length l.seen ≡ length l.initial.seen) × (length l.queue ≡ length l.initial.queue)
+
+abbrev pub decreases-loop-at : goal.decreases-loop-at
+decreases-loop-at l = length l.initial.queue - l.at
