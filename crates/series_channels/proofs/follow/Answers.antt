@@ -1,0 +1,28 @@
+-- `series_channels::follow` meets its contract.
+-- Assumes nothing.
+use Prim.Native.Nat.{ℕ, ◌/◌, ◌≤◌, ◌<◌}
+use native.Mathlib.Omega.{arith}
+use mathlib.Core.Path.{◌≡◌, refl, sym, ◌∙◌}
+use lib.ListN.{length, get_or}
+use Rattle.half_edges.specs.Ends.{halves}
+use Rattle.tables.specs.Rows.{net_of}
+use Rattle.series_channels.specs.Channels.{Guiding}
+use Rattle.series_channels.proofs.Ways.{Came, at-start, follow-more}
+use Rattle.series_channels.proofs.Partners.{partner-below}
+use Rattle.series_channels.proofs.follow.Goals as goal
+
+pub bounds-kinds-o : goal.bounds-kinds-o
+bounds-kinds-o c =
+    let found_below : c.partner-o.result / 2 < length c.args.kinds.now = omega (arith, partner-below _ _ _ _ _ c.partner-o.ensures c.if-o-ge-NO_HALF.false, c.requires.tabled.kinds-full) in
+    found_below
+
+pub note-requires : goal.note-requires
+note-requires c =
+    let found_below : c.partner-o.result / 2 < length c.args.kinds.now = omega (arith, partner-below _ _ _ _ _ c.partner-o.ensures c.if-o-ge-NO_HALF.false, c.requires.tabled.kinds-full) in
+    (omega (arith, found_below), (c.loop-left.invariant.2 ∙ c.requires.guide_len ∙ sym c.requires.tabled.kinds-full, omega (arith, c.requires.start_bound, c.requires.tabled.table.few)))
+
+pub loop-left-preserved : goal.loop-left-preserved
+loop-left-preserved c =
+    let g = follow-more c.requires.tabled c.args.start c.loop-left.h _ _ c.args.guide.now c.loop-left.guide _ c.loop-left.invariant.0 c.loop-left.invariant.1 c.loop-left.invariant.3 c.partner-o.ensures c.if-o-ge-NO_HALF.false
+    c.if-o-start.false c.other_half-h.ensures c.note.ensures c.loop-left.invariant.4 in
+    (g.0, g.1, c.note.auto.guide ∙ c.loop-left.invariant.2, g.2, g.3)
