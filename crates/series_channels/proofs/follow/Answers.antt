@@ -16,10 +16,9 @@ bounds-kinds-o c =
     let found_below : c.partner-o.result / 2 < length c.args.kinds.now = omega (arith, partner-below _ _ _ _ _ c.partner-o.ensures c.if-o-ge-NO_HALF.false, c.requires.tabled.kinds-full) in
     found_below
 
-pub note-requires : goal.note-requires
-note-requires c =
-    let found_below : c.partner-o.result / 2 < length c.args.kinds.now = omega (arith, partner-below _ _ _ _ _ c.partner-o.ensures c.if-o-ge-NO_HALF.false, c.requires.tabled.kinds-full) in
-    (omega (arith, found_below), (c.loop-left.invariant.2 ∙ c.requires.guide_len ∙ sym c.requires.tabled.kinds-full, omega (arith, c.requires.start_bound, c.requires.tabled.table.few)))
+pub note-requires-clause-o_bound : goal.note-requires-clause-o_bound
+note-requires-clause-o_bound c =
+    let found_below : c.partner-o.result / 2 < length c.args.kinds.now = omega (arith, partner-below _ _ _ _ _ c.partner-o.ensures c.if-o-ge-NO_HALF.false, c.requires.tabled.kinds-full) in omega (arith, found_below)
 
 pub loop-left-preserved : goal.loop-left-preserved
 loop-left-preserved c =

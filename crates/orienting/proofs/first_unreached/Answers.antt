@@ -1,0 +1,12 @@
+-- `orienting::first_unreached` meets its contract: a search with no goal, and the lowest wet basin that it left.
+-- Assumes nothing.
+use native.Mathlib.Omega.{arith}
+use Rattle.half_edges.specs.Ends.{arcs_of, sided}
+use Rattle.tables.specs.Rows.{net_of}
+use Rattle.orienting.proofs.Readies.{searchable, tabled, ready-noted, unreached-first}
+use Rattle.orienting.proofs.first_unreached.Goals as goal
+
+pub returns : goal.returns
+returns c =
+    unreached-first (net_of c.args.n c.args.kinds.now c.args.a.now c.args.b.now) (arcs_of c.args.a.now c.args.b.now (sided c.args.against c.args.ways.now)) c.search.new.seen
+    (ready-noted (sided c.args.against c.args.ways.now) c.search.new.seen c.requires.ready c.requires.start_lt_n c.search.ensures) c.lowest_unseen.ensures
