@@ -1,0 +1,11 @@
+-- `binding::bound_at` meets its contract: the gate is bound if its other way cannot be had.
+-- Assumes nothing.
+use Prim.Native.Nat.{◌-◌}
+use native.Mathlib.Omega.{arith}
+use mathlib.Core.Path.{refl}
+use borrow.Author.Rules.{rules}
+use Rattle.binding.proofs.Tellings.{bound-tried}
+use Rattle.binding.proofs.bound_at.Goals as goal
+
+pub returns : goal.returns
+returns c = bound-tried (1 - c.args.way) (omega arith) c.try_way-open.ensures refl refl

@@ -1,0 +1,17 @@
+-- `binding::tell_bound` meets its contract. The loop's invariant: the bytes of the gates among the first i reaches are told, and the ways are as they were. The measure is
+-- what is left of the kinds.
+-- Assumes nothing.
+use Prim.Native.Nat.{◌-◌, ◌≤◌, ◌<◌}
+use native.Mathlib.Omega.{arith}
+use mathlib.Core.Path.{ap}
+use lib.ListN.{length, get_or}
+use Rattle.lists.proofs.Lists.{copied-length}
+use Rattle.orienting.proofs.Readies.{ready-ways, ready-notes}
+use Rattle.binding.proofs.Tellings.{telling-room, telling-few, telling-small, telling-all, TellingOn, telling-on-none, telling-on-gate, telling-on-other}
+use Rattle.binding.proofs.tell_bound.Given as goal
+
+abbrev pub invariant-loop-i : goal.invariant-loop-i
+invariant-loop-i l = TellingOn l.n l.kinds l.a l.b l.initial.ways l.initial.bytes l.initial.seen l.initial.queue l.ways l.bytes l.seen l.queue l.k l.i
+
+abbrev pub decreases-loop-i : goal.decreases-loop-i
+decreases-loop-i l = length l.kinds - l.i

@@ -1,0 +1,15 @@
+-- `parting::orient_as` meets its contract: the try that the byte asks for.
+-- Assumes nothing.
+use native.Mathlib.Omega.{arith}
+use mathlib.Core.Path.{refl}
+use borrow.Author.Rules.{rules}
+use Rattle.parting.specs.Parts.{no-gate, as-under}
+use Rattle.orienting.proofs.Readies.{kind-gate}
+use Rattle.network.proofs.Networks.{not-gated}
+use Rattle.parting.proofs.orient_as.Goals as goal
+
+pub returns-then-kinds-i-ne0 : goal.returns-then-kinds-i-ne0
+returns-then-kinds-i-ne0 c = no-gate (not-gated _ c.if-kinds-i-ne0.true) refl refl
+
+pub returns : goal.returns
+returns c = as-under (kind-gate _ c.if-kinds-i-ne0.false) c.try_way.ensures
