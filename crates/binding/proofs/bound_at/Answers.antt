@@ -7,5 +7,8 @@ use borrow.Author.Rules.{rules}
 use Rattle.binding.proofs.Tellings.{bound-tried}
 use Rattle.binding.proofs.bound_at.Goals as goal
 
-pub returns : goal.returns
-returns c = bound-tried (1 - c.args.way) (omega arith) c.try_way-open.ensures refl refl
+pub returns-clause-ways_after : goal.returns-clause-ways_after
+returns-clause-ways_after c = (bound-tried (1 - c.args.way) (omega arith) c.try_way-open.ensures refl refl).0
+
+pub returns-clause-value : goal.returns-clause-value
+returns-clause-value c = (bound-tried (1 - c.args.way) (omega arith) c.try_way-open.ensures refl refl).1

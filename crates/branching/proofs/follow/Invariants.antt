@@ -1,0 +1,22 @@
+-- `branching::follow` meets its contract: the gates passed are oriented as the setting has them, and nothing is lost.
+-- Assumes nothing.
+use Prim.Native.Nat.{◌≤◌, ◌-◌}
+use native.Mathlib.Omega.{arith}
+use native.Mathlib.Numerals.{add-one}
+use mathlib.Core.Path.{◌≡◌, refl, sym, ◌∙◌}
+use lib.ListN.{length}
+use borrow.Author.Tests.{not-true, not-false}
+use Rattle.tables.specs.Rows.{net_of}
+use Rattle.orienting.specs.Ready.{Ready}
+use Rattle.branching.proofs.Follows.{Along, along-start, under-length, follow-on, follow-off, follow-done}
+use Rattle.orienting.proofs.Readies.{ready-ways, ready-notes}
+use Rattle.branching.proofs.follow.Lts as lts
+use Rattle.branching.proofs.follow.Given as goal
+
+abbrev pub invariant-loop-i : goal.invariant-loop-i
+invariant-loop-i l =
+    (l.i ≤ length l.a) × Ready l.n l.a l.b l.ways l.head l.next l.seen l.queue × Along (net_of l.n l.kinds l.a l.b) l.kinds l.under l.ways l.i
+    × (length l.ways ≡ length l.initial.ways) × (length l.seen ≡ length l.initial.seen) × (length l.queue ≡ length l.initial.queue)
+
+abbrev pub decreases-loop-i : goal.decreases-loop-i
+decreases-loop-i l = length l.a - l.i

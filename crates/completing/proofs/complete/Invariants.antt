@@ -1,0 +1,26 @@
+-- `completing::complete` meets its contract: as for `greedy`, and no gate is stuck, since none is a bridge.
+-- Assumes nothing.
+use Prim.Native.Nat.{ℕ, ◌≤◌, ◌-◌}
+use native.Mathlib.Omega.{arith}
+use native.Mathlib.Numerals.{add-one}
+use mathlib.Core.Path.{◌≡◌, refl, sym, ◌∙◌}
+use mathlib.Core.List.{List}
+use lib.ListN.{length}
+use Rattle.tables.specs.Rows.{net_of}
+use Rattle.orientations.specs.Partials.{Bridgeless}
+use Rattle.orienting.specs.Ready.{Ready}
+use Rattle.completing.specs.Greedy.{Completable}
+use Rattle.orientations.proofs.Goings.{Going, starts}
+use Rattle.completing.proofs.Goings.{settled_on, going-complete}
+use Rattle.series.specs.Guides.{Guides}
+use Rattle.orienting.proofs.Readies.{ready-ways, ready-notes}
+use Rattle.completing.proofs.complete.Given as goal
+
+abbrev pub invariant-loop-i : goal.invariant-loop-i
+invariant-loop-i l =
+    (l.i ≤ length l.a) × Ready l.n l.a l.b l.ways l.head l.next l.seen l.queue
+    × ((ks : List ℕ) → Completable l.n ks l.tried l.a l.b l.initial.ways l.from → Bridgeless (net_of l.n ks l.a l.b) → Guides (net_of l.n ks l.a l.b) l.guide → Going (net_of l.n ks l.a l.b) l.tried l.initial.ways l.from l.ways l.i)
+    × (length l.ways ≡ length l.initial.ways) × (length l.seen ≡ length l.initial.seen) × (length l.queue ≡ length l.initial.queue)
+
+abbrev pub decreases-loop-i : goal.decreases-loop-i
+decreases-loop-i l = length l.a - l.i

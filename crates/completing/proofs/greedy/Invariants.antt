@@ -1,0 +1,23 @@
+-- `completing::greedy` meets its contract: the gates passed are decided, and what is least for them is least for the ways at the start.
+-- Assumes nothing.
+use Prim.Native.Nat.{◌≤◌, ◌-◌}
+use native.Mathlib.Omega.{arith}
+use native.Mathlib.Numerals.{add-one}
+use mathlib.Core.Path.{◌≡◌, refl, sym, ◌∙◌}
+use lib.ListN.{length}
+use borrow.Author.Tests.{not-true, not-false}
+use Rattle.tables.specs.Rows.{net_of}
+use Rattle.orienting.specs.Ready.{Ready}
+use Rattle.orientations.proofs.Goings.{Going, starts}
+use Rattle.completing.proofs.Goings.{going_on, going-bridge, plain-clear, going_done}
+use Rattle.orienting.proofs.Readies.{ready-ways, ready-notes}
+use Rattle.completing.proofs.greedy.Lts as lts
+use Rattle.completing.proofs.greedy.Given as goal
+
+abbrev pub invariant-loop-i : goal.invariant-loop-i
+invariant-loop-i l =
+    (l.i ≤ length l.a) × Ready l.n l.a l.b l.ways l.head l.next l.seen l.queue × Going (net_of l.n l.kinds l.a l.b) l.kinds l.initial.ways l.from l.ways l.i
+    × (length l.ways ≡ length l.initial.ways) × (length l.seen ≡ length l.initial.seen) × (length l.queue ≡ length l.initial.queue)
+
+abbrev pub decreases-loop-i : goal.decreases-loop-i
+decreases-loop-i l = length l.a - l.i
