@@ -14,10 +14,12 @@ use Rattle.file_records.specs.Records.{two_bytes}
 pub put_two : (l : List ℕ) (at v : ℕ) → set (set l at (v % 256)) (at + 1) (v / 256) ≡ sets l at (two_bytes v)
 put_two l at v = rw add-one
 
--- ---- bytes copied to the front of a buffer
+-- ---- a part of a buffer, from place n on, that was lent and is back with the bytes xs in it
 
-pub front-sets : (xs l : List ℕ) → length xs ≤ length l → take (length xs) xs ++ drop (length xs) l ≡ sets l 0 xs
-front-sets xs l h = rw (take-length xs, sets-eq xs l 0 (omega arith), zero-add (length xs))
+pub part-put :
+    (n k : ℕ) (l part xs : List ℕ) → n + length xs ≤ length l → k ≡ length xs → part ≡ xs
+    → take n l ++ (part ++ drop k (drop n l)) ≡ sets l n xs
+part-put n k l part xs h len e = rw (e, len, sets-eq xs l n h, drop-drop (length xs) n l, append_assoc (take n l) xs (drop (n + length xs) l))
 
 -- ---- a part of a buffer, from place n on, that was lent and is back
 
