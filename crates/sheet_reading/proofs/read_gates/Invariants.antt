@@ -1,12 +1,8 @@
 -- `sheet_reading::read_gates` meets its contract. The loop's invariant: the reading of what is left decides that of the whole.
 -- The measure is what is left of the sheet. Assumes nothing.
-use Prim.Native.Nat.{◌+◌, ◌-◌, ◌≤◌}
-use native.Mathlib.Omega.{arith}
-use mathlib.Core.Path.{sym, ◌∙◌}
-use lib.ListN.{length, drop}
-use borrow.Author.Rules.{rules}
-use Rattle.sheet_format.proofs.Steps.{GateStood}
-use Rattle.sheet_format.proofs.Scan.{SheetScanned, sheet-scan-start, sheet-scan-broken, sheet-scan-early, sheet-scan-over, sheet-scan-end, sheet-scan-fits, sheet-scan-after, sheet-scan-other, sheet-scan-room, sheet-scan-next}
+use Prim.Native.Nat.{◌-◌}
+use lib.ListN.{length}
+use Rattle.sheet_format.proofs.Scan.{SheetScanned}
 use Rattle.sheet_reading.proofs.read_gates.Given as goal
 
 abbrev pub invariant-loop-r : goal.invariant-loop-r
