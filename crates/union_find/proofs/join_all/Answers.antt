@@ -16,7 +16,7 @@ loop-i-init c = joining-none c.args.n c.args.kinds.now c.args.a.now c.args.b.now
 pub loop-i-preserved : goal.loop-i-preserved
 loop-i-preserved c =
     let to : List ℕ → Type 0 = λ p. Joining c.args.n c.args.kinds.now c.args.a.now c.args.b.now c.args.parents.now p (c.loop-i.i + 1) in
-    elim c.if-joins.branch [ then-joins g ↦ subst to (sym g.parents-is) (joining-two-way c.requires.joinable c.loop-i.invariant c.loop-i-test.true (sym g.if-joins.true ∙ c.joins.ensures) g.join.ensures g.join.kept.1.0) | else-joins g ↦ subst to (sym g.parents-is) (joining-other c.requires.joinable c.loop-i.invariant c.loop-i-test.true (sym g.if-joins.false ∙ c.joins.ensures)) ]
+    elim c.if-joins.branch [ then-joins g ↦ subst to (sym g.parents-is) (joining-two-way c.requires.joinable c.loop-i.invariant c.loop-i-test.true (sym g.if-joins.true ∙ c.joins.ensures) g.join.ensures g.join.auto.parents) | else-joins g ↦ subst to (sym g.parents-is) (joining-other c.requires.joinable c.loop-i.invariant c.loop-i-test.true (sym g.if-joins.false ∙ c.joins.ensures)) ]
 
 pub returns : goal.returns
 returns c = joining-all c.requires.joinable c.loop-i.invariant c.loop-i-test.false
