@@ -1,11 +1,9 @@
 -- `fill_kept` meets its contract. The loop's invariant, for every basin count that fits: `KeptFilling`. The measure is how many reaches are left.
 -- Assumes nothing.
-use Prim.Native.Nat.{ℕ, ◌-◌}
 use mathlib.Core.Path.{sym, ap, ◌∙◌}
 use native.Mathlib.Omega.{arith}
-use lib.ListN.{length, set}
-use Rattle.contracting.specs.Filling.{FillableOf}
-use Rattle.contracting.proofs.Turns.{KeptFilling, Places, kept-filling-none, kept-filling-all, places, kept-filling-drop, kept-filling-stay}
+use lib.ListN.{set}
+use Rattle.contracting.proofs.Turns.{Places, kept-filling-none, kept-filling-all, places, kept-filling-drop, kept-filling-stay}
 use Rattle.contracting.proofs.fill_kept.Goals as goal
 
 pub loop-i-init : goal.loop-i-init

@@ -1,12 +1,9 @@
 -- `join_all` meets its contract: the parents are those of the network with the reaches passed.
 -- Assumes nothing.
-use Prim.Native.Nat.{ℕ, ◌+◌, ◌-◌}
-use native.Mathlib.Omega.{arith}
+use Prim.Native.Nat.{ℕ, ◌+◌}
 use mathlib.Core.Path.{sym, subst, ◌∙◌}
-use mathlib.Core.Logic.{⊎_elim}
 use mathlib.Core.List.{List}
-use lib.ListN.{length}
-use Rattle.union_find.proofs.Forests.{Joining, joining-none, a_in, b-in, joining-two-way, joining-other, joining-all}
+use Rattle.union_find.proofs.Forests.{Joining, joining-none, joining-two-way, joining-other, joining-all}
 use Rattle.union_find.proofs.join_all.Goals as goal
 use Rattle.union_find.proofs.join_all.Goals.{else-joins, then-joins}
 

@@ -1,0 +1,19 @@
+-- `put_marks` meets its contract. The loop's invariant: the first k bytes are those of the marks, and the others as they were. The measure is the bytes that are left.
+-- Assumes nothing.
+use Prim.Native.Nat.{ℕ, ◌-◌, ◌≤◌}
+use native.Mathlib.Omega.{arith}
+use mathlib.Core.Path.{◌≡◌, refl, ◌∙◌}
+use mathlib.Core.List.{◌++◌, map}
+use lib.ListN.{length, drop, length-set}
+use Rattle.lists.specs.Lists.{range}
+use Rattle.network.specs.Marks.{mark_bytes, mark_byte, marks_of}
+use Rattle.marks.specs.Sets.{marked_set}
+use Rattle.lists.proofs.Ranges.{put-more}
+use Rattle.marks.proofs.put_marks.Given as goal
+
+abbrev pub invariant-loop-k : goal.invariant-loop-k
+invariant-loop-k l =
+    (l.k ≤ mark_bytes) × (l.marks ≡ map (mark_byte (marked_set l.n l.seen)) (range 0 l.k) ++ drop l.k l.initial.marks) × (length l.marks ≡ length l.initial.marks)
+
+abbrev pub decreases-loop-k : goal.decreases-loop-k
+decreases-loop-k l = mark_bytes - l.k
