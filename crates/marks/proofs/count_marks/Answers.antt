@@ -1,18 +1,14 @@
 -- `count_marks` meets its contract. The loop's invariant: the total is that of the ones in the bytes before `at`, which are whole words. The measure is the bytes that are left.
 -- Assumes nothing.
-use Prim.Native.Nat.{◌-◌, ◌*◌, ◌%◌, ◌≤◌}
+use Prim.Native.Nat.{◌≤◌}
 use native.Mathlib.Omega.{arith}
-use mathlib.Core.Path.{◌≡◌, refl}
-use lib.ListN.{take}
 use lib.Count.{ones, ones-le}
-use Rattle.network.specs.Marks.{mark_bytes, mark_count}
 use Rattle.marks.proofs.Counts.{count-more}
 use Rattle.marks.proofs.count_marks.Goals as goal
 
 pub loop-at-preserved : goal.loop-at-preserved
 loop-at-preserved c =
-    let few : ones c.word_at.result ≤ 64 = ones-le 64 c.word_at.result c.word_at.type-inv in
-    (
+    let few : ones c.word_at.result ≤ 64 = ones-le 64 c.word_at.result c.word_at.type_inv in (
       omega arith,
       omega arith,
       omega (arith, few),

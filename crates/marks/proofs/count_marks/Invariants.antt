@@ -1,12 +1,9 @@
 -- `count_marks` meets its contract. The loop's invariant: the total is that of the ones in the bytes before `at`, which are whole words. The measure is the bytes that are left.
 -- Assumes nothing.
 use Prim.Native.Nat.{◌-◌, ◌*◌, ◌%◌, ◌≤◌}
-use native.Mathlib.Omega.{arith}
-use mathlib.Core.Path.{◌≡◌, refl}
+use mathlib.Core.Path.{◌≡◌}
 use lib.ListN.{take}
-use lib.Count.{ones, ones-le}
 use Rattle.network.specs.Marks.{mark_bytes, mark_count}
-use Rattle.marks.proofs.Counts.{count-more}
 use Rattle.marks.proofs.count_marks.Given as goal
 
 abbrev pub invariant-loop-at : goal.invariant-loop-at

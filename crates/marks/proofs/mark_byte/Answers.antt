@@ -1,14 +1,11 @@
 -- `mark_byte` meets its contract. The loop's invariant: the byte has the bits of the j highest of the eight basins. The measure is 8 less j.
 -- Assumes nothing.
-use Prim.Native.Nat.{ℕ, ◌+◌, ◌-◌, ◌*◌, ◌≤◌, ◌<◌}
+use Prim.Native.Nat.{ℕ, ◌+◌, ◌-◌, ◌*◌, ◌<◌}
 use native.Mathlib.Omega.{arith}
-use mathlib.Core.Path.{◌≡◌, refl}
 use mathlib.Core.Bool.{Bool}
-use mathlib.Core.List.{map}
-use Rattle.lists.specs.Lists.{range, elem}
-use Rattle.network.specs.Marks.{binary_of}
+use Rattle.lists.specs.Lists.{elem}
 use Rattle.marks.specs.Sets.{marked_set}
-use Rattle.marks.proofs.Bytes.{digits-room, digits_more}
+use Rattle.marks.proofs.Bytes.{digits-room}
 use Rattle.network.proofs.Marks.{bit-lt}
 use Rattle.marks.proofs.mark_byte.Goals as goal
 

@@ -1,11 +1,9 @@
 -- `put_marks` meets its contract. The loop's invariant: the first k bytes are those of the marks, and the others as they were. The measure is the bytes that are left.
 -- Assumes nothing.
-use Prim.Native.Nat.{ℕ, ◌-◌, ◌≤◌}
+use Prim.Native.Nat.{ℕ}
 use native.Mathlib.Omega.{arith}
-use mathlib.Core.Path.{◌≡◌, refl, ◌∙◌}
-use mathlib.Core.List.{◌++◌, map}
-use lib.ListN.{length, drop, length-set}
-use Rattle.lists.specs.Lists.{range}
+use mathlib.Core.Path.{◌≡◌, ◌∙◌}
+use lib.ListN.{length-set}
 use Rattle.network.specs.Marks.{mark_bytes, mark_byte, marks_of}
 use Rattle.marks.specs.Sets.{marked_set}
 use Rattle.lists.proofs.Ranges.{put-more}

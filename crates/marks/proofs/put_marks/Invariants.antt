@@ -1,14 +1,12 @@
 -- `put_marks` meets its contract. The loop's invariant: the first k bytes are those of the marks, and the others as they were. The measure is the bytes that are left.
 -- Assumes nothing.
-use Prim.Native.Nat.{ℕ, ◌-◌, ◌≤◌}
-use native.Mathlib.Omega.{arith}
-use mathlib.Core.Path.{◌≡◌, refl, ◌∙◌}
+use Prim.Native.Nat.{◌-◌, ◌≤◌}
+use mathlib.Core.Path.{◌≡◌}
 use mathlib.Core.List.{◌++◌, map}
-use lib.ListN.{length, drop, length-set}
+use lib.ListN.{length, drop}
 use Rattle.lists.specs.Lists.{range}
-use Rattle.network.specs.Marks.{mark_bytes, mark_byte, marks_of}
+use Rattle.network.specs.Marks.{mark_bytes, mark_byte}
 use Rattle.marks.specs.Sets.{marked_set}
-use Rattle.lists.proofs.Ranges.{put-more}
 use Rattle.marks.proofs.put_marks.Given as goal
 
 abbrev pub invariant-loop-k : goal.invariant-loop-k

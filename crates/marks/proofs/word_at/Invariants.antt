@@ -1,11 +1,9 @@
 -- `word_at` meets its contract. The loop's invariant: the word has the j highest of the eight bytes. The measure is 8 less j.
 -- Assumes nothing.
-use Prim.Native.Nat.{◌+◌, ◌-◌, ◌^◌, ◌≤◌, ◌<◌}
-use native.Mathlib.Omega.{arith}
-use mathlib.Core.Path.{◌≡◌, refl}
+use Prim.Native.Nat.{◌+◌, ◌-◌, ◌≤◌}
+use mathlib.Core.Path.{◌≡◌}
 use lib.ListN.{take, drop}
 use Rattle.lists.specs.Words.{word_of}
-use Rattle.lists.proofs.Words.{word_room, word_more}
 use Rattle.marks.proofs.word_at.Given as goal
 
 abbrev pub invariant-loop-j : goal.invariant-loop-j
