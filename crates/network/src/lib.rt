@@ -36,7 +36,7 @@ pub struct Reach {
 }
 
 // The refusals that return a number only. specs/Replies.antt gives each its number in document 01.
-#[derive(Drop)]
+#[derive(Clone, Copy)]
 pub enum Refusal {
     BasinCount,
     TooManyReaches,
