@@ -1,23 +1,25 @@
 -- Bytes that are stored one after the other: runs of stores, a value, a run of bytes, a part of a buffer that was lent.
 -- Assumes nothing.
-use Prim.Native.Nat.{ℕ, suc, ◌+◌, ◌-◌, ◌/◌, ◌%◌, ◌≤◌, ◌<◌}
+use Prim.Native.Nat.{ℕ, ◌+◌, ◌-◌, ◌/◌, ◌%◌, ◌≤◌}
 use native.Mathlib.Nat.{zero-add}
 use native.Mathlib.Numerals.{add-one}
 use native.Mathlib.Omega.{arith}
-use mathlib.Core.Path.{◌≡◌, refl, ◌∙◌}
+use mathlib.Core.Path.{◌≡◌}
 use mathlib.Core.List.{List, ◌++◌, append-nil, append_assoc}
-use lib.ListN.{length, get_or, take, drop, set, length-set, length-drop, drop_of_length-le}
-use lib.Seq.{sets, sets-eq, drop-drop, take-length}
+use lib.ListN.{length, take, drop, set, length-drop}
+use lib.Seq.{sets, sets-eq, drop-drop}
 use Rattle.lists.proofs.Lists.{take_rest, drop-rest}
 use Rattle.file_records.specs.Records.{two_bytes}
 
 pub put_two : (l : List ℕ) (at v : ℕ) → set (set l at (v % 256)) (at + 1) (v / 256) ≡ sets l at (two_bytes v)
 put_two l at v = rw add-one
 
--- ---- bytes copied to the front of a buffer
+-- ---- a part of a buffer, from place n on, that was lent and is back with the bytes xs in it
 
-pub front-sets : (xs l : List ℕ) → length xs ≤ length l → take (length xs) xs ++ drop (length xs) l ≡ sets l 0 xs
-front-sets xs l h = rw (take-length xs, sets-eq xs l 0 (omega arith), zero-add (length xs))
+pub part-put :
+    (n k : ℕ) (l part xs : List ℕ) → n + length xs ≤ length l → k ≡ length xs → part ≡ xs
+    → take n l ++ (part ++ drop k (drop n l)) ≡ sets l n xs
+part-put n k l part xs h len e = rw (e, len, sets-eq xs l n h, drop-drop (length xs) n l, append_assoc (take n l) xs (drop (n + length xs) l))
 
 -- ---- a part of a buffer, from place n on, that was lent and is back
 

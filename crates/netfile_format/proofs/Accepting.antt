@@ -6,7 +6,6 @@ use mathlib.Core.Option.{some, some-ne-none}
 use mathlib.Mathlib.Data.Bool.Basic.{eq-true_of_not-eq-false}
 use Rattle.network.specs.declared.Refusal.{Refusal}
 use Rattle.network.specs.Networks.{Network, good_count, good_length, good_ends, table_fault, Accepted}
-use Rattle.tables.specs.declared.TableAnswer.TheVariants as T
 use Rattle.tables.proofs.Faults.{fault-count, fault-length, fault-ends}
 
 pub record Good (N : Network) : Type 0 where

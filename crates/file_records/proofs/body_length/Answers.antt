@@ -8,7 +8,6 @@ use mathlib.Core.List.{List, [], ◌∷◌}
 use mathlib.Core.Option.{Option, none, some}
 use lib.Dec.{eqb, ltb}
 use lib.ListN.{get_or}
-use borrow.Author.Rules.{rules}
 use borrow.Author.Tests.{eqb-true, ltb-true}
 use mathlib.Mathlib.Data.Bool.Basic.{and_elim_left, and_elim_right}
 use Rattle.lists.specs.Lists.{range}

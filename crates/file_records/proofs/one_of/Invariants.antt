@@ -1,10 +1,8 @@
 -- `file_records::one_of` meets its contract. The loop's invariant: the kind is one of all if it is one of those that are left. The measure is how many are left.
 -- Assumes nothing.
 use Prim.Native.Nat.{◌-◌}
-use native.Mathlib.Omega.{arith}
-use mathlib.Core.Path.{refl}
 use lib.ListN.{length}
-use Rattle.file_records.proofs.Taking.{SoughtFrom, sought-here, sought-more, sought-none}
+use Rattle.file_records.proofs.Taking.{SoughtFrom}
 use Rattle.file_records.proofs.one_of.Given as goal
 
 abbrev pub invariant-loop-i : goal.invariant-loop-i
