@@ -9,7 +9,7 @@ pub const MAX_BASINS: usize = 256;
 pub const MAX_REACHES: usize = 1024;
 
 // The kind of a reach.
-#[derive(Drop)]
+#[derive(Clone, Copy)]
 pub enum Kind {
     // May be hung either way: from A to B (as drawn) or from B to A (turned).
     Gated,
@@ -20,7 +20,7 @@ pub enum Kind {
 }
 
 // The state of a reach, its kind inside it: in service, or shut for works and then of the kind that it goes back to.
-#[derive(Drop)]
+#[derive(Clone, Copy)]
 pub enum State {
     InService(Kind),
     // Passes no water, and has no byte in a setting; it keeps its number.
@@ -28,7 +28,7 @@ pub enum State {
 }
 
 // One record of the reach table: a state and two ends, A and B, which are basin numbers.
-#[derive(Drop)]
+#[derive(Clone, Copy)]
 pub struct Reach {
     pub state: State,
     pub a: u16,
@@ -36,7 +36,7 @@ pub struct Reach {
 }
 
 // The refusals that return a number only. specs/Replies.antt gives each its number in document 01.
-#[derive(Drop)]
+#[derive(Clone, Copy)]
 pub enum Refusal {
     BasinCount,
     TooManyReaches,

@@ -1,6 +1,6 @@
 -- A reach table as rows of numbers.
 -- Assumes nothing.
-use Rattle.std.specs.Prelude.{ℕ, ◌-◌, ◌≡◌, List, map, ◌++◌, length, get_or, take, drop}
+use Rattle.std.specs.Prelude.{ℕ, ◌≡◌, List, map, ◌++◌, length, get_or, take, drop}
 use Rattle.network.specs.declared.Reach.{Reach}
 use Rattle.lists.specs.Lists.{range}
 use Rattle.network.specs.Bridges.{no_reach}

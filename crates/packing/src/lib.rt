@@ -1,6 +1,5 @@
 // The lent reach table, a slice of records, taken apart into rows of numbers.
-// The borrow checker does not cover a slice of structs. So two functions have the slice in hand and are proved by a walk of their code, by
-// hand: `pack_into` and `unpack_from`. They go over the table once, in place, and leave one record to `reach_numbers`, which is covered.
+// Two functions have the slice in hand: `pack_into` and `unpack_from`. They go over the table once, in place, and leave one record to `reach_numbers`.
 
 #![tactic(auto)]
 

@@ -1,12 +1,9 @@
 -- `fill_kept` meets its contract. The loop's invariant, for every basin count that fits: `KeptFilling`. The measure is how many reaches are left.
 -- Assumes nothing.
-use Prim.Native.Nat.{ℕ, ◌-◌}
 use mathlib.Core.Path.{sym, ap, ◌∙◌}
 use native.Mathlib.Omega.{arith}
-use lib.ListN.{length, set}
-use borrow.Author.Tests.{not-true, not-false}
-use Rattle.contracting.specs.Filling.{FillableOf}
-use Rattle.contracting.proofs.Turns.{KeptFilling, Places, kept-filling-none, kept-filling-all, places, kept-filling-drop, kept-filling-stay}
+use lib.ListN.{set}
+use Rattle.contracting.proofs.Turns.{Places, kept-filling-none, kept-filling-all, places, kept-filling-drop, kept-filling-stay}
 use Rattle.contracting.proofs.fill_kept.Goals as goal
 
 pub loop-i-init : goal.loop-i-init
@@ -28,7 +25,7 @@ bounds-notes-c-in-loop-i c =
 pub loop-i-preserved-then-not-stays : goal.loop-i-preserved-then-not-stays
 loop-i-preserved-then-not-stays c =
     λ n p. kept-filling-drop n c.args.kinds.now c.args.a.now c.args.b.now c.args.labels.now c.args.notes.now c.args.kinds2.now c.args.a2.now c.args.b2.now p
-    (c.loop-i.invariant n p) c.loop-i-test.true c.note_after.result c.note_after.ensures (sym (not-true c.stays.result c.if-not-stays.true) ∙ c.stays.ensures)
+    (c.loop-i.invariant n p) c.loop-i-test.true c.note_after.result c.note_after.ensures (sym c.if-not-stays.true ∙ c.stays.ensures)
 
 pub bounds-kinds2-k : goal.bounds-kinds2-k
 bounds-kinds2-k c =
@@ -69,7 +66,7 @@ overflow_add-k c =
 pub loop-i-preserved : goal.loop-i-preserved
 loop-i-preserved c =
     λ n p. kept-filling-stay n c.args.kinds.now c.args.a.now c.args.b.now c.args.labels.now c.args.notes.now c.args.kinds2.now c.args.a2.now c.args.b2.now p
-    (c.loop-i.invariant n p) c.loop-i-test.true (sym (not-false c.stays.result c.if-not-stays.false) ∙ c.stays.ensures) c.note_after.result c.note_after.ensures
+    (c.loop-i.invariant n p) c.loop-i-test.true (sym c.if-not-stays.false ∙ c.stays.ensures) c.note_after.result c.note_after.ensures
     (ap (λ v. set c.loop-i.a2 c.loop-i.k v) (omega arith)) (ap (λ v. set c.loop-i.b2 c.loop-i.k v) (omega arith))
 
 pub returns : goal.returns

@@ -1,12 +1,9 @@
 -- `fill_kept` meets its contract. The loop's invariant, for every basin count that fits: `KeptFilling`. The measure is how many reaches are left.
 -- Assumes nothing.
 use Prim.Native.Nat.{ℕ, ◌-◌}
-use mathlib.Core.Path.{sym, ap, ◌∙◌}
-use native.Mathlib.Omega.{arith}
-use lib.ListN.{length, set}
-use borrow.Author.Tests.{not-true, not-false}
+use lib.ListN.{length}
 use Rattle.contracting.specs.Filling.{FillableOf}
-use Rattle.contracting.proofs.Turns.{KeptFilling, Places, kept-filling-none, kept-filling-all, places, kept-filling-drop, kept-filling-stay}
+use Rattle.contracting.proofs.Turns.{KeptFilling}
 use Rattle.contracting.proofs.fill_kept.Given as goal
 
 abbrev pub invariant-loop-i : goal.invariant-loop-i

@@ -1,6 +1,6 @@
 -- `components` meets its contract: the forest of all reaches is that of the network, and so the numbers are those of its components.
 -- Assumes nothing.
-use mathlib.Core.Path.{refl, ◌∙◌}
+use mathlib.Core.Path.{refl}
 use Rattle.tables.specs.Rows.{net_of}
 use Rattle.union_find.proofs.components.Goals as goal
 

@@ -1,9 +1,6 @@
 -- `find` meets its contract: the root above x is that above v. The measure is x, which falls.
 -- Assumes nothing.
-use Prim.Native.Nat.{◌<◌}
-use native.Mathlib.Omega.{arith}
-use lib.ListN.{length, get_or}
-use Rattle.union_find.proofs.Roots.{Climbing, climbing-none, climbing-more, climbing-all}
+use Rattle.union_find.proofs.Roots.{climbing-none, climbing-more}
 use Rattle.union_find.proofs.find.Goals as goal
 
 pub loop-parents-init : goal.loop-parents-init

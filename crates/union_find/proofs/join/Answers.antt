@@ -1,8 +1,6 @@
 -- `join` meets its contract: the roots of the two finds are still roots when they are joined, and the lower one is no higher.
 -- Assumes nothing.
-use mathlib.Core.Path.{◌∙◌}
 use native.Mathlib.Omega.{arith}
-use lib.ListN.{length-set}
 use Rattle.union_find.proofs.Roots.{x-in, y-in, joined-below, joined-above}
 use Rattle.union_find.proofs.join.Goals as goal
 

@@ -1,12 +1,9 @@
 -- `join_all` meets its contract: the parents are those of the network with the reaches passed.
 -- Assumes nothing.
-use Prim.Native.Nat.{ℕ, ◌+◌, ◌-◌}
-use native.Mathlib.Omega.{arith}
+use Prim.Native.Nat.{ℕ, ◌+◌}
 use mathlib.Core.Path.{sym, subst, ◌∙◌}
-use mathlib.Core.Logic.{⊎_elim}
 use mathlib.Core.List.{List}
-use lib.ListN.{length}
-use Rattle.union_find.proofs.Forests.{Joining, joining-none, a_in, b-in, joining-two-way, joining-other, joining-all}
+use Rattle.union_find.proofs.Forests.{Joining, joining-none, joining-two-way, joining-other, joining-all}
 use Rattle.union_find.proofs.join_all.Goals as goal
 use Rattle.union_find.proofs.join_all.Goals.{else-joins, then-joins}
 
@@ -16,7 +13,7 @@ loop-i-init c = joining-none c.args.n c.args.kinds.now c.args.a.now c.args.b.now
 pub loop-i-preserved : goal.loop-i-preserved
 loop-i-preserved c =
     let to : List ℕ → Type 0 = λ p. Joining c.args.n c.args.kinds.now c.args.a.now c.args.b.now c.args.parents.now p (c.loop-i.i + 1) in
-    elim c.if-joins.branch [ then-joins g ↦ subst to (sym g.parents-is) (joining-two-way c.requires.joinable c.loop-i.invariant c.loop-i-test.true (sym g.if-joins.true ∙ c.joins.ensures) g.join.ensures g.join.kept.1.0) | else-joins g ↦ subst to (sym g.parents-is) (joining-other c.requires.joinable c.loop-i.invariant c.loop-i-test.true (sym g.if-joins.false ∙ c.joins.ensures)) ]
+    elim c.if-joins.branch [ then-joins g ↦ subst to (sym g.parents-is) (joining-two-way c.requires.joinable c.loop-i.invariant c.loop-i-test.true (sym g.if-joins.true ∙ c.joins.ensures) g.join.ensures g.join.auto.parents) | else-joins g ↦ subst to (sym g.parents-is) (joining-other c.requires.joinable c.loop-i.invariant c.loop-i-test.true (sym g.if-joins.false ∙ c.joins.ensures)) ]
 
 pub returns : goal.returns
 returns c = joining-all c.requires.joinable c.loop-i.invariant c.loop-i-test.false

@@ -1,12 +1,8 @@
 -- `join_all` meets its contract: the parents are those of the network with the reaches passed.
 -- Assumes nothing.
-use Prim.Native.Nat.{ℕ, ◌+◌, ◌-◌}
-use native.Mathlib.Omega.{arith}
-use mathlib.Core.Path.{sym, subst, ◌∙◌}
-use mathlib.Core.Logic.{⊎_elim}
-use mathlib.Core.List.{List}
+use Prim.Native.Nat.{◌-◌}
 use lib.ListN.{length}
-use Rattle.union_find.proofs.Forests.{Joining, joining-none, a_in, b-in, joining-two-way, joining-other, joining-all}
+use Rattle.union_find.proofs.Forests.{Joining}
 use Rattle.union_find.proofs.join_all.Given as goal
 
 abbrev pub invariant-loop-i : goal.invariant-loop-i

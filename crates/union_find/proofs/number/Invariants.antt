@@ -1,12 +1,10 @@
 -- `number` meets its contract: the basins passed have the numbers of their components, for every network whose components have these parents.
 -- Assumes nothing.
-use Prim.Native.Nat.{◌-◌, ◌<◌}
-use native.Mathlib.Omega.{arith}
+use Prim.Native.Nat.{◌-◌}
 use mathlib.Core.Path.{◌≡◌}
-use lib.ListN.{length}
 use Rattle.network.specs.Networks.{Network}
 use Rattle.union_find.specs.Forests.{Forest}
-use Rattle.union_find.proofs.Numbers.{Numbering, Labelling, numbering-none, labelling-none, parent-at, here, c-few, c-room, numbering-member, labelling-member, numbering-lowest, labelling-lowest, numbering-all}
+use Rattle.union_find.proofs.Numbers.{Numbering, Labelling}
 use Rattle.union_find.proofs.number.Given as goal
 
 abbrev pub invariant-loop-v : goal.invariant-loop-v

@@ -1,8 +1,7 @@
 -- `separate` meets its contract: the basins passed are their own parents.
 -- Assumes nothing.
 use Prim.Native.Nat.{◌-◌}
-use native.Mathlib.Omega.{arith}
-use Rattle.union_find.proofs.Forests.{Separating, separating-none, separating-more, separating-all}
+use Rattle.union_find.proofs.Forests.{Separating}
 use Rattle.union_find.proofs.separate.Given as goal
 
 abbrev pub invariant-loop-v : goal.invariant-loop-v
