@@ -14,7 +14,7 @@ pub fn copy_row(from: &[u8], to: &mut [u8])
     requires { length to.old ≡ length from.now }
     ensures { to.new ≡ from.now }
 {
-    bytes::copy(from, to);
+    to.copy_from_slice(from);
 }
 
 // From a plan, whose ways stand in `ways`, to the next: its ways stand there then. A gate that has one way in all plans is not tried if `tried` has another
