@@ -13,3 +13,6 @@ next_of_plan-requires-clause-at_plan c = seek-plan c.args.n c.args.kinds.now c.a
 
 pub returns-else-shut_in_basin-n : goal.returns-else-shut_in_basin-n
 returns-else-shut_in_basin-n c = seek_found c.args.n c.args.kinds.now c.args.a.now c.args.b.now c.requires.at_setting c.shut_in_basin.ensures c.next_of_other.ensures
+
+pub next_of_other-requires-clause-other_than_plan : goal.next_of_other-requires-clause-other_than_plan
+next_of_other-requires-clause-other_than_plan c = seek-other c.args.n c.args.kinds.now c.args.a.now c.args.b.now c.requires.at_setting c.shut_in_basin.ensures c.if-shut_in_basin-n.false
