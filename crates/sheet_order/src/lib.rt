@@ -19,7 +19,7 @@ pub enum Order {
 }
 
 // The reply: the order, and a part of one of the two sheets that were lent.
-#[derive(Drop)]
+#[derive(Clone, Copy)]
 pub struct Parting<'a> {
     pub order: Order,
     pub part: &'a [u8],
