@@ -8,7 +8,7 @@ ghost use Rattle.comparison_laws.specs.Laws.{BothWays, PartOfTwo, PartOfExchange
 use sheet_order::{Order, part};
 
 // The orders of two sheets as they were lent, and exchanged.
-#[derive(Drop)]
+#[derive(Clone, Copy)]
 pub struct Orders {
     pub forth: Order,
     pub back: Order,

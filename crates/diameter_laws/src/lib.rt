@@ -11,7 +11,7 @@ use distances::DiameterAnswer;
 use replies::CheckAnswer;
 
 // What the two calls answered.
-#[derive(Drop)]
+#[derive(Clone, Copy)]
 pub struct Measured {
     pub check: CheckAnswer,
     pub longest: DiameterAnswer,

@@ -9,7 +9,7 @@ use network::Refusal;
 pub const UNREACHED: u16 = 65535;
 
 // What the call for the longest of the fewest counts returns.
-#[derive(Drop)]
+#[derive(Clone, Copy)]
 pub enum DiameterAnswer {
     Refused(Refusal),
     Longest(u16),

@@ -21,7 +21,7 @@ const BODY: [u8; 32] = [
 ];
 
 // A kind's body: so many bytes, or none, and then the kind is unknown.
-#[derive(Drop)]
+#[derive(Clone, Copy)]
 pub enum Body {
     Length(u8),
     Unknown,
@@ -57,7 +57,7 @@ fn one_of(kind: u8, kinds: &[u8]) -> bool
 }
 
 // What stands at a position: a refusal, or a whole record of a kind.
-#[derive(Drop)]
+#[derive(Clone, Copy)]
 pub enum Taken {
     Broken(Refusal),
     Whole(u8),
@@ -95,7 +95,7 @@ pub fn word_at(file: &[u8], at: usize) -> u16
 }
 
 // What a writer answers: a refusal, or the length written.
-#[derive(Drop)]
+#[derive(Clone, Copy)]
 pub enum WriteAnswer {
     Refused(Refusal),
     Written(usize),

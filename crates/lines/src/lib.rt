@@ -14,7 +14,7 @@ use replies::{Answer, Verdict};
 use tables::least;
 
 // A line: that of a plan, after which so many plans may still be printed; `more`; `end`; or `refused ` and a number.
-#[derive(Drop)]
+#[derive(Clone, Copy)]
 pub enum Due {
     Plan(usize),
     More,

@@ -19,7 +19,7 @@ pub const MAX_BYTES: usize = 8000;
 pub const MAX_PLANS: usize = 1000;
 
 // A state of the lister: the basin count, the line that is being printed, how many of its bytes are printed, and the plan in hand.
-#[derive(Drop)]
+#[derive(Clone, Copy)]
 pub struct Lister {
     pub basins: u16,
     pub due: Due,
@@ -28,7 +28,7 @@ pub struct Lister {
 }
 
 // The same without the plan in hand, which is lent beside it while lines are printed.
-#[derive(Drop)]
+#[derive(Clone, Copy)]
 pub struct Line {
     pub basins: u16,
     pub due: Due,
@@ -36,14 +36,14 @@ pub struct Line {
 }
 
 // The state in which nothing is printed, and the number of reaches in the rows.
-#[derive(Drop)]
+#[derive(Clone, Copy)]
 pub struct Started {
     pub lister: Lister,
     pub reaches: usize,
 }
 
 // The number of bytes in the buffer, and the state after they are printed.
-#[derive(Drop)]
+#[derive(Clone, Copy)]
 pub struct Filled {
     pub lister: Lister,
     pub count: usize,

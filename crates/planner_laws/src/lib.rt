@@ -11,7 +11,7 @@ use planner_rows::{first_plan, next_plan};
 use replies::Answer;
 
 // Two answers of next.
-#[derive(Drop)]
+#[derive(Clone, Copy)]
 pub struct Both {
     pub first: Answer,
     pub second: Answer,

@@ -38,7 +38,7 @@ fn held(n: usize) -> usize
 }
 
 // What stands of a reach in the three rows.
-#[derive(Drop)]
+#[derive(Clone, Copy)]
 pub struct Numbers {
     pub kind: u8,
     pub a: u16,

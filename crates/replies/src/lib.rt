@@ -13,14 +13,14 @@ use network::Refusal;
 use seeking::Found;
 
 // A finding: the number of the lone reach (0 where the network is shut in) and the count of marked basins.
-#[derive(Drop)]
+#[derive(Clone, Copy)]
 pub struct Finding {
     pub reach: u16,
     pub count: u16,
 }
 
 // A plan, which stands in the plan buffer, or one of two findings, whose marks stand in the marks buffer.
-#[derive(Drop)]
+#[derive(Clone, Copy)]
 pub enum Verdict {
     Plan,
     ShutIn(Finding),
@@ -28,20 +28,20 @@ pub enum Verdict {
 }
 
 // What a network gets if it is not refused by number only.
-#[derive(Drop)]
+#[derive(Clone, Copy)]
 pub struct Reply {
     pub verdict: Verdict,
 }
 
 // What first and next plan return.
-#[derive(Drop)]
+#[derive(Clone, Copy)]
 pub enum Answer {
     Refused(Refusal),
     Given(Reply),
 }
 
 // What the check of a setting returns.
-#[derive(Drop)]
+#[derive(Clone, Copy)]
 pub enum CheckAnswer {
     Refused(Refusal),
     Yes,

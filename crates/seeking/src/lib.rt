@@ -13,7 +13,7 @@ ghost use Rattle.seeking.specs.Seeks.{Partable, StepFrom, NextFrom};
 
 // What the search for a plan came to: a closed set of basins that are not all (document 01: shut in), a bridge (a lone reach), or a plan, with all
 // gates oriented.
-#[derive(Drop)]
+#[derive(Clone, Copy)]
 pub enum Found {
     Closed,
     Bridge(usize),
@@ -21,7 +21,7 @@ pub enum Found {
 }
 
 // What the search for the next plan came to: no plan is later, or what was found.
-#[derive(Drop)]
+#[derive(Clone, Copy)]
 pub enum Sought {
     NoneLater,
     CameTo(Found),

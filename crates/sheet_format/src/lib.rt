@@ -31,7 +31,7 @@ pub const GATE_DUE: [u8; 3] = [AS_DRAWN, TURNED, END];
 const GATED: u8 = 0;
 
 // What the reader answers: a refusal, or the number of gated reaches read.
-#[derive(Drop)]
+#[derive(Clone, Copy)]
 pub enum SheetAnswer {
     Refused(Refusal),
     Read(usize),

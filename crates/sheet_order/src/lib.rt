@@ -10,7 +10,7 @@ ghost use Rattle.sheet_order.specs.Parts.{common_prefix, PartFrom};
 use network::Refusal;
 
 // Which of two sheets is earlier, that they are equal, or why they are refused.
-#[derive(Drop)]
+#[derive(Clone, Copy)]
 pub enum Order {
     Refused(Refusal),
     Equal,
@@ -19,7 +19,7 @@ pub enum Order {
 }
 
 // The reply: the order, and a part of one of the two sheets that were lent.
-#[derive(Drop)]
+#[derive(Clone, Copy)]
 pub struct Parting<'a> {
     pub order: Order,
     pub part: &'a [u8],

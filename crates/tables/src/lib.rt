@@ -26,7 +26,7 @@ const EITHER: u8 = 2;
 const NEITHER: u8 = 3;
 
 // What a table gets: it is accepted, or refused by number only.
-#[derive(Drop)]
+#[derive(Clone, Copy)]
 pub enum TableAnswer {
     Accepted,
     Refused(Refusal),
