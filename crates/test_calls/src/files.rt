@@ -13,7 +13,7 @@ use std::io;
 use std::io::Write;
 
 // The lengths of the rows that are lent.
-#[derive(Drop)]
+#[derive(Clone, Copy)]
 pub struct Lengths {
     pub kinds: usize,
     pub a: usize,
@@ -157,7 +157,7 @@ pub fn show_left(w: &mut impl Write, o: Out, x: Left, room: usize) -> io::Result
 }
 
 // A part of a listing, and the state after it.
-#[derive(Drop)]
+#[derive(Clone, Copy)]
 struct Part {
     lister: Lister,
     count: usize,

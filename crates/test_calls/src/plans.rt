@@ -63,7 +63,7 @@ fn show_answer(w: &mut impl Write, o: Out, answer: Answer) -> io::Result<Out> {
 }
 
 // The lengths of the buffers that are lent.
-#[derive(Drop)]
+#[derive(Clone, Copy)]
 pub struct Room {
     pub plan: usize,
     pub marks: usize,
@@ -75,7 +75,7 @@ const PLAN: usize = MAX_REACHES + 16;
 const MARKS: usize = MARK_BYTES + 8;
 
 // An answer, and the buffers afterwards.
-#[derive(Drop)]
+#[derive(Clone, Copy)]
 pub struct Got {
     answer: Answer,
     plan: [u8; PLAN],
@@ -147,7 +147,7 @@ pub fn show_got(w: &mut impl Write, o: Out, g: Got, room: Room) -> io::Result<Ou
 }
 
 // A step's answer and buffers, and the walker after it.
-#[derive(Drop)]
+#[derive(Clone, Copy)]
 struct Step {
     got: Got,
     walker: Walker,

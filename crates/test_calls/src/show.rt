@@ -12,7 +12,7 @@ pub const BRIEF: u8 = 1;
 pub const QUIET: u8 = 2;
 
 // How much is printed; the last number, and how often it came in a row; the sum.
-#[derive(Drop)]
+#[derive(Clone, Copy)]
 pub struct Out {
     pub mode: u8,
     pub number: u8,

@@ -6,7 +6,7 @@ use crate::relays::ROOM;
 use network::{Kind, MAX_REACHES, Reach, State};
 
 // The same reaches as rows and as records, and a row of bytes for settings.
-#[derive(Drop)]
+#[derive(Clone, Copy)]
 pub struct Twice {
     pub kinds: [u8; ROOM],
     pub a: [u16; ROOM],
