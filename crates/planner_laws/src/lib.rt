@@ -32,7 +32,7 @@ pub fn first_shown_rows(
     first_plan(basins, kinds, a, b, plan, marks)
 }
 
-// The same over a lent table. The borrow checker does not cover a slice of structs, so this is proved by a walk of its code, by hand.
+// The same over a lent table.
 pub fn first_shown(basins: u16, table: &[Reach], plan: &mut [u8], marks: &mut [u8]) -> Answer
     ensures { FirstAsked (net basins table.now) plan.old marks.old plan.new marks.new result }
 {
@@ -62,7 +62,7 @@ pub fn next_of_two_rows(
     Both { first, second }
 }
 
-// The same over a lent table. The borrow checker does not cover a slice of structs, so this is proved by a walk of its code, by hand.
+// The same over a lent table.
 pub fn next_of_two(
     basins: u16,
     table: &[Reach],

@@ -12,4 +12,4 @@ use Rattle.walker.specs.contracts.Walker.{the_type}
 
 -- The machine's values of a walker, of which there are some at entry, hold an array of that length.
 pub walker-size : (w : Walker) {vs : List Val} → Is (row the_type) w vs → length w.setting ≡ max_reaches
-walker-size w is = sym (length-map w.setting _) ∙ is.1.1.0.1.0.1
+walker-size w is = is.1.1.0.1.0.1

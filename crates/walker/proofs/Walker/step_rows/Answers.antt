@@ -1,0 +1,14 @@
+-- `walker::Walker::step_rows` meets its contract: the next plan from the bytes that the table uses, and the walker advanced by the answer.
+-- Assumes nothing.
+use native.Mathlib.Omega.{arith}
+use mathlib.Core.Path.{sym}
+use lib.Seq.{length-take-le}
+use borrow.Author.Rules.{rules}
+use Rattle.tables.specs.Rows.{net_of}
+use Rattle.walker.proofs.Sizes.{walker-size}
+use Rattle.walker.proofs.Steps.{step-made}
+use Rattle.walker.proofs.Walker.step_rows.Goals as goal
+
+pub returns : goal.returns
+returns c =
+    step-made (net_of c.args.basins c.args.kinds.now c.args.a.now c.args.b.now) c.args.self.setting c.gates_held-g.ensures c.next_plan-answer.ensures c.advanced-walker.ensures
