@@ -1,5 +1,5 @@
 // Reads that stay within their row, and parts of rows: nothing here asks its caller for a proof.
-ghost use Rattle.io.specs.Counts.{IsPrefixLen};
+ghost use Rattle.std.specs.Prelude.{◌≤◌, length};
 
 // What every entry of a lent buffer holds before a call.
 pub const OLD: u8 = 170;
@@ -33,13 +33,13 @@ pub fn long_at(s: &[u8], i: usize) -> usize {
 
 // n, or the length of the row where that is less: a count of entries at its start.
 pub fn within(s: &[u8], n: usize) -> usize
-    ensures { IsPrefixLen result s.now }
+    ensures { result ≤ length s.now }
 {
     if n <= s.len() { n } else { s.len() }
 }
 
 pub fn within_words(s: &[u16], n: usize) -> usize
-    ensures { IsPrefixLen result s.now }
+    ensures { result ≤ length s.now }
 {
     if n <= s.len() { n } else { s.len() }
 }

@@ -4,13 +4,23 @@ use crate::plans::number;
 use crate::show;
 use crate::show::Out;
 use distances::DiameterAnswer;
+use std::io;
+use std::io::Write;
 
 // Prints the longest of the fewest counts under a setting. This stands in the data where the number that says how often to go on has it; its length is that of
 // the first buffer.
-pub fn longest(o: Out, c: &[u8], kinds: &[u8], a: &[u16], b: &[u16], s: &[u8]) -> Out {
+pub fn longest(
+    w: &mut impl Write,
+    o: Out,
+    c: &[u8],
+    kinds: &[u8],
+    a: &[u16],
+    b: &[u16],
+    s: &[u8],
+) -> io::Result<Out> {
     let setting = front(rest(s, word_at(c, 15) as usize), word_at(c, 9) as usize);
     match diameter::diameter_rows(word_at(c, 1), kinds, a, b, setting) {
-        DiameterAnswer::Refused(r) => show::reply(o, number(r)),
-        DiameterAnswer::Longest(count) => show::value(show::reply(o, 0), count as u64),
+        DiameterAnswer::Refused(r) => show::reply(w, o, number(r)),
+        DiameterAnswer::Longest(count) => show::reply_with(w, o, 0, count as u64),
     }
 }

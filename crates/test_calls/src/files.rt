@@ -9,9 +9,11 @@ use listing_state::Lister;
 use netfile_format::ReadAnswer;
 use network::MAX_REACHES;
 use sheet_format::SheetAnswer;
+use std::io;
+use std::io::Write;
 
 // The lengths of the rows that are lent.
-#[derive(Drop)]
+#[derive(Clone, Copy)]
 pub struct Lengths {
     pub kinds: usize,
     pub a: usize,
@@ -43,32 +45,31 @@ pub fn read(file: &[u8], n: Lengths) -> Reading {
     }
 }
 
-fn show_read(o: Out, answer: ReadAnswer) -> Out {
+fn show_read(w: &mut impl Write, o: Out, answer: ReadAnswer) -> io::Result<Out> {
     match answer {
-        ReadAnswer::Refused(r) => show::reply(o, number(r)),
+        ReadAnswer::Refused(r) => show::reply(w, o, number(r)),
         ReadAnswer::Read { basins, reaches } => {
-            let o = show::reply(o, 0);
-            let o = show::value(o, basins as u64);
-            show::value(o, reaches as u64)
+            let o = show::reply_with(w, o, 0, basins as u64)?;
+            show::value(w, o, reaches as u64)
         }
     }
 }
 
 // A row of ends, with two entries beyond the first n.
-fn show_ends(o: Out, row: &[u16; ROOM], n: usize) -> Out {
-    show::words(o, front_words(row, sum(n, 2)))
+fn show_ends(w: &mut impl Write, o: Out, row: &[u16; ROOM], n: usize) -> io::Result<Out> {
+    show::words(w, o, front_words(row, sum(n, 2)))
 }
 
 // Prints a reader's answer and the rows, with two entries beyond each.
-pub fn show_rows(o: Out, r: Reading, n: Lengths) -> Out {
+pub fn show_rows(w: &mut impl Write, o: Out, r: Reading, n: Lengths) -> io::Result<Out> {
     let answer = r.answer;
     let kinds = r.kinds;
     let a = r.a;
     let b = r.b;
-    let o = show_read(o, answer);
-    let o = show::bytes(o, front(&kinds, sum(n.kinds, 2)));
-    let o = show_ends(o, &a, n.a);
-    show_ends(o, &b, n.b)
+    let o = show_read(w, o, answer)?;
+    let o = show::bytes(w, o, front(&kinds, sum(n.kinds, 2)))?;
+    let o = show_ends(w, o, &a, n.a)?;
+    show_ends(w, o, &b, n.b)
 }
 
 // What a writer or the sheet reader answers: 0 and the length, or the number of the refusal.
@@ -148,15 +149,15 @@ pub fn filled(
 }
 
 // Prints an answer and the buffer, with two bytes beyond it.
-pub fn show_left(o: Out, x: Left, room: usize) -> Out {
+pub fn show_left(w: &mut impl Write, o: Out, x: Left, room: usize) -> io::Result<Out> {
     let size = x.size;
     let bytes = x.bytes;
-    let o = show::value(show::reply(o, size.number), size.length as u64);
-    show::bytes(o, front(&bytes, sum(room, 2)))
+    let o = show::reply_with(w, o, size.number, size.length as u64)?;
+    show::bytes(w, o, front(&bytes, sum(room, 2)))
 }
 
 // A part of a listing, and the state after it.
-#[derive(Drop)]
+#[derive(Clone, Copy)]
 struct Part {
     lister: Lister,
     count: usize,
@@ -177,32 +178,41 @@ fn take_part(lister: Lister, kinds: &[u8], a: &[u16], b: &[u16], room: usize) ->
 }
 
 // Prints a part as the text it is, or its first 2,000 bytes, and the buffer.
-fn show_part(o: Out, p: Part, room: usize) -> Out {
+fn show_part(w: &mut impl Write, o: Out, p: Part, room: usize) -> io::Result<Out> {
     let bytes = p.bytes;
-    let o = show::value(show::reply(o, 0), p.count as u64);
+    let o = show::reply_with(w, o, 0, p.count as u64)?;
     if o.mode != show::QUIET {
-        io::write_all(1, b"\n");
-        io::write_all(1, front(front(&bytes, p.count), 2000));
+        w.write_all(b"\n")?;
+        w.write_all(front(front(&bytes, p.count), 2000))?;
     }
-    show::bytes(o, front(&bytes, sum(room, 2)))
+    show::bytes(w, o, front(&bytes, sum(room, 2)))
 }
 
 // So many parts of a listing and one more.
-fn parts(o: Out, lister: Lister, kinds: &[u8], a: &[u16], b: &[u16], room: usize, n: usize) -> Out {
+fn parts(
+    w: &mut impl Write,
+    o: Out,
+    lister: Lister,
+    kinds: &[u8],
+    a: &[u16],
+    b: &[u16],
+    room: usize,
+    n: usize,
+) -> io::Result<Out> {
     let mut p = take_part(lister, kinds, a, b, room);
-    let mut o = show_part(o, p, room);
+    let mut o = show_part(w, o, p, room)?;
     let mut left = n;
     while left > 0 {
         left -= 1;
         let lister = p.lister;
         p = take_part(lister, kinds, a, b, room);
-        o = show_part(o, p, room);
+        o = show_part(w, o, p, room)?;
     }
-    o
+    Ok(o)
 }
 
 // Lists a file, in parts that fill the room.
-pub fn list(o: Out, file: &[u8], room: usize, n: usize) -> Out {
+pub fn list(w: &mut impl Write, o: Out, file: &[u8], room: usize, n: usize) -> io::Result<Out> {
     let mut kinds = [0u8; ROOM];
     let mut a = [0u16; ROOM];
     let mut b = [0u16; ROOM];
@@ -210,6 +220,7 @@ pub fn list(o: Out, file: &[u8], room: usize, n: usize) -> Out {
     let m = started.reaches;
     let lister = started.lister;
     parts(
+        w,
         o,
         lister,
         front(&kinds, m),

@@ -18,6 +18,8 @@ use files::Lengths;
 use plans::{BOUND, NEXT, Room};
 use runs::Row;
 use show::Out;
+use std::io;
+use std::io::{BufWriter, Read, Write};
 
 // The calls, by the bytes of the case file; those of files stand there, bound gates and the next plan in plans.
 const TABLE: u8 = 0;
@@ -61,7 +63,15 @@ const LENGTH: usize = 25;
 const DATA: usize = 27;
 
 // The calls of the planner and of the walker.
-fn ask(o: Out, c: &[u8], kinds: &[u8], a: &[u16], b: &[u16], s: &[u8]) -> Out {
+fn ask(
+    w: &mut impl Write,
+    o: Out,
+    c: &[u8],
+    kinds: &[u8],
+    a: &[u16],
+    b: &[u16],
+    s: &[u8],
+) -> io::Result<Out> {
     let call = byte_at(c, 0);
     let basins = word_at(c, 1);
     let plan = word_at(c, 9) as usize;
@@ -69,49 +79,73 @@ fn ask(o: Out, c: &[u8], kinds: &[u8], a: &[u16], b: &[u16], s: &[u8]) -> Out {
     let room = Room { plan, marks };
     let n = word_at(c, 15) as usize;
     match call {
-        TABLE => show::reply(o, plans::table_number(basins, kinds, a, b)),
-        CHECK => show::reply(o, plans::check_number(basins, kinds, a, b, s)),
-        WALK => plans::walk(o, basins, kinds, a, b, room, n),
+        TABLE => show::reply(w, o, plans::table_number(basins, kinds, a, b)),
+        CHECK => show::reply(w, o, plans::check_number(basins, kinds, a, b, s)),
+        WALK => plans::walk(w, o, basins, kinds, a, b, room, n),
         BOUND | NEXT => {
-            plans::show_got(o, plans::filled(call, basins, kinds, a, b, s, room), room)
+            let got = plans::filled(call, basins, kinds, a, b, s, room);
+            plans::show_got(w, o, got, room)
         }
-        MAKE => plans::show_made(o, basins, kinds, a, b, s, plan),
-        _ => plans::steps(o, plans::walker_of(s), basins, kinds, a, b, room, n),
+        MAKE => plans::show_made(w, o, basins, kinds, a, b, s, plan),
+        _ => plans::steps(w, o, plans::walker_of(s), basins, kinds, a, b, room, n),
     }
 }
 
-fn read(o: Out, c: &[u8], s: &[u8]) -> Out {
+fn read(w: &mut impl Write, o: Out, c: &[u8], s: &[u8]) -> io::Result<Out> {
     let n = Lengths {
         kinds: word_at(c, 3) as usize,
         a: word_at(c, 5) as usize,
         b: word_at(c, 7) as usize,
     };
-    files::show_rows(o, files::read(s, n), n)
+    files::show_rows(w, o, files::read(s, n), n)
 }
 
 // The lengths of the new rows stand where those of the buffers do, and how often to go on.
-fn contract(o: Out, c: &[u8], kinds: &[u8], a: &[u16], b: &[u16]) -> Out {
+fn contract(
+    w: &mut impl Write,
+    o: Out,
+    c: &[u8],
+    kinds: &[u8],
+    a: &[u16],
+    b: &[u16],
+) -> io::Result<Out> {
     let n = Lengths {
         kinds: word_at(c, 9) as usize,
         a: word_at(c, 11) as usize,
         b: word_at(c, 15) as usize,
     };
     files::show_rows(
+        w,
         o,
         contractions::contracted(word_at(c, 1), kinds, a, b, n),
         n,
     )
 }
 
-fn write(o: Out, c: &[u8], kinds: &[u8], a: &[u16], b: &[u16], s: &[u8]) -> Out {
+fn write(
+    w: &mut impl Write,
+    o: Out,
+    c: &[u8],
+    kinds: &[u8],
+    a: &[u16],
+    b: &[u16],
+    s: &[u8],
+) -> io::Result<Out> {
     let call = byte_at(c, 0);
     let room = word_at(c, 9) as usize;
     let left = files::filled(call, word_at(c, 1), kinds, a, b, s, room);
-    files::show_left(o, left, room)
+    files::show_left(w, o, left, room)
 }
 
 // One call, on a table whose kinds and ends these are.
-fn play_on(o: Out, c: &[u8], kinds: &[u8], a: &[u16], b: &[u16]) -> Out {
+fn play_on(
+    w: &mut impl Write,
+    o: Out,
+    c: &[u8],
+    kinds: &[u8],
+    a: &[u16],
+    b: &[u16],
+) -> io::Result<Out> {
     let ks = front(kinds, word_at(c, 3) as usize);
     let xs = front_words(a, word_at(c, 5) as usize);
     let ys = front_words(b, word_at(c, 7) as usize);
@@ -120,22 +154,23 @@ fn play_on(o: Out, c: &[u8], kinds: &[u8], a: &[u16], b: &[u16]) -> Out {
     let n = word_at(c, 15) as usize;
     let call = byte_at(c, 0);
     match call {
-        TABLE..=STEPS => ask(o, c, ks, xs, ys, s),
-        READ_NETWORK => read(o, c, s),
-        LIST => files::list(o, s, room, n),
-        LIST_PLACED => files::list(o, ks, room, n),
-        CONTRACT => contract(o, c, ks, xs, ys),
-        COMPARE => comparisons::compare(o, c, ks, xs, ys, s),
-        DIAMETER => diameters::longest(o, c, ks, xs, ys, s),
-        _ => write(o, c, ks, xs, ys, s),
+        TABLE..=STEPS => ask(w, o, c, ks, xs, ys, s),
+        READ_NETWORK => read(w, o, c, s),
+        LIST => files::list(w, o, s, room, n),
+        LIST_PLACED => files::list(w, o, ks, room, n),
+        CONTRACT => contract(w, o, c, ks, xs, ys),
+        COMPARE => comparisons::compare(w, o, c, ks, xs, ys, s),
+        DIAMETER => diameters::longest(w, o, c, ks, xs, ys, s),
+        _ => write(w, o, c, ks, xs, ys, s),
     }
 }
 
-fn play_with(o: Out, c: &[u8], table: &[u8]) -> Out {
+fn play_with(w: &mut impl Write, o: Out, c: &[u8], table: &[u8]) -> io::Result<Out> {
     let ends = table_rows::load(table);
     let a = ends.a;
     let b = ends.b;
     play_on(
+        w,
         o,
         c,
         front(rest(table, 2), word_at(table, 0) as usize),
@@ -145,16 +180,16 @@ fn play_with(o: Out, c: &[u8], table: &[u8]) -> Out {
 }
 
 // One call, on the table of its case.
-fn play(o: Out, x: Row, file: &[u8]) -> Out {
+fn play(w: &mut impl Write, o: Out, x: Row, file: &[u8]) -> io::Result<Out> {
     let bytes = x.bytes;
     let c = front(&bytes, runs::SIZE);
     let number = word_at(c, TABLE_NUMBER) as usize;
     if number == 0 {
-        return play_with(o, c, rest(c, DATA));
+        return play_with(w, o, c, rest(c, DATA));
     }
     let row = runs::row_at(file, long_at(file, 3 * number + 2));
     let table = row.bytes;
-    play_with(o, c, &table)
+    play_with(w, o, c, &table)
 }
 
 // The value of number v of a variation: the place of a byte, the number of its values, and the lowest of them.
@@ -193,48 +228,62 @@ fn varied(c: Row, variations: &[u8], v: usize) -> Row {
 }
 
 // A case with all its variations.
-fn play_all(o: Out, case: Row, variations: &[u8], count: usize, file: &[u8]) -> Out {
+fn play_all(
+    w: &mut impl Write,
+    o: Out,
+    case: Row,
+    variations: &[u8],
+    count: usize,
+    file: &[u8],
+) -> io::Result<Out> {
     let mut o = o;
     let mut v: usize = 0;
     while v < count {
-        o = play(o, varied(case, variations, v), file);
+        o = play(w, o, varied(case, variations, v), file)?;
         v += 1;
     }
-    o
+    Ok(o)
 }
 
 // The case at a place. Answers where the next one stands.
-fn play_case(file: &[u8], at: usize) -> usize {
+fn play_case(w: &mut impl Write, file: &[u8], at: usize) -> io::Result<usize> {
     let case = runs::row_at(file, at);
     let bytes = case.bytes;
     let c = front(&bytes, runs::SIZE);
     let t = rest(c, DATA + word_at(c, LENGTH) as usize);
     let v = 5 * (byte_at(c, VARIATIONS) as usize);
-    io::write_all(1, front(rest(t, v), byte_at(c, NAME) as usize));
-    io::write_all(1, b":");
+    w.write_all(front(rest(t, v), byte_at(c, NAME) as usize))?;
+    write!(w, ":")?;
     let o = Out {
         mode: byte_at(c, MODE),
         number: 255,
         run: 0,
         sum: 0,
     };
-    show::end(play_all(o, case, front(t, v), long_at(c, COUNT), file));
-    case.next
+    let o = play_all(w, o, case, front(t, v), long_at(c, COUNT), file)?;
+    show::end(w, o)?;
+    Ok(case.next)
 }
 
 // The file: the number of cases, where the first stands, where each table stands, from number 1 on; the tables; the cases.
-fn play_cases(file: &[u8]) {
+fn play_cases(w: &mut impl Write, file: &[u8]) -> io::Result<()> {
     let n = word_at(file, 0) as usize;
     let mut at = long_at(file, 2);
     let mut i: usize = 0;
     while i < n {
-        at = play_case(file, at);
+        at = play_case(w, file, at)?;
         i += 1;
     }
+    Ok(())
 }
 
-fn main() {
-    let mut cases = [0u8; 300000];
-    let n = io::read_full(0, &mut cases);
-    play_cases(&cases[..n]);
+// The most bytes of the file that are read.
+const MOST: u64 = 300000;
+
+fn main(rt: HostRuntime) -> io::Result<()> {
+    let mut cases = Vec::new(rt.alloc());
+    rt.reader().take(MOST).read_to_end(&mut cases)?;
+    let mut w = BufWriter::new(rt.alloc(), io::writer(&rt))?;
+    play_cases(&mut w, cases.as_slice())?;
+    w.flush()
 }

@@ -5,6 +5,8 @@ use crate::show::Out;
 use marks::MARK_BYTES;
 use network::{MAX_REACHES, Refusal};
 use replies::{Answer, CheckAnswer, Finding, Verdict};
+use std::io;
+use std::io::Write;
 use tables::TableAnswer;
 use walker::{MakeAnswer, Walker};
 
@@ -40,28 +42,28 @@ pub fn check_number(basins: u16, kinds: &[u8], a: &[u16], b: &[u16], setting: &[
 }
 
 // A finding's number, reach and count.
-fn show_finding(o: Out, number: u8, f: Finding) -> Out {
-    let o = show::value(show::reply(o, number), f.reach as u64);
-    show::value(o, f.count as u64)
+fn show_finding(w: &mut impl Write, o: Out, number: u8, f: Finding) -> io::Result<Out> {
+    let o = show::reply_with(w, o, number, f.reach as u64)?;
+    show::value(w, o, f.count as u64)
 }
 
 // What first and next plan answer: 0 for a plan, else the number.
-fn show_answer(o: Out, answer: Answer) -> Out {
+fn show_answer(w: &mut impl Write, o: Out, answer: Answer) -> io::Result<Out> {
     match answer {
-        Answer::Refused(r) => show::reply(o, number(r)),
+        Answer::Refused(r) => show::reply(w, o, number(r)),
         Answer::Given(reply) => {
             let verdict = reply.verdict;
             match verdict {
-                Verdict::Plan => show::reply(o, 0),
-                Verdict::ShutIn(f) => show_finding(o, 9, f),
-                Verdict::Lone(f) => show_finding(o, 10, f),
+                Verdict::Plan => show::reply(w, o, 0),
+                Verdict::ShutIn(f) => show_finding(w, o, 9, f),
+                Verdict::Lone(f) => show_finding(w, o, 10, f),
             }
         }
     }
 }
 
 // The lengths of the buffers that are lent.
-#[derive(Drop)]
+#[derive(Clone, Copy)]
 pub struct Room {
     pub plan: usize,
     pub marks: usize,
@@ -73,7 +75,7 @@ const PLAN: usize = MAX_REACHES + 16;
 const MARKS: usize = MARK_BYTES + 8;
 
 // An answer, and the buffers afterwards.
-#[derive(Drop)]
+#[derive(Clone, Copy)]
 pub struct Got {
     answer: Answer,
     plan: [u8; PLAN],
@@ -135,17 +137,17 @@ pub fn filled(
 }
 
 // Prints an answer and the buffers, with two bytes beyond each.
-pub fn show_got(o: Out, g: Got, room: Room) -> Out {
+pub fn show_got(w: &mut impl Write, o: Out, g: Got, room: Room) -> io::Result<Out> {
     let plan = g.plan;
     let marks = g.marks;
     let answer = g.answer;
-    let o = show_answer(o, answer);
-    let o = show::bytes(o, front(&plan, sum(room.plan, 2)));
-    show::bytes(o, front(&marks, sum(room.marks, 2)))
+    let o = show_answer(w, o, answer)?;
+    let o = show::bytes(w, o, front(&plan, sum(room.plan, 2)))?;
+    show::bytes(w, o, front(&marks, sum(room.marks, 2)))
 }
 
 // A step's answer and buffers, and the walker after it.
-#[derive(Drop)]
+#[derive(Clone, Copy)]
 struct Step {
     got: Got,
     walker: Walker,
@@ -168,17 +170,22 @@ fn take_step(walker: Walker, basins: u16, kinds: &[u8], a: &[u16], b: &[u16], ro
 }
 
 // A walker's first n bytes, and all of them to the sum.
-fn show_setting(o: Out, setting: &[u8; MAX_REACHES], n: usize) -> Out {
-    let o = show::bytes(o, front(setting, n));
-    show::bytes(o, setting)
+fn show_setting(
+    w: &mut impl Write,
+    o: Out,
+    setting: &[u8; MAX_REACHES],
+    n: usize,
+) -> io::Result<Out> {
+    let o = show::bytes(w, o, front(setting, n))?;
+    show::bytes(w, o, setting)
 }
 
-fn show_step(o: Out, s: Step, room: Room) -> Out {
+fn show_step(w: &mut impl Write, o: Out, s: Step, room: Room) -> io::Result<Out> {
     let walker = s.walker;
     let setting = walker.setting;
     let got = s.got;
-    let o = show_got(o, got, room);
-    show_setting(o, &setting, sum(room.plan, 2))
+    let o = show_got(w, o, got, room)?;
+    show_setting(w, o, &setting, sum(room.plan, 2))
 }
 
 // The walker of these bytes, with untouched ones after them.
@@ -196,6 +203,7 @@ pub fn walker_of(s: &[u8]) -> Walker {
 
 // Makes a walker of a setting.
 pub fn show_made(
+    w: &mut impl Write,
     o: Out,
     basins: u16,
     kinds: &[u8],
@@ -203,19 +211,17 @@ pub fn show_made(
     b: &[u16],
     s: &[u8],
     n: usize,
-) -> Out {
+) -> io::Result<Out> {
     let made = Walker::make_rows(basins, kinds, a, b, s);
     let answer = made.answer;
     let walker = made.walker;
     let setting = walker.setting;
-    let o = show::reply(
-        o,
-        match answer {
-            MakeAnswer::Refused(r) => number(r),
-            MakeAnswer::Made => 0,
-        },
-    );
-    show_setting(o, &setting, n)
+    let number = match answer {
+        MakeAnswer::Refused(r) => number(r),
+        MakeAnswer::Made => 0,
+    };
+    let o = show::reply(w, o, number)?;
+    show_setting(w, o, &setting, n)
 }
 
 // The next plan of the plan that was got.
@@ -233,23 +239,33 @@ fn after(g: Got, basins: u16, kinds: &[u8], a: &[u16], b: &[u16], room: Room) ->
 }
 
 // The first plan and the next ones, to a refusal, or so many of these.
-pub fn walk(o: Out, basins: u16, kinds: &[u8], a: &[u16], b: &[u16], room: Room, n: usize) -> Out {
+pub fn walk(
+    w: &mut impl Write,
+    o: Out,
+    basins: u16,
+    kinds: &[u8],
+    a: &[u16],
+    b: &[u16],
+    room: Room,
+    n: usize,
+) -> io::Result<Out> {
     let mut g = filled(FIRST, basins, kinds, a, b, kinds, room);
-    let mut o = show_got(o, g, room);
+    let mut o = show_got(w, o, g, room)?;
     let mut left = n;
     while left > 0 {
         left -= 1;
         if o.number != 0 {
-            return o;
+            return Ok(o);
         }
         g = after(g, basins, kinds, a, b, room);
-        o = show_got(o, g, room);
+        o = show_got(w, o, g, room)?;
     }
-    o
+    Ok(o)
 }
 
 // A step of a walker and those after it, to a refusal, or so many of these.
 pub fn steps(
+    w: &mut impl Write,
     o: Out,
     walker: Walker,
     basins: u16,
@@ -258,18 +274,18 @@ pub fn steps(
     b: &[u16],
     room: Room,
     n: usize,
-) -> Out {
+) -> io::Result<Out> {
     let mut s = take_step(walker, basins, kinds, a, b, room);
-    let mut o = show_step(o, s, room);
+    let mut o = show_step(w, o, s, room)?;
     let mut left = n;
     while left > 0 {
         left -= 1;
         if o.number != 0 {
-            return o;
+            return Ok(o);
         }
         let walker = s.walker;
         s = take_step(walker, basins, kinds, a, b, room);
-        o = show_step(o, s, room);
+        o = show_step(w, o, s, room)?;
     }
-    o
+    Ok(o)
 }

@@ -6,7 +6,7 @@ use listing_state::MAX_BYTES;
 pub const SIZE: usize = MAX_BYTES + 200;
 
 // A row; how many bytes it has so far, and where in the file it goes on.
-#[derive(Drop)]
+#[derive(Clone, Copy)]
 pub struct Row {
     pub bytes: [u8; SIZE],
     pub length: usize,

@@ -1,5 +1,7 @@
 // What is printed of a call, and the sum of all that it replies and leaves.
 use crate::bounds::sum;
+use std::io;
+use std::io::Write;
 
 // How much is printed: of a single call all, but for long buffers; of many calls the numbers, and the short buffers of those that are not refused;
 // or only how many calls there were.
@@ -10,7 +12,7 @@ pub const BRIEF: u8 = 1;
 pub const QUIET: u8 = 2;
 
 // How much is printed; the last number, and how often it came in a row; the sum.
-#[derive(Drop)]
+#[derive(Clone, Copy)]
 pub struct Out {
     pub mode: u8,
     pub number: u8,
@@ -38,120 +40,122 @@ fn added(o: Out, x: u64) -> Out {
 }
 
 // Whether a buffer of n entries is printed; opens its bracket.
-fn opens(o: Out, n: usize) -> bool {
+fn opens(w: &mut impl Write, o: Out, n: usize) -> io::Result<bool> {
     if o.mode == QUIET || o.mode == BRIEF && o.number != 0 {
-        return false;
+        return Ok(false);
     }
     let shown = n <= if o.mode == FULL { LONG } else { SHORT };
     if shown {
-        io::write_all(1, b"(");
+        write!(w, "(")?;
     }
-    shown
+    Ok(shown)
 }
 
-fn close(shown: bool) {
+fn close(w: &mut impl Write, shown: bool) -> io::Result<()> {
     if shown {
-        io::write_all(1, b")");
+        write!(w, ")")?;
     }
+    Ok(())
 }
 
 // One entry: a digit, a dot where it is untouched, else two or four hexadecimal digits.
-fn show_entry(x: u64, old: u64) {
+fn show_entry(w: &mut impl Write, x: u64, old: u64) -> io::Result<()> {
     if x < 10 {
-        io::print_hex(1, x, 1);
+        write!(w, "{x}")
     } else if x == old {
-        io::write_all(1, b".");
+        write!(w, ".")
     } else {
-        io::write_all(1, b"<");
-        io::print_hex(1, x, 2);
-        io::write_all(1, b">");
+        write!(w, "<{x:02x}>")
     }
 }
 
-fn byte(o: Out, shown: bool, x: u8) -> Out {
+fn byte(w: &mut impl Write, o: Out, shown: bool, x: u8) -> io::Result<Out> {
     if shown {
-        show_entry(x as u64, 170);
+        show_entry(w, x as u64, 170)?;
     }
-    added(o, x as u64)
+    Ok(added(o, x as u64))
 }
 
-fn word(o: Out, shown: bool, x: u16) -> Out {
+fn word(w: &mut impl Write, o: Out, shown: bool, x: u16) -> io::Result<Out> {
     if shown {
-        show_entry(x as u64, 43690);
+        show_entry(w, x as u64, 43690)?;
     }
-    added(o, x as u64)
+    Ok(added(o, x as u64))
 }
 
 // A buffer after a call.
-pub fn bytes(o: Out, s: &[u8]) -> Out {
-    let shown = opens(o, s.len());
+pub fn bytes(w: &mut impl Write, o: Out, s: &[u8]) -> io::Result<Out> {
+    let shown = opens(w, o, s.len())?;
     let mut o = o;
     let mut i: usize = 0;
     while i < s.len() {
-        o = byte(o, shown, s[i]);
+        o = byte(w, o, shown, s[i])?;
         i += 1;
     }
-    close(shown);
-    o
+    close(w, shown)?;
+    Ok(o)
 }
 
-pub fn words(o: Out, s: &[u16]) -> Out {
-    let shown = opens(o, s.len());
+pub fn words(w: &mut impl Write, o: Out, s: &[u16]) -> io::Result<Out> {
+    let shown = opens(w, o, s.len())?;
     let mut o = o;
     let mut i: usize = 0;
     while i < s.len() {
-        o = word(o, shown, s[i]);
+        o = word(w, o, shown, s[i])?;
         i += 1;
     }
-    close(shown);
-    o
+    close(w, shown)?;
+    Ok(o)
 }
 
 // How often the last number came, if it came again.
-fn end_run(run: usize) {
+fn end_run(w: &mut impl Write, run: usize) -> io::Result<()> {
     if run > 1 {
-        io::write_all(1, b"x");
-        io::print_decimal(1, run as u64);
+        write!(w, "x{run}")?;
+    }
+    Ok(())
+}
+
+fn show_number(w: &mut impl Write, number: u8) -> io::Result<()> {
+    match number {
+        YES => write!(w, " y"),
+        NO => write!(w, " n"),
+        _ => write!(w, " {number:x}"),
     }
 }
 
-fn show_number(number: u8) {
-    io::write_all(1, b" ");
-    match number {
-        YES => io::write_all(1, b"y"),
-        NO => io::write_all(1, b"n"),
-        _ => io::print_hex(1, number as u64, 1),
-    };
-}
-
 // The number of a reply; one that comes again, with nothing else to print, is only counted.
-pub fn reply(o: Out, number: u8) -> Out {
+pub fn reply(w: &mut impl Write, o: Out, number: u8) -> io::Result<Out> {
     let mut o = added(o, number as u64);
     if o.mode == QUIET || number == o.number && number != 0 && number != 9 && number != 10 {
         o.number = number;
         o.run = sum(o.run, 1);
-        return o;
+        return Ok(o);
     }
-    end_run(o.run);
-    show_number(number);
+    end_run(w, o.run)?;
+    show_number(w, number)?;
     o.number = number;
     o.run = 1;
-    o
+    Ok(o)
 }
 
 // A number that goes with the reply, if that is no refusal.
-pub fn value(o: Out, x: u64) -> Out {
+pub fn value(w: &mut impl Write, o: Out, x: u64) -> io::Result<Out> {
     if o.mode != QUIET && (o.number == 0 || o.number == 9 || o.number == 10) {
-        io::write_all(1, b",");
-        io::print_decimal(1, x);
+        write!(w, ",{x}")?;
     }
-    added(o, x)
+    Ok(added(o, x))
+}
+
+// The number of a reply, and one that goes with it.
+pub fn reply_with(w: &mut impl Write, o: Out, number: u8, x: u64) -> io::Result<Out> {
+    let o = reply(w, o, number)?;
+    value(w, o, x)
 }
 
 // The end of a line.
-pub fn end(o: Out) {
-    end_run(o.run);
-    io::write_all(1, b" #");
-    io::print_hex(1, o.sum, 6);
-    io::write_all(1, b"\n");
+pub fn end(w: &mut impl Write, o: Out) -> io::Result<()> {
+    end_run(w, o.run)?;
+    let sum = o.sum;
+    writeln!(w, " #{sum:06x}")
 }

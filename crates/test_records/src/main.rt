@@ -13,6 +13,7 @@ ghost use Rattle.test_records.specs.Rooms.{table_room};
 use contraction::ContractAnswer;
 use network::{MAX_BASINS, MAX_REACHES, Reach};
 use relays::ROOM;
+use std::io;
 use sums::{BYTES, MARKS, mix, sum};
 use table::{Twice, bounded, front, front_words, table, within, within_words};
 use walker::Walker;
@@ -548,30 +549,25 @@ fn play_all(call: u8) -> Pair {
     o
 }
 
-fn show(name: &[u8], call: u8) {
+fn show(rt: &impl Print, name: &str, call: u8) -> io::Result<()> {
     let o = play_all(call);
-    io::write_all(1, name);
-    io::write_all(1, b": rows #");
-    io::print_hex(1, o.rows, 6);
-    io::write_all(1, b", records #");
-    io::print_hex(1, o.records, 6);
-    io::write_all(1, b"\n");
+    println!(rt; "{name}: rows #{:06x}, records #{:06x}", o.rows, o.records)
 }
 
-fn main() {
-    show(b"table check", TABLE);
-    show(b"check", CHECK);
-    show(b"first plan", FIRST);
-    show(b"next plan", NEXT);
-    show(b"make a walker", MAKE);
-    show(b"step", STEP);
-    show(b"read a network", READ_NETWORK);
-    show(b"write a network", WRITE_NETWORK);
-    show(b"read a sheet", READ_SHEET);
-    show(b"write a sheet", WRITE_SHEET);
-    show(b"write the reply", WRITE_REPLY);
-    show(b"bound gates", BOUND);
-    show(b"contract", CONTRACT);
-    show(b"compare two sheets", COMPARE);
-    show(b"diameter", DIAMETER);
+fn main(rt: HostRuntime) -> io::Result<()> {
+    show(&rt, "table check", TABLE)?;
+    show(&rt, "check", CHECK)?;
+    show(&rt, "first plan", FIRST)?;
+    show(&rt, "next plan", NEXT)?;
+    show(&rt, "make a walker", MAKE)?;
+    show(&rt, "step", STEP)?;
+    show(&rt, "read a network", READ_NETWORK)?;
+    show(&rt, "write a network", WRITE_NETWORK)?;
+    show(&rt, "read a sheet", READ_SHEET)?;
+    show(&rt, "write a sheet", WRITE_SHEET)?;
+    show(&rt, "write the reply", WRITE_REPLY)?;
+    show(&rt, "bound gates", BOUND)?;
+    show(&rt, "contract", CONTRACT)?;
+    show(&rt, "compare two sheets", COMPARE)?;
+    show(&rt, "diameter", DIAMETER)
 }

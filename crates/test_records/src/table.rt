@@ -1,13 +1,12 @@
 // A table of reaches by a fixed sequence of numbers.
-ghost use Rattle.std.specs.Prelude.{◌≤◌};
-ghost use Rattle.io.specs.Counts.{IsPrefixLen};
+ghost use Rattle.std.specs.Prelude.{◌≤◌, length};
 ghost use Rattle.test_records.specs.Rooms.{table_room};
 
 use crate::relays::ROOM;
 use network::{Kind, MAX_REACHES, Reach, State};
 
 // The same reaches as rows and as records, and a row of bytes for settings.
-#[derive(Drop)]
+#[derive(Clone, Copy)]
 pub struct Twice {
     pub kinds: [u8; ROOM],
     pub a: [u16; ROOM],
@@ -87,13 +86,13 @@ pub fn bounded(n: usize) -> usize
 
 // n, or the length of the row where that is less: a count of entries at its start.
 pub fn within(s: &[u8], n: usize) -> usize
-    ensures { IsPrefixLen result s.now }
+    ensures { result ≤ length s.now }
 {
     if n <= s.len() { n } else { s.len() }
 }
 
 pub fn within_words(s: &[u16], n: usize) -> usize
-    ensures { IsPrefixLen result s.now }
+    ensures { result ≤ length s.now }
 {
     if n <= s.len() { n } else { s.len() }
 }
