@@ -13,9 +13,9 @@ use Rattle.contraction_laws.proofs.bound_of_contracted.Goals as goal
 pub returns-in-Refused : goal.returns-in-Refused
 returns-in-Refused c =
     let N : Network = net_of c.args.basins c.args.kinds.now c.args.a.now c.args.b.now in
-    bound-refused (N) c.contracted-c.ensures c.in-Refused.answer c.in-Refused.is _ _
+    bound-refused (N) c.contracted-c.ensures c.in-Refused.r c.in-Refused.is _ _
 
 pub returns-in-Contracted : goal.returns-in-Contracted
 returns-in-Contracted c =
     let N : Network = net_of c.args.basins c.args.kinds.now c.args.a.now c.args.b.now in
-    bound-given (N) c.contracted-c.ensures c.in-Contracted.answer c.answer-in-Contracted-1.given.0.1.0 c.in-Contracted.is c.bound_gates_rows.ensures
+    bound-given (N) c.contracted-c.ensures c.in-Contracted.n c.in-Contracted.m c.in-Contracted.is c.bound_gates_rows.ensures

@@ -13,4 +13,4 @@ use Rattle.contraction_laws.proofs.contract_again.Goals as goal
 pub returns-in-Contracted : goal.returns-in-Contracted
 returns-in-Contracted c =
     let N : Network = net_of c.args.basins c.args.kinds.now c.args.a.now c.args.b.now in
-    again-given (N) c.contracted-c.ensures c.in-Contracted.answer c.answer-1.given.0.1.0 c.in-Contracted.is c.contracted.ensures
+    again-given (N) c.contracted-c.ensures c.in-Contracted.n c.in-Contracted.m c.in-Contracted.is c.contracted.ensures

@@ -13,9 +13,9 @@ use Rattle.contraction_laws.proofs.next_of_contracted.Goals as goal
 pub returns-in-Refused : goal.returns-in-Refused
 returns-in-Refused c =
     let N : Network = net_of c.args.basins c.args.kinds.now c.args.a.now c.args.b.now in
-    asked-refused (N) c.contracted-c.ensures _ c.in-Refused.answer c.in-Refused.is (λ d. next-refused (N) _ _ _ d) _ _
+    asked-refused (N) c.contracted-c.ensures _ c.in-Refused.r c.in-Refused.is (λ d. next-refused (N) _ _ _ d) _ _
 
 pub returns-in-Contracted : goal.returns-in-Contracted
 returns-in-Contracted c =
     let N : Network = net_of c.args.basins c.args.kinds.now c.args.a.now c.args.b.now in
-    asked-given (N) c.contracted-c.ensures _ c.in-Contracted.answer c.answer-in-Contracted-1.given.0.1.0 c.in-Contracted.is (λ M ok is. next-choice (N) M ok is _) c.next_plan.ensures
+    asked-given (N) c.contracted-c.ensures _ c.in-Contracted.n c.in-Contracted.m c.in-Contracted.is (λ M ok is. next-choice (N) M ok is _) c.next_plan.ensures
