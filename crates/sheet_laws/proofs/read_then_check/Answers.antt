@@ -6,8 +6,11 @@ use Rattle.tables.specs.Rows.{net_of}
 use Rattle.sheet_format.specs.declared.SheetAnswer.{SheetAnswer}
 use Rattle.sheet_format.specs.declared.SheetAnswer.TheVariants.{Read}
 use Rattle.sheet_format.specs.Answers.{SheetRead}
-use Rattle.sheet_laws.proofs.RoundTrips.{sheet-checked}
+use Rattle.sheet_laws.proofs.RoundTrips.{sheet-unchecked, sheet-checked}
 use Rattle.sheet_laws.proofs.read_then_check.Goals as goal
+
+pub returns-in-Refused : goal.returns-in-Refused
+returns-in-Refused c = sheet-unchecked (net_of c.args.basins c.args.kinds.now c.args.a.now c.args.b.now) c.args.sheet.now c.in-Refused.ensures
 
 pub returns-in-Read : goal.returns-in-Read
 returns-in-Read c =

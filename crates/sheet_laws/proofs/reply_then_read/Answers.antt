@@ -6,8 +6,11 @@ use Rattle.tables.specs.Rows.{net_of}
 use Rattle.file_records.specs.declared.WriteAnswer.{WriteAnswer}
 use Rattle.file_records.specs.declared.WriteAnswer.TheVariants.{Written}
 use Rattle.sheet_format.specs.Answers.{ReplyWritten}
-use Rattle.sheet_laws.proofs.RoundTrips.{reply-read-again}
+use Rattle.sheet_laws.proofs.RoundTrips.{reply-unwritten, reply-read-again}
 use Rattle.sheet_laws.proofs.reply_then_read.Goals as goal
+
+pub returns-in-Refused : goal.returns-in-Refused
+returns-in-Refused c = reply-unwritten (net_of c.args.basins c.args.kinds.now c.args.a.now c.args.b.now) c.in-Refused.ensures
 
 pub returns-in-Written : goal.returns-in-Written
 returns-in-Written c =
