@@ -14,7 +14,7 @@ use Rattle.network.specs.Settings.{setting_fault}
 use Rattle.network.specs.Plans.{is_plan, next_plan}
 use Rattle.network.specs.Marks.{mark_bytes}
 use Rattle.network.specs.Replies.{Outcome, plan, shut_in, lone, refused, refusal_number, chosen, first_answer, next_answer, room_fault, first_reply, next_reply, plan_after}
-use Rattle.network.proofs.Networks.{accepted, gates-fit}
+use Rattle.network.proofs.Networks.{gates-fit}
 use Rattle.network.proofs.Order.{setting-length, plan-setting, first-is-plan, next-is-plan}
 use Rattle.network.proofs.Replies.{given-iff, first-given, next-given, unless-plan, room-enough}
 use Rattle.tables.specs.Rows.{net_of, gates_held}

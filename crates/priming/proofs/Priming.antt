@@ -13,7 +13,6 @@ use Rattle.tables.proofs.Laws.{row-length}
 use Rattle.half_edges.specs.Chains.{Index, Indexable}
 use Rattle.orienting.specs.Ready.{Ready}
 use Rattle.replies.specs.declared.CheckAnswer.{CheckAnswer}
-use Rattle.replies.specs.declared.CheckAnswer.TheVariants as C
 use Rattle.replies.specs.Answers.{check_of, says_yes}
 use Rattle.seeking.specs.Levels.{Level}
 use Rattle.seeking.specs.Seeks.{AtPlan}

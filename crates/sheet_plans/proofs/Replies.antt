@@ -3,7 +3,7 @@
 use Prim.Native.Nat.{ℕ}
 use native.Mathlib.Omega.{arith}
 use mathlib.Core.Path.{◌≡◌, refl, sym, ap, subst, ◌∙◌}
-use mathlib.Core.Bool.{true, false, true≢false}
+use mathlib.Core.Bool.{true≢false}
 use mathlib.Core.List.{List, ◌++◌, append-nil}
 use mathlib.Core.Option.{Option, none, some}
 use lib.ListN.{length, take, drop, drop_of_length-le}
@@ -12,7 +12,7 @@ use Rattle.network.specs.declared.Refusal.{Refusal}
 use Rattle.network.specs.Networks.{Network, table_fault, Accepted, max_reaches}
 use Rattle.network.specs.Settings.{gate_count}
 use Rattle.network.specs.Marks.{mark_bytes}
-use Rattle.network.specs.Replies.{Outcome, plan, shut_in, lone, shut_in_side, bridge_side, first_answer, unless, first_reply, first_of}
+use Rattle.network.specs.Replies.{Outcome, plan, shut_in, lone, refused, shut_in_side, bridge_side, first_answer, unless, first_reply, first_of}
 use Rattle.network.proofs.Networks.{accepted, gates-below}
 use Rattle.network.proofs.Marks.{length-marks}
 use Rattle.network.proofs.Order.{first-is-plan}
@@ -95,6 +95,7 @@ module _ (N : Network) (p m : List ℕ) (lp : length p ≡ max_reaches) (lm : le
           ap shut_in_sheet (marks-whole k (length-marks (shut_in_side N)) x.marks-left) ∙ ap (λ u. verdict_sheet N u p' m') (given-inj (sym x.reply ∙ e))
       says (lone i k c) (is-bridge _ f g) x =
           ap (lone_sheet i) (marks-whole k (length-marks (bridge_side N i)) x.marks-left) ∙ ap (λ u. verdict_sheet N u p' m') (given-inj (sym x.reply ∙ e))
+      says (refused r) f x = elim f [ ]
 
       -- the sheet of what was given is the network's
       pub reply-put :

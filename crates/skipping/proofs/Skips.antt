@@ -20,7 +20,7 @@ use Rattle.network.proofs.Bridges.{plan-gate-small}
 use Rattle.tables.specs.Rows.{net_of, ways_row}
 use Rattle.tables.proofs.Laws.{row-length}
 use Rattle.orientations.specs.Least.{is_tried}
-use Rattle.orientations.specs.Partials.{StronglyConnected, Tries, Binds}
+use Rattle.orientations.specs.Partials.{StronglyConnected, Binds}
 use Rattle.orientations.proofs.Least.{fits-unoriented, fits-set, fits-strong}
 use Rattle.orienting.specs.Tries.{left_out, led_round}
 use Rattle.orienting.proofs.Rows.{row-way}

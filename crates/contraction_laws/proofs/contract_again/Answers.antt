@@ -1,0 +1,16 @@
+-- `contraction_laws::contract_again` meets its contract: what the two calls promise gives the law.
+-- Assumes nothing.
+use mathlib.Core.Path.{sym}
+use Prim.Native.Nat.{ℕ, ◌≤◌}
+use lib.ListN.{length}
+use lib.Seq.{length-take-le}
+use Rattle.network.specs.Networks.{Network}
+use Rattle.tables.specs.Rows.{net_of}
+use Rattle.contraction_laws.proofs.Contractions.{again-refused, again-given}
+use borrow.Author.Rules.{rules}
+use Rattle.contraction_laws.proofs.contract_again.Goals as goal
+
+pub returns-in-Contracted : goal.returns-in-Contracted
+returns-in-Contracted c =
+    let N : Network = net_of c.args.basins c.args.kinds.now c.args.a.now c.args.b.now in
+    again-given (N) c.contracted-c.ensures c.in-Contracted.n c.in-Contracted.m c.in-Contracted.is c.contracted.ensures

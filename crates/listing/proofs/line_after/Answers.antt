@@ -1,0 +1,42 @@
+-- `listing::line_after` meets its contract: either way the state is that of the line after the plan's.
+-- Assumes nothing.
+use mathlib.Core.Path.{sym, ◌∙◌}
+use Rattle.orienting.proofs.Readies.{ready-ways, ready-notes}
+use Rattle.listing_state.specs.Pending.{holding}
+use Rattle.listing.specs.Keeping.{unknown, kept}
+use Rattle.listing.proofs.Steps.{kept-known, gates-held, step-front, step_line, step-stands}
+use Rattle.listing.proofs.line_after.Goals as goal
+
+pub advance-r-requires-clause-ready : goal.advance-r-requires-clause-ready
+advance-r-requires-clause-ready c = let k = kept-known c.requires.kept c.if-standing.true in k.ready
+
+pub note_bound-noted-requires-clause-ready : goal.note_bound-noted-requires-clause-ready
+note_bound-noted-requires-clause-ready c =
+    let k = kept-known c.requires.kept c.if-standing.true in ready-notes _ _ (ready-ways _ k.ready c.advance-r.auto.ways) c.advance-r.auto.seen c.advance-r.auto.queue
+
+pub after_step-line-requires-clause-g_value : goal.after_step-line-requires-clause-g_value
+after_step-line-requires-clause-g_value c =
+    let l = holding c.args.l c.args.setting.now in
+    let k = kept-known c.requires.kept c.if-standing.true in gates-held l c.args.kinds.now c.args.a.now c.args.b.now c.args.ways.now c.args.left c.args.g c.requires.g_value k.stands.at-plan
+
+pub returns-then-standing-clause-line_after : goal.returns-then-standing-clause-line_after
+returns-then-standing-clause-line_after c =
+    let l = holding c.args.l c.args.setting.now in
+    let k = kept-known c.requires.kept c.if-standing.true in
+    let went = c.advance-r.ensures.from _ _ k.stands.at-plan k.stands.binds (c.requires.guiding _) in step_line l c.args.kinds.now c.args.a.now c.args.b.now c.args.ways.now c.args.left c.args.g c.requires.g_value k.stands.at-plan went c.after_step-line.ensures
+
+pub returns-then-standing-clause-kept_2 : goal.returns-then-standing-clause-kept_2
+returns-then-standing-clause-kept_2 c =
+    let l = holding c.args.l c.args.setting.now in
+    let k = kept-known c.requires.kept c.if-standing.true in
+    let went = c.advance-r.ensures.from _ _ k.stands.at-plan k.stands.binds (c.requires.guiding _) in kept c.if-standing.true (ready-notes _ _ (ready-ways _ k.ready c.advance-r.auto.ways) (c.note_bound-noted.auto.seen ∙ c.advance-r.auto.seen) (c.note_bound-noted.auto.queue ∙ c.advance-r.auto.queue))
+    (c.note_bound-noted.auto.tried ∙ k.tried-row) (c.note_bound-noted.auto.loose ∙ c.advance-r.auto.under ∙ k.spare ∙ sym c.advance-r.auto.ways)
+    (step-stands l c.args.kinds.now c.args.a.now c.args.b.now c.args.ways.now c.args.left c.args.g c.requires.g_value k.stands.at-plan went c.after_step-line.ensures k.stands.binds c.note_bound-noted.ensures)
+
+pub returns-clause-kept_2 : goal.returns-clause-kept_2
+returns-clause-kept_2 c = unknown c.if-standing.false
+
+pub after_step-line-requires-clause-front_stands : goal.after_step-line-requires-clause-front_stands
+after_step-line-requires-clause-front_stands c =
+    let l = holding c.args.l c.args.setting.now in
+    let k = kept-known c.requires.kept c.if-standing.true in step-front l c.args.kinds.now c.args.a.now c.args.b.now c.args.ways.now c.args.left c.args.g c.requires.g_value k.stands.at-plan (c.advance-r.ensures.from _ _ k.stands.at-plan k.stands.binds (c.requires.guiding _))

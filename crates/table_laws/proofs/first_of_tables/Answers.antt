@@ -1,0 +1,10 @@
+-- `table_laws::first_of_tables` meets its contract: the laws follow from what the two calls promise.
+-- Assumes nothing.
+use Rattle.tables.specs.Rows.{net_of}
+use Rattle.table_laws.proofs.Tables.{first-of-tables}
+use borrow.Author.Rules.{rules}
+use Rattle.table_laws.proofs.first_of_tables.Goals as goal
+
+pub returns : goal.returns
+returns c =
+    first-of-tables (net_of c.args.basins c.args.kinds.now c.args.a.now c.args.b.now) (net_of c.args.basins2 c.args.kinds2.now c.args.a2.now c.args.b2.now) c.first_plan-first.ensures c.first_plan-second.ensures
