@@ -1,6 +1,4 @@
 // The calls over a lent slice of records. Each relay has a table by value, and lends the first n records of its copy.
-// The borrow checker does not cover a slice of structs, nor who lends one. So a relay is one call, proved safe by a walk of its code, by hand: those that
-// lend one table as `&` and return what the call replies by one walk for all, the others each by its own.
 ghost use Rattle.std.specs.Prelude.{◌≤◌};
 ghost use Rattle.test_records.specs.Rooms.{table_room};
 

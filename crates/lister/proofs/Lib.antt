@@ -1,0 +1,2 @@
+-- What the lister writes.
+mod Printing
