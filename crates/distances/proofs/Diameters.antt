@@ -1,6 +1,6 @@
 -- The longest of the fewest counts: 65,535 exactly if the setting is no plan; and what holds of it under a plan.
 -- Assumes nothing.
-use Prim.Native.Nat.{ℕ, zero, ◌≤◌, ◌<◌}
+use Prim.Native.Nat.{ℕ, ◌≤◌, ◌<◌}
 use native.Mathlib.Omega.{arith}
 use native.Mathlib.Decide.{dec_lt}
 use mathlib.Core.Path.{◌≡◌, refl, sym, ap, ap₂, ◌∙◌}

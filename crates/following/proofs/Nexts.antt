@@ -12,7 +12,7 @@ use mathlib.Mathlib.Data.Bool.Basic.{and_intro}
 use Rattle.network.specs.Networks.{Network, Accepted}
 use Rattle.network.specs.Orientations.{ways}
 use Rattle.network.specs.Plans.{strongly_connected_under, is_plan}
-use Rattle.network.specs.Replies.{plan, answer, next_answer}
+use Rattle.network.specs.Replies.{answer, next_answer}
 use Rattle.lists.proofs.Bools.{clash}
 use Rattle.network.proofs.Networks.{accepted}
 use Rattle.network.proofs.Theorem.{plan-passable}

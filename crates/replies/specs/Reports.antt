@@ -2,7 +2,6 @@
 -- Assumes nothing.
 use Rattle.std.specs.Prelude.{ℕ, ◌≤◌, ◌<◌, ◌≡◌, List, ◌++◌, length, drop}
 use Rattle.network.specs.Marks.{mark_bytes, marks_of, mark_count}
-use Rattle.network.specs.Replies.{plan}
 use Rattle.tables.specs.Rows.{gates_in, bytes_row}
 use Rattle.marks.specs.Sets.{marked_set}
 use Rattle.replies.specs.declared.Verdict.TheVariants.{Plan, ShutIn, Lone}

@@ -2,7 +2,7 @@
 -- Assumes nothing.
 use Prim.Native.Nat.{ℕ, zero, suc, ◌+◌, ◌≤◌, ◌<◌}
 use mathlib.Core.Path.{◌≡◌, refl, sym, ap, ◌∙◌}
-use mathlib.Core.Bool.{Bool, false}
+use mathlib.Core.Bool.{false}
 use lib.Dec.{ltb}
 use mathlib.Mathlib.Data.Bool.Basic.{Bool-eq-false}
 use mathlib.Core.Logic.{◌⊎◌, inl, inr, ⊎_elim}

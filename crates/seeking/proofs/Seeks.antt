@@ -16,7 +16,6 @@ use Rattle.network.specs.Plans.{strongly_connected_under, next_plan}
 use Rattle.network.specs.Bridges.{is_bridge}
 use Rattle.network.specs.declared.Refusal.TheVariants.{LastPlan}
 use Rattle.network.specs.Replies.{plan, refused, next_answer}
-use Rattle.network.proofs.Networks.{accepted}
 use Rattle.network.proofs.Ways.{length-ways}
 use Rattle.network.proofs.Order.{plan-setting}
 use Rattle.network.proofs.Bridges.{bridge-blocks}

@@ -4,7 +4,7 @@ use Prim.Native.Nat.{ℕ, ◌≤◌}
 use native.Mathlib.Omega.{arith}
 use mathlib.Core.Path.{◌≡◌, refl, ap, ◌∙◌}
 use mathlib.Core.Option.{Option, none, some}
-use mathlib.Core.List.{List, []}
+use mathlib.Core.List.{List}
 use lib.ListN.{length, take}
 use lib.Seq.{take-length}
 use Rattle.network.specs.declared.Refusal.{Refusal}
@@ -15,7 +15,6 @@ use Rattle.network.proofs.Order.{setting-length}
 use Rattle.packing.proofs.Packings.{ByTable}
 use Rattle.refusals.proofs.Dues.{unrefused-fits}
 use Rattle.walker.specs.declared.MakeAnswer.{MakeAnswer}
-use Rattle.walker.specs.declared.MakeAnswer.TheVariants as M
 use Rattle.walker.specs.declared.Walker.{Walker}
 use Rattle.walker.specs.declared.Made.{Made}
 use Rattle.walker.specs.Walkers.{walker_of, make_of, make_number, walker_made, kept_of, Making}

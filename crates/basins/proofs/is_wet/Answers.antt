@@ -1,14 +1,11 @@
 -- `is_wet` meets its contract. The loop's invariant is `Unserved`: all half-edges at the basin from some x on are of shut reaches, and h is the last one below
 -- x. The measure is h + 1, or 0 where h is `no_half`.
 -- Assumes nothing.
-use Prim.Native.Nat.{◌+◌, ◌/◌, ◌%◌, ◌<◌}
+use Prim.Native.Nat.{◌/◌}
 use native.Mathlib.Omega.{arith}
 use lib.ListN.{get_or}
 use Rattle.network.proofs.Networks.{state-in-service, state-shut}
-use Rattle.half_edges.specs.Ends.{halves}
-use Rattle.half_edges.specs.Chains.{no_half}
-use Rattle.half_edges.proofs.Hands.{Current, falls}
-use Rattle.basins.proofs.Wets.{Unserved, unserved-start, in-hand, unserved-wet, unserved-more, unserved-dry}
+use Rattle.basins.proofs.Wets.{unserved-wet, unserved-more, unserved-dry}
 use Rattle.basins.proofs.is_wet.Goals as goal
 
 pub returns-then-kinds-h-lt3 : goal.returns-then-kinds-h-lt3

@@ -1,11 +1,9 @@
 -- `lowest_unseen` meets its contract: no basin passed is wet and is not noted as reached.
 -- Assumes nothing.
 use Prim.Native.Nat.{◌-◌, ◌≤◌}
-use native.Mathlib.Omega.{arith}
-use mathlib.Core.Path.{sym, ◌∙◌}
 use Rattle.tables.specs.Rows.{net_of}
 use Rattle.basins.specs.Wet.{is_unnoted}
-use Rattle.basins.proofs.Lows.{NoneBelow, none_yet, none_more, lowest-at, lowest-none}
+use Rattle.basins.proofs.Lows.{NoneBelow}
 use Rattle.basins.proofs.lowest_unseen.Given as goal
 
 abbrev pub invariant-loop-v : goal.invariant-loop-v

@@ -1,10 +1,9 @@
 -- `lowest_wet` meets its contract: no basin passed is wet.
 -- Assumes nothing.
 use Prim.Native.Nat.{◌-◌, ◌≤◌}
-use native.Mathlib.Omega.{arith}
 use Rattle.tables.specs.Rows.{net_of}
 use Rattle.basins.specs.Wet.{any_basin}
-use Rattle.basins.proofs.Lows.{NoneBelow, none_yet, none_more, any-yes, any-no, lowest-at, lowest-none}
+use Rattle.basins.proofs.Lows.{NoneBelow}
 use Rattle.basins.proofs.lowest_wet.Given as goal
 
 abbrev pub invariant-loop-v : goal.invariant-loop-v

@@ -1,9 +1,8 @@
 -- `note_others` meets its contract: the basins passed have their new bytes.
 -- Assumes nothing.
 use Prim.Native.Nat.{◌-◌, ◌≤◌}
-use native.Mathlib.Omega.{arith}
 use Rattle.tables.specs.Rows.{net_of}
-use Rattle.basins.proofs.Notes.{Noting, noting-none, noting-more, noting-all}
+use Rattle.basins.proofs.Notes.{Noting}
 use Rattle.basins.proofs.note_others.Given as goal
 
 abbrev pub invariant-loop-v : goal.invariant-loop-v

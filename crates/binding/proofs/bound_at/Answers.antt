@@ -3,7 +3,6 @@
 use Prim.Native.Nat.{◌-◌}
 use native.Mathlib.Omega.{arith}
 use mathlib.Core.Path.{refl}
-use borrow.Author.Rules.{rules}
 use Rattle.binding.proofs.Tellings.{bound-tried}
 use Rattle.binding.proofs.bound_at.Goals as goal
 

@@ -1,13 +1,9 @@
 -- `binding::tell_bound` meets its contract. The loop's invariant: the bytes of the gates among the first i reaches are told, and the ways are as they were. The measure is
 -- what is left of the kinds.
 -- Assumes nothing.
-use Prim.Native.Nat.{◌-◌, ◌≤◌, ◌<◌}
-use native.Mathlib.Omega.{arith}
-use mathlib.Core.Path.{ap}
+use Prim.Native.Nat.{◌≤◌, ◌<◌}
 use lib.ListN.{length, get_or}
-use Rattle.lists.proofs.Lists.{copied-length}
-use Rattle.orienting.proofs.Readies.{ready-ways, ready-notes}
-use Rattle.binding.proofs.Tellings.{telling-room, telling-few, telling-small, telling-all, TellingOn, telling-on-none, telling-on-gate, telling-on-other}
+use Rattle.binding.proofs.Tellings.{telling-room, telling-small, telling-all, telling-on-gate, telling-on-other}
 use Rattle.binding.proofs.tell_bound.Goals as goal
 
 pub loop-i-preserved-then-kinds-i-ne0 : goal.loop-i-preserved-then-kinds-i-ne0

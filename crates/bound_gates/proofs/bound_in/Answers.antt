@@ -2,10 +2,8 @@
 -- Assumes nothing.
 use mathlib.Core.Path.{sym, ◌∙◌}
 use lib.Seq.{length-take-le}
-use borrow.Author.Rules.{rules}
-use Rattle.tables.specs.Rows.{net_of}
 use Rattle.tables.proofs.Cuts.{cut-kinds, cut-a, cut-b}
-use Rattle.bound_gates.proofs.Calls.{none_told, plan-stands, plan-told}
+use Rattle.bound_gates.proofs.Calls.{plan-stands, plan-told}
 use Rattle.bound_gates.proofs.bound_in.Goals as goal
 
 pub slice_bounds-tell_in-end : goal.slice_bounds-tell_in-end

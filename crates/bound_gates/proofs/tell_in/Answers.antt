@@ -5,7 +5,6 @@ use mathlib.Core.Path.{refl, sym}
 use lib.Seq.{length-take-le}
 use Rattle.finder.proofs.Rooms.{room-index, room-ready, level-few, level-room}
 use Rattle.bound_gates.proofs.Calls.{planned-level}
-use borrow.Author.Rules.{rules}
 use Rattle.bound_gates.proofs.tell_in.Goals as goal
 
 pub slice_bounds-oriented-end : goal.slice_bounds-oriented-end

@@ -2,7 +2,6 @@
 -- Assumes nothing.
 use Rattle.tables.specs.Rows.{net_of}
 use Rattle.bound_laws.proofs.Bounds.{flap-of-bound}
-use borrow.Author.Rules.{rules}
 use Rattle.bound_laws.proofs.flap_of_bound.Goals as goal
 
 pub returns : goal.returns

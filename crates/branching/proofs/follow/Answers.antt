@@ -1,16 +1,10 @@
 -- `branching::follow` meets its contract: the gates passed are oriented as the setting has them, and nothing is lost.
 -- Assumes nothing.
-use Prim.Native.Nat.{◌≤◌, ◌-◌}
 use native.Mathlib.Omega.{arith}
 use native.Mathlib.Numerals.{add-one}
-use mathlib.Core.Path.{◌≡◌, refl, sym, ◌∙◌}
-use lib.ListN.{length}
-use borrow.Author.Tests.{not-true, not-false}
-use Rattle.tables.specs.Rows.{net_of}
-use Rattle.orienting.specs.Ready.{Ready}
-use Rattle.branching.proofs.Follows.{Along, along-start, under-length, follow-on, follow-off, follow-done}
+use mathlib.Core.Path.{sym, ◌∙◌}
+use Rattle.branching.proofs.Follows.{under-length, follow-on, follow-off, follow-done}
 use Rattle.orienting.proofs.Readies.{ready-ways, ready-notes}
-use Rattle.branching.proofs.follow.Lts as lts
 use Rattle.branching.proofs.follow.Goals as goal
 
 pub orient_as-requires-clause-under_len : goal.orient_as-requires-clause-under_len
@@ -21,15 +15,14 @@ returns-then-not-orient_as c =
     follow-off c.args.n c.args.kinds.now c.args.a.now c.args.b.now (sym c.requires.following.kinds-full) (c.requires.ready.table.paired ∙ sym c.requires.following.kinds-full) c.args.under.now c.requires.following.under c.args.kinds.now c.requires.following.tries c.requires.following.accepted c.loop-i.i (omega (arith, c.loop-i-test.true, c.requires.following.kinds-full)) c.loop-i.ways c.loop-i.invariant.2 c.orient_as.ensures (c.if-not-orient_as.true)
 
 pub loop-i-preserved : goal.loop-i-preserved
-loop-i-preserved c =
-    (
-      omega arith,
-      ready-notes _ _ (ready-ways _ c.loop-i.invariant.1 c.orient_as.auto.ways) c.orient_as.auto.seen c.orient_as.auto.queue,
-      rw add-one (follow-on c.args.n c.args.kinds.now c.args.a.now c.args.b.now (sym c.requires.following.kinds-full) (c.requires.ready.table.paired ∙ sym c.requires.following.kinds-full) c.args.under.now c.requires.following.under c.args.kinds.now c.requires.following.tries c.requires.following.accepted c.loop-i.i (omega (arith, c.loop-i-test.true, c.requires.following.kinds-full)) c.loop-i.ways c.loop-i.invariant.2 c.orient_as.ensures (c.if-not-orient_as.false)),
-      c.orient_as.auto.ways ∙ c.loop-i.invariant.3,
-      c.orient_as.auto.seen ∙ c.loop-i.invariant.4,
-      c.orient_as.auto.queue ∙ c.loop-i.invariant.5,
-    )
+loop-i-preserved c = (
+  omega arith,
+  ready-notes _ _ (ready-ways _ c.loop-i.invariant.1 c.orient_as.auto.ways) c.orient_as.auto.seen c.orient_as.auto.queue,
+  rw add-one (follow-on c.args.n c.args.kinds.now c.args.a.now c.args.b.now (sym c.requires.following.kinds-full) (c.requires.ready.table.paired ∙ sym c.requires.following.kinds-full) c.args.under.now c.requires.following.under c.args.kinds.now c.requires.following.tries c.requires.following.accepted c.loop-i.i (omega (arith, c.loop-i-test.true, c.requires.following.kinds-full)) c.loop-i.ways c.loop-i.invariant.2 c.orient_as.ensures (c.if-not-orient_as.false)),
+  c.orient_as.auto.ways ∙ c.loop-i.invariant.3,
+  c.orient_as.auto.seen ∙ c.loop-i.invariant.4,
+  c.orient_as.auto.queue ∙ c.loop-i.invariant.5,
+)
 
 pub returns : goal.returns
 returns c =

@@ -1,16 +1,11 @@
 -- `branching::follow` meets its contract: the gates passed are oriented as the setting has them, and nothing is lost.
 -- Assumes nothing.
 use Prim.Native.Nat.{◌≤◌, ◌-◌}
-use native.Mathlib.Omega.{arith}
-use native.Mathlib.Numerals.{add-one}
-use mathlib.Core.Path.{◌≡◌, refl, sym, ◌∙◌}
+use mathlib.Core.Path.{◌≡◌}
 use lib.ListN.{length}
-use borrow.Author.Tests.{not-true, not-false}
 use Rattle.tables.specs.Rows.{net_of}
 use Rattle.orienting.specs.Ready.{Ready}
-use Rattle.branching.proofs.Follows.{Along, along-start, under-length, follow-on, follow-off, follow-done}
-use Rattle.orienting.proofs.Readies.{ready-ways, ready-notes}
-use Rattle.branching.proofs.follow.Lts as lts
+use Rattle.branching.proofs.Follows.{Along}
 use Rattle.branching.proofs.follow.Given as goal
 
 abbrev pub invariant-loop-i : goal.invariant-loop-i

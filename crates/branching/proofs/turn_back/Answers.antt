@@ -1,16 +1,10 @@
 -- `branching::turn_back` meets its contract: no plan parts upwards at a reach passed.
 -- Assumes nothing.
-use Prim.Native.Nat.{ℕ, ◌≤◌, ◌-◌}
+use Prim.Native.Nat.{◌-◌}
 use native.Mathlib.Omega.{arith}
-use mathlib.Core.Path.{◌≡◌, refl, sym, ◌∙◌}
-use mathlib.Core.List.{List}
+use mathlib.Core.Path.{sym, ◌∙◌}
 use lib.ListN.{length}
-use Rattle.tables.specs.Rows.{net_of}
-use Rattle.orientations.specs.Partials.{StronglyConnectedBelow}
-use Rattle.orienting.specs.Ready.{Ready}
-use Rattle.series.specs.Guides.{Guides}
-use Rattle.branching.specs.Follows.{Following}
-use Rattle.branching.proofs.Follows.{Back, back_start, turn_on, turn-found, back_done}
+use Rattle.branching.proofs.Follows.{turn_on, turn-found, back_done}
 use Rattle.orienting.proofs.Readies.{ready-ways, ready-notes}
 use Rattle.branching.proofs.turn_back.Goals as goal
 
@@ -22,16 +16,15 @@ returns-then-part_at c =
     }
 
 pub loop-i-preserved : goal.loop-i-preserved
-loop-i-preserved c =
-    (
-      omega (arith, c.loop-i.invariant.0),
-      ready-notes _ _ (ready-ways _ c.loop-i.invariant.1 c.part_at.auto.ways) c.part_at.auto.seen c.part_at.auto.queue,
-      (λ ks p all d.
-          turn_on p c.requires.ready.table.paired all c.args.guide.now d (c.loop-i.i - 1) (omega (arith, c.loop-i-test.true)) (omega (arith, c.loop-i-test.true, c.loop-i.invariant.0)) (c.loop-i.invariant.2 ks p all d) c.part_at.ensures c.if-part_at.false),
-      c.part_at.auto.ways ∙ c.loop-i.invariant.3,
-      c.part_at.auto.seen ∙ c.loop-i.invariant.4,
-      c.part_at.auto.queue ∙ c.loop-i.invariant.5,
-    )
+loop-i-preserved c = (
+  omega (arith, c.loop-i.invariant.0),
+  ready-notes _ _ (ready-ways _ c.loop-i.invariant.1 c.part_at.auto.ways) c.part_at.auto.seen c.part_at.auto.queue,
+  (λ ks p all d.
+      turn_on p c.requires.ready.table.paired all c.args.guide.now d (c.loop-i.i - 1) (omega (arith, c.loop-i-test.true)) (omega (arith, c.loop-i-test.true, c.loop-i.invariant.0)) (c.loop-i.invariant.2 ks p all d) c.part_at.ensures c.if-part_at.false),
+  c.part_at.auto.ways ∙ c.loop-i.invariant.3,
+  c.part_at.auto.seen ∙ c.loop-i.invariant.4,
+  c.part_at.auto.queue ∙ c.loop-i.invariant.5,
+)
 
 pub returns : goal.returns
 returns c =

@@ -1,8 +1,7 @@
 -- `branching::turn_back` meets its contract: no plan parts upwards at a reach passed.
 -- Assumes nothing.
-use Prim.Native.Nat.{ℕ, ◌≤◌, ◌-◌}
-use native.Mathlib.Omega.{arith}
-use mathlib.Core.Path.{◌≡◌, refl, sym, ◌∙◌}
+use Prim.Native.Nat.{ℕ, ◌≤◌}
+use mathlib.Core.Path.{◌≡◌}
 use mathlib.Core.List.{List}
 use lib.ListN.{length}
 use Rattle.tables.specs.Rows.{net_of}
@@ -10,8 +9,7 @@ use Rattle.orientations.specs.Partials.{StronglyConnectedBelow}
 use Rattle.orienting.specs.Ready.{Ready}
 use Rattle.series.specs.Guides.{Guides}
 use Rattle.branching.specs.Follows.{Following}
-use Rattle.branching.proofs.Follows.{Back, back_start, turn_on, turn-found, back_done}
-use Rattle.orienting.proofs.Readies.{ready-ways, ready-notes}
+use Rattle.branching.proofs.Follows.{Back}
 use Rattle.branching.proofs.turn_back.Given as goal
 
 abbrev pub invariant-loop-i : goal.invariant-loop-i

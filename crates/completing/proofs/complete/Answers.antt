@@ -1,31 +1,21 @@
 -- `completing::complete` meets its contract: as for `greedy`, and no gate is stuck, since none is a bridge.
 -- Assumes nothing.
-use Prim.Native.Nat.{ℕ, ◌≤◌, ◌-◌}
 use native.Mathlib.Omega.{arith}
 use native.Mathlib.Numerals.{add-one}
-use mathlib.Core.Path.{◌≡◌, refl, sym, ◌∙◌}
-use mathlib.Core.List.{List}
-use lib.ListN.{length}
-use Rattle.tables.specs.Rows.{net_of}
-use Rattle.orientations.specs.Partials.{Bridgeless}
-use Rattle.orienting.specs.Ready.{Ready}
-use Rattle.completing.specs.Greedy.{Completable}
-use Rattle.orientations.proofs.Goings.{Going, starts}
+use mathlib.Core.Path.{sym, ◌∙◌}
 use Rattle.completing.proofs.Goings.{settled_on, going-complete}
-use Rattle.series.specs.Guides.{Guides}
 use Rattle.orienting.proofs.Readies.{ready-ways, ready-notes}
 use Rattle.completing.proofs.complete.Goals as goal
 
 pub loop-i-preserved : goal.loop-i-preserved
-loop-i-preserved c =
-    (
-      omega (arith, c.loop-i-test.true),
-      ready-notes _ _ (ready-ways _ c.loop-i.invariant.1 c.settle.auto.ways) c.settle.auto.seen c.settle.auto.queue,
-      (λ ks p b d. rw add-one (settled_on p c.requires.ready.table.paired b c.args.guide.now d c.loop-i-test.true (c.loop-i.invariant.2 ks p b d) c.settle.ensures)),
-      c.settle.auto.ways ∙ c.loop-i.invariant.3,
-      c.settle.auto.seen ∙ c.loop-i.invariant.4,
-      c.settle.auto.queue ∙ c.loop-i.invariant.5,
-    )
+loop-i-preserved c = (
+  omega (arith, c.loop-i-test.true),
+  ready-notes _ _ (ready-ways _ c.loop-i.invariant.1 c.settle.auto.ways) c.settle.auto.seen c.settle.auto.queue,
+  (λ ks p b d. rw add-one (settled_on p c.requires.ready.table.paired b c.args.guide.now d c.loop-i-test.true (c.loop-i.invariant.2 ks p b d) c.settle.ensures)),
+  c.settle.auto.ways ∙ c.loop-i.invariant.3,
+  c.settle.auto.seen ∙ c.loop-i.invariant.4,
+  c.settle.auto.queue ∙ c.loop-i.invariant.5,
+)
 
 pub returns : goal.returns
 returns c =

@@ -1,19 +1,15 @@
 -- `completing::complete` meets its contract: as for `greedy`, and no gate is stuck, since none is a bridge.
 -- Assumes nothing.
 use Prim.Native.Nat.{ℕ, ◌≤◌, ◌-◌}
-use native.Mathlib.Omega.{arith}
-use native.Mathlib.Numerals.{add-one}
-use mathlib.Core.Path.{◌≡◌, refl, sym, ◌∙◌}
+use mathlib.Core.Path.{◌≡◌}
 use mathlib.Core.List.{List}
 use lib.ListN.{length}
 use Rattle.tables.specs.Rows.{net_of}
 use Rattle.orientations.specs.Partials.{Bridgeless}
 use Rattle.orienting.specs.Ready.{Ready}
 use Rattle.completing.specs.Greedy.{Completable}
-use Rattle.orientations.proofs.Goings.{Going, starts}
-use Rattle.completing.proofs.Goings.{settled_on, going-complete}
+use Rattle.orientations.proofs.Goings.{Going}
 use Rattle.series.specs.Guides.{Guides}
-use Rattle.orienting.proofs.Readies.{ready-ways, ready-notes}
 use Rattle.completing.proofs.complete.Given as goal
 
 abbrev pub invariant-loop-i : goal.invariant-loop-i

@@ -1,17 +1,10 @@
 -- `completing::greedy` meets its contract: the gates passed are decided, and what is least for them is least for the ways at the start.
 -- Assumes nothing.
-use Prim.Native.Nat.{◌≤◌, ◌-◌}
 use native.Mathlib.Omega.{arith}
 use native.Mathlib.Numerals.{add-one}
-use mathlib.Core.Path.{◌≡◌, refl, sym, ◌∙◌}
-use lib.ListN.{length}
-use borrow.Author.Tests.{not-true, not-false}
-use Rattle.tables.specs.Rows.{net_of}
-use Rattle.orienting.specs.Ready.{Ready}
-use Rattle.orientations.proofs.Goings.{Going, starts}
+use mathlib.Core.Path.{sym, ◌∙◌}
 use Rattle.completing.proofs.Goings.{going_on, going-bridge, plain-clear, going_done}
 use Rattle.orienting.proofs.Readies.{ready-ways, ready-notes}
-use Rattle.completing.proofs.greedy.Lts as lts
 use Rattle.completing.proofs.greedy.Goals as goal
 
 pub returns-then-not-orient_gate : goal.returns-then-not-orient_gate
@@ -20,17 +13,16 @@ returns-then-not-orient_gate c =
     c.args.ways.now c.args.from c.loop-i.ways c.loop-i.i (omega (arith, c.loop-i-test.true, c.requires.completable.kinds-full)) c.loop-i.invariant.2 _ c.orient_gate.ensures (c.if-not-orient_gate.true)
 
 pub loop-i-preserved : goal.loop-i-preserved
-loop-i-preserved c =
-    (
-      omega arith,
-      ready-notes _ _ (ready-ways _ c.loop-i.invariant.1 c.orient_gate.auto.ways) c.orient_gate.auto.seen c.orient_gate.auto.queue,
-      rw add-one
-          (going_on c.args.n c.args.kinds.now c.args.a.now c.args.b.now (sym c.requires.completable.kinds-full) (c.requires.ready.table.paired ∙ sym c.requires.completable.kinds-full) c.requires.completable.accepted c.args.kinds.now
-          c.args.ways.now c.args.from c.loop-i.ways c.loop-i.i (omega (arith, c.loop-i-test.true, c.requires.completable.kinds-full)) c.loop-i.invariant.2 (plain-clear c.args.n c.args.kinds.now c.args.a.now c.args.b.now (sym c.requires.completable.kinds-full) (c.requires.ready.table.paired ∙ sym c.requires.completable.kinds-full) c.loop-i.i (omega (arith, c.loop-i-test.true, c.requires.completable.kinds-full))) c.orient_gate.ensures (c.if-not-orient_gate.false)),
-      c.orient_gate.auto.ways ∙ c.loop-i.invariant.3,
-      c.orient_gate.auto.seen ∙ c.loop-i.invariant.4,
-      c.orient_gate.auto.queue ∙ c.loop-i.invariant.5,
-    )
+loop-i-preserved c = (
+  omega arith,
+  ready-notes _ _ (ready-ways _ c.loop-i.invariant.1 c.orient_gate.auto.ways) c.orient_gate.auto.seen c.orient_gate.auto.queue,
+  rw add-one
+      (going_on c.args.n c.args.kinds.now c.args.a.now c.args.b.now (sym c.requires.completable.kinds-full) (c.requires.ready.table.paired ∙ sym c.requires.completable.kinds-full) c.requires.completable.accepted c.args.kinds.now
+      c.args.ways.now c.args.from c.loop-i.ways c.loop-i.i (omega (arith, c.loop-i-test.true, c.requires.completable.kinds-full)) c.loop-i.invariant.2 (plain-clear c.args.n c.args.kinds.now c.args.a.now c.args.b.now (sym c.requires.completable.kinds-full) (c.requires.ready.table.paired ∙ sym c.requires.completable.kinds-full) c.loop-i.i (omega (arith, c.loop-i-test.true, c.requires.completable.kinds-full))) c.orient_gate.ensures (c.if-not-orient_gate.false)),
+  c.orient_gate.auto.ways ∙ c.loop-i.invariant.3,
+  c.orient_gate.auto.seen ∙ c.loop-i.invariant.4,
+  c.orient_gate.auto.queue ∙ c.loop-i.invariant.5,
+)
 
 pub returns : goal.returns
 returns c =

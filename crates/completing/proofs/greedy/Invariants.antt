@@ -1,17 +1,11 @@
 -- `completing::greedy` meets its contract: the gates passed are decided, and what is least for them is least for the ways at the start.
 -- Assumes nothing.
 use Prim.Native.Nat.{◌≤◌, ◌-◌}
-use native.Mathlib.Omega.{arith}
-use native.Mathlib.Numerals.{add-one}
-use mathlib.Core.Path.{◌≡◌, refl, sym, ◌∙◌}
+use mathlib.Core.Path.{◌≡◌}
 use lib.ListN.{length}
-use borrow.Author.Tests.{not-true, not-false}
 use Rattle.tables.specs.Rows.{net_of}
 use Rattle.orienting.specs.Ready.{Ready}
-use Rattle.orientations.proofs.Goings.{Going, starts}
-use Rattle.completing.proofs.Goings.{going_on, going-bridge, plain-clear, going_done}
-use Rattle.orienting.proofs.Readies.{ready-ways, ready-notes}
-use Rattle.completing.proofs.greedy.Lts as lts
+use Rattle.orientations.proofs.Goings.{Going}
 use Rattle.completing.proofs.greedy.Given as goal
 
 abbrev pub invariant-loop-i : goal.invariant-loop-i

@@ -1,13 +1,8 @@
 -- `contraction_laws::contract_again` meets its contract: what the two calls promise gives the law.
 -- Assumes nothing.
-use mathlib.Core.Path.{sym}
-use Prim.Native.Nat.{ℕ, ◌≤◌}
-use lib.ListN.{length}
-use lib.Seq.{length-take-le}
 use Rattle.network.specs.Networks.{Network}
 use Rattle.tables.specs.Rows.{net_of}
-use Rattle.contraction_laws.proofs.Contractions.{again-refused, again-given}
-use borrow.Author.Rules.{rules}
+use Rattle.contraction_laws.proofs.Contractions.{again-given}
 use Rattle.contraction_laws.proofs.contract_again.Goals as goal
 
 pub returns-in-Contracted : goal.returns-in-Contracted

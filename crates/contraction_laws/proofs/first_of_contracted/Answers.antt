@@ -1,13 +1,8 @@
 -- `contraction_laws::first_of_contracted` meets its contract: what the two calls promise gives the law.
 -- Assumes nothing.
-use mathlib.Core.Path.{sym}
-use Prim.Native.Nat.{ℕ, ◌≤◌}
-use lib.ListN.{length}
-use lib.Seq.{length-take-le}
 use Rattle.network.specs.Networks.{Network}
 use Rattle.tables.specs.Rows.{net_of}
 use Rattle.contraction_laws.proofs.Contractions.{first-refused, first-choice, asked-refused, asked-given}
-use borrow.Author.Rules.{rules}
 use Rattle.contraction_laws.proofs.first_of_contracted.Goals as goal
 
 pub returns-in-Refused : goal.returns-in-Refused

@@ -1,11 +1,8 @@
 -- `deciding::orient_gate` meets its contract: as drawn, else turned.
 -- Assumes nothing.
-use native.Mathlib.Omega.{arith}
-use mathlib.Core.Path.{refl, ◌∙◌}
-use lib.ListN.{length-set}
-use borrow.Author.Rules.{rules}
+use mathlib.Core.Path.{refl}
 use Rattle.deciding.specs.Gates.{no-gate}
-use Rattle.orienting.proofs.Readies.{searchable, ready-ways, ready-notes, ready-noted, kind-gate}
+use Rattle.orienting.proofs.Readies.{ready-noted, kind-gate}
 use Rattle.network.proofs.Networks.{not-gated}
 use Rattle.deciding.proofs.Gates.{gate-drawn, gate-turned, gate-neither}
 use Rattle.deciding.proofs.orient_gate.Goals as goal

@@ -1,8 +1,6 @@
 -- `deciding::settle` meets its contract: as drawn, else turned.
 -- Assumes nothing.
-use native.Mathlib.Omega.{arith}
 use mathlib.Core.Path.{refl}
-use borrow.Author.Rules.{rules}
 use Rattle.deciding.specs.Gates.{as_it_was}
 use Rattle.orienting.proofs.Readies.{kind-gate}
 use Rattle.network.proofs.Networks.{not-gated}

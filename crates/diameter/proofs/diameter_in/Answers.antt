@@ -4,7 +4,6 @@ use native.Mathlib.Omega.{arith}
 use mathlib.Core.Path.{sym}
 use lib.Seq.{length-take-le}
 use Rattle.finder.proofs.Rooms.{level-few, level-room}
-use borrow.Author.Rules.{rules}
 use Rattle.diameter.proofs.diameter_in.Goals as goal
 
 pub slice_bounds-diameter_under-end : goal.slice_bounds-diameter_under-end

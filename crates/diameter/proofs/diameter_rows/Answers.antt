@@ -3,7 +3,6 @@
 use mathlib.Core.Path.{◌≡◌, sym, ap, ◌∙◌}
 use mathlib.Core.Option.{none}
 use lib.Seq.{length-take-le}
-use borrow.Author.Rules.{rules}
 use Rattle.network.specs.Networks.{Network}
 use Rattle.network.specs.Replies.{check_fault}
 use Rattle.tables.specs.Rows.{net_of}

@@ -1,7 +1,6 @@
 -- `diameter_under` meets its contract: the ways and the index are made, and the longest is looked for.
 -- Assumes nothing.
-use mathlib.Core.Path.{refl, sym}
-use borrow.Author.Rules.{rules}
+use mathlib.Core.Path.{refl}
 use Rattle.finder.proofs.Rooms.{room-level, room-index, room-ready}
 use Rattle.diameter.proofs.Rows.{rows-diameter}
 use Rattle.diameter.proofs.diameter_under.Goals as goal

@@ -1,10 +1,8 @@
 -- `eccentricity` meets its contract: a search, and the greatest count that it has noted for a wet basin.
 -- Assumes nothing.
-use native.Mathlib.Omega.{arith}
 use mathlib.Core.Path.{◌∙◌}
 use Rattle.half_edges.specs.Ends.{arcs_of}
 use Rattle.tables.specs.Rows.{net_of}
-use Rattle.orienting.proofs.Readies.{searchable, tabled}
 use Rattle.eccentricity.proofs.Mosts.{counts-farthest}
 use Rattle.eccentricity.proofs.eccentricity.Goals as goal
 

@@ -1,10 +1,9 @@
 -- `greatest_count` meets its contract: of the basins passed none has more.
 -- Assumes nothing.
 use Prim.Native.Nat.{◌-◌, ◌≤◌}
-use native.Mathlib.Omega.{arith}
 use Rattle.tables.specs.Rows.{net_of}
 use Rattle.eccentricity.specs.Rows.{count_at}
-use Rattle.eccentricity.proofs.Mosts.{Most, most-none, most-more, most-all}
+use Rattle.eccentricity.proofs.Mosts.{Most}
 use Rattle.eccentricity.proofs.greatest_count.Given as goal
 
 abbrev pub invariant-loop-v : goal.invariant-loop-v

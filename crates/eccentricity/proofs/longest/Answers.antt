@@ -1,16 +1,14 @@
 -- `longest` meets its contract: from none of the basins passed is it farther.
 -- Assumes nothing.
-use Prim.Native.Nat.{ℕ, ◌-◌, ◌≤◌}
-use mathlib.Core.Path.{◌≡◌, refl, ◌∙◌}
+use Prim.Native.Nat.{ℕ}
+use mathlib.Core.Path.{◌∙◌}
 use native.Mathlib.Omega.{arith}
-use lib.ListN.{length}
 use Rattle.network.specs.Networks.{basins_of}
 use Rattle.distances.specs.Diameters.{farthest}
 use Rattle.distances.proofs.Diameters.{farthest-most}
 use Rattle.half_edges.specs.Ends.{arcs_of}
 use Rattle.tables.specs.Rows.{net_of}
-use Rattle.orienting.proofs.Readies.{ready-notes}
-use Rattle.eccentricity.proofs.Mosts.{Most, most-none, most-more, most-all, most-top}
+use Rattle.eccentricity.proofs.Mosts.{most-more, most-all, most-top}
 use Rattle.eccentricity.proofs.longest.Goals as goal
 
 pub returns-then-most-ge-UNREACHED : goal.returns-then-most-ge-UNREACHED
@@ -20,8 +18,7 @@ returns-then-most-ge-UNREACHED c =
 
 pub loop-v-preserved : goal.loop-v-preserved
 loop-v-preserved c =
-    let far : ℕ → ℕ = farthest (basins_of (net_of c.args.n c.args.kinds.now c.args.a.now c.args.b.now)) (arcs_of c.args.a.now c.args.b.now c.args.ways.now) in
-    (
+    let far : ℕ → ℕ = farthest (basins_of (net_of c.args.n c.args.kinds.now c.args.a.now c.args.b.now)) (arcs_of c.args.a.now c.args.b.now c.args.ways.now) in (
       omega (arith, c.loop-v-test.true),
       most-more (net_of c.args.n c.args.kinds.now c.args.a.now c.args.b.now) (far) c.loop-v.v c.loop-v.most c.loop-v.invariant.1 c.longest_in-most.ensures,
       c.longest_in-most.auto.seen ∙ c.loop-v.invariant.2,

@@ -1,16 +1,13 @@
 -- `longest` meets its contract: from none of the basins passed is it farther.
 -- Assumes nothing.
-use Prim.Native.Nat.{ℕ, ◌-◌, ◌≤◌}
-use mathlib.Core.Path.{◌≡◌, refl, ◌∙◌}
-use native.Mathlib.Omega.{arith}
+use Prim.Native.Nat.{◌-◌, ◌≤◌}
+use mathlib.Core.Path.{◌≡◌}
 use lib.ListN.{length}
 use Rattle.network.specs.Networks.{basins_of}
 use Rattle.distances.specs.Diameters.{farthest}
-use Rattle.distances.proofs.Diameters.{farthest-most}
 use Rattle.half_edges.specs.Ends.{arcs_of}
 use Rattle.tables.specs.Rows.{net_of}
-use Rattle.orienting.proofs.Readies.{ready-notes}
-use Rattle.eccentricity.proofs.Mosts.{Most, most-none, most-more, most-all, most-top}
+use Rattle.eccentricity.proofs.Mosts.{Most}
 use Rattle.eccentricity.proofs.longest.Given as goal
 
 abbrev pub invariant-loop-v : goal.invariant-loop-v

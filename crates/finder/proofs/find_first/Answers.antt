@@ -1,8 +1,7 @@
 -- `finder::find_first` meets its contract: the working memory is filled with no gate oriented.
 -- Assumes nothing.
 use mathlib.Core.Path.{refl}
-use borrow.Author.Rules.{rules}
-use Rattle.finder.proofs.Rooms.{room-level, room-index, room-ready}
+use Rattle.finder.proofs.Rooms.{room-index, room-ready}
 use Rattle.finder.proofs.find_first.Goals as goal
 
 pub prepare-requires : goal.prepare-requires

@@ -1,8 +1,7 @@
 -- `finder::find_next` meets its contract: the working memory is filled with the setting's ways.
 -- Assumes nothing.
 use mathlib.Core.Path.{refl}
-use borrow.Author.Rules.{rules}
-use Rattle.finder.proofs.Rooms.{room-level, room-index, room-ready}
+use Rattle.finder.proofs.Rooms.{room-index, room-ready}
 use Rattle.finder.proofs.find_next.Goals as goal
 
 pub prepare-requires : goal.prepare-requires

@@ -1,7 +1,6 @@
 -- `finder::strongly_connected_under` meets its contract: two searches.
 -- Assumes nothing.
-use mathlib.Core.Path.{refl, sym}
-use borrow.Author.Rules.{rules}
+use mathlib.Core.Path.{refl}
 use Rattle.seeking.proofs.Firsts.{under-basin}
 use Rattle.finder.proofs.Rooms.{room-level, room-index, room-ready}
 use Rattle.finder.proofs.strongly_connected_under.Goals as goal

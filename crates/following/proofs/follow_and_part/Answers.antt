@@ -1,10 +1,6 @@
 -- `following::follow_and_part` meets its contract: the setting is left at the gate where it stopped or before.
 -- Assumes nothing.
 use native.Mathlib.Omega.{arith}
-use mathlib.Core.Path.{◌∙◌}
-use lib.ListN.{length-set}
-use borrow.Author.Rules.{rules}
-use Rattle.orienting.proofs.Readies.{ready-ways, ready-notes}
 use Rattle.following.proofs.Nexts.{follow-start, follow-connected, follow-length, follow-below, follow-partable, follow-found}
 use Rattle.following.proofs.follow_and_part.Goals as goal
 

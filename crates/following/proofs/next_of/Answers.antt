@@ -1,7 +1,6 @@
 -- `following::next_of` meets its contract: the setting is a plan or not, and is left accordingly.
 -- Assumes nothing.
-use mathlib.Core.Path.{sym, ◌∙◌}
-use Rattle.orienting.proofs.Readies.{ready-ways, ready-notes}
+use Rattle.orienting.proofs.Readies.{ready-ways}
 use Rattle.following.proofs.Nexts.{setting-room, seek-plan, seek-other, seek_found}
 use Rattle.following.proofs.next_of.Goals as goal
 

@@ -1,10 +1,7 @@
 -- `following::next_of_other` meets its contract: a finding is one whatever is asked for, and with a plan the setting is followed.
 -- Assumes nothing.
-use mathlib.Core.Path.{◌∙◌}
-use borrow.Author.Rules.{rules}
 use Rattle.tables.specs.Rows.{net_of}
-use Rattle.orienting.proofs.Readies.{ready-ways, ready-notes}
-use Rattle.following.proofs.Nexts.{closed-next, bridge-next, other-followable}
+use Rattle.following.proofs.Nexts.{closed-next, bridge-next}
 use Rattle.following.proofs.next_of_other.Goals as goal
 
 pub returns-in-Closed : goal.returns-in-Closed

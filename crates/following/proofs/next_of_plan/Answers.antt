@@ -1,9 +1,6 @@
 -- `following::next_of_plan` meets its contract: a plan is all hung, and it is left at the last gate at which another can part.
 -- Assumes nothing.
-use mathlib.Core.Path.{◌∙◌}
-use Rattle.orienting.proofs.Readies.{ready-ways}
 use Rattle.seeking.proofs.Seeks.{plan-binds, plan-partable, plan-found}
-use borrow.Author.Rules.{rules}
 use Rattle.following.proofs.next_of_plan.Goals as goal
 
 pub part_from-requires-clause-partable : goal.part_from-requires-clause-partable

@@ -1,8 +1,7 @@
 -- `fill_row` meets its contract. The loop's invariant: the first i numbers are x and the others as they were. The measure is n less i.
 -- Assumes nothing.
 use Prim.Native.Nat.{◌-◌}
-use native.Mathlib.Omega.{arith}
-use Rattle.half_edges.proofs.Fills.{FilledTo, filled_none, filled_more, filled-all}
+use Rattle.half_edges.proofs.Fills.{FilledTo}
 use Rattle.half_edges.proofs.fill_row.Given as goal
 
 abbrev pub invariant-loop-i : goal.invariant-loop-i

@@ -1,11 +1,9 @@
 -- `index` meets its contract. The loop's invariant: the half-edges of the first i reaches are linked, and both slices keep their lengths. The measure is what is left of the reaches.
 -- Assumes nothing.
-use Prim.Native.Nat.{◌*◌, ◌-◌, ◌≤◌, ◌<◌}
-use mathlib.Core.Path.{◌≡◌, refl, ◌∙◌}
-use native.Mathlib.Omega.{arith}
-use lib.ListN.{length, get_or}
+use Prim.Native.Nat.{◌*◌, ◌-◌, ◌≤◌}
+use mathlib.Core.Path.{◌≡◌}
+use lib.ListN.{length}
 use Rattle.half_edges.specs.Chains.{Linked}
-use Rattle.half_edges.proofs.Links.{linked-none, linked-reach}
 use Rattle.half_edges.proofs.index.Given as goal
 
 abbrev pub invariant-loop-i : goal.invariant-loop-i

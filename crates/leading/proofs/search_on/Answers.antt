@@ -1,17 +1,14 @@
 -- `search_on` meets its contract. The loop's invariant: both searches are under way. The measure is what is left of both queues.
 -- Assumes nothing.
-use Prim.Native.Nat.{ℕ, ◌+◌, ◌-◌, ◌<◌}
+use Prim.Native.Nat.{ℕ, ◌<◌}
 use mathlib.Core.Path.{◌≡◌, sym, ◌∙◌}
-use mathlib.Core.Bool.{true, false}
 use mathlib.Core.List.{List, map}
 use native.Mathlib.Omega.{arith}
-use lib.ListN.{length}
 use Rattle.network.specs.Orientations.{Arc, reached}
 use Rattle.half_edges.specs.Ends.{arcs_of, flip_way, Next}
 use Rattle.half_edges.proofs.Halves.{arc-below}
 use Rattle.half_edges.proofs.Laws.{reached-flipped}
-use Rattle.leading.specs.Leads.{BothSearching}
-use Rattle.leading.proofs.Joint.{swapped, spreadable, both-on, both-met, both-shut}
+use Rattle.leading.proofs.Joint.{swapped, both-on, both-met, both-shut}
 use Rattle.leading.proofs.search_on.Goals as goal
 
 pub returns-then-updone-uptail : goal.returns-then-updone-uptail

@@ -1,9 +1,8 @@
 -- `visit` meets its contract. Where w is unseen, the room asked for leaves a place in the queue.
 -- Assumes nothing.
 use Prim.Native.Nat.{◌<◌}
-use borrow.Author.Rules.{rules}
 use native.Mathlib.Omega.{arith}
-use Rattle.search.specs.Searches.{Unseen, unseen}
+use Rattle.search.specs.Searches.{Unseen}
 use Rattle.search.proofs.Counts.{unseen-set}
 use Rattle.leading.specs.Leads.{first, again}
 use Rattle.leading.proofs.visit.Goals as goal

@@ -1,9 +1,8 @@
 -- `orienting::first_unreached` meets its contract: a search with no goal, and the lowest wet basin that it left.
 -- Assumes nothing.
-use native.Mathlib.Omega.{arith}
 use Rattle.half_edges.specs.Ends.{arcs_of, sided}
 use Rattle.tables.specs.Rows.{net_of}
-use Rattle.orienting.proofs.Readies.{searchable, tabled, ready-noted, unreached-first}
+use Rattle.orienting.proofs.Readies.{ready-noted, unreached-first}
 use Rattle.orienting.proofs.first_unreached.Goals as goal
 
 pub returns : goal.returns

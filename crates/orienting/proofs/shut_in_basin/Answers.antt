@@ -3,7 +3,7 @@
 use native.Mathlib.Omega.{arith}
 use Rattle.half_edges.specs.Ends.{arcs_of}
 use Rattle.tables.specs.Rows.{net_of}
-use Rattle.orienting.proofs.Readies.{tabled, shut-in-none}
+use Rattle.orienting.proofs.Readies.{shut-in-none}
 use Rattle.orienting.proofs.shut_in_basin.Goals as goal
 
 pub returns-then-low-n : goal.returns-then-low-n

@@ -1,11 +1,10 @@
 -- `orienting::shut_in_from` meets its contract: a search from the lowest wet basin, and one against the arrows.
 -- Assumes nothing.
 use native.Mathlib.Omega.{arith}
-use mathlib.Core.Path.{◌∙◌}
 use Rattle.half_edges.specs.Ends.{arcs_of}
 use Rattle.half_edges.proofs.Laws.{reached-flipped}
 use Rattle.tables.specs.Rows.{net_of}
-use Rattle.orienting.proofs.Readies.{ready-notes, shut-in-lowest, shut-in-back}
+use Rattle.orienting.proofs.Readies.{shut-in-lowest, shut-in-back}
 use Rattle.orienting.proofs.shut_in_from.Goals as goal
 
 pub returns-then-first_unreached-n : goal.returns-then-first_unreached-n

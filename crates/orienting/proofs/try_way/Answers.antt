@@ -1,9 +1,6 @@
 -- `orienting::try_way` meets its contract: the search without the reach decides.
 -- Assumes nothing.
-use native.Mathlib.Omega.{arith}
-use mathlib.Core.Path.{◌∙◌}
-use lib.ListN.{length-set}
-use Rattle.orienting.proofs.Readies.{searchable, ready-ways, tried-drawn, tried-turned}
+use Rattle.orienting.proofs.Readies.{tried-drawn, tried-turned}
 use Rattle.orienting.proofs.try_way.Goals as goal
 
 pub returns-then-way-eq0 : goal.returns-then-way-eq0

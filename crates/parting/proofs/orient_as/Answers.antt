@@ -1,8 +1,6 @@
 -- `parting::orient_as` meets its contract: the try that the byte asks for.
 -- Assumes nothing.
-use native.Mathlib.Omega.{arith}
 use mathlib.Core.Path.{refl}
-use borrow.Author.Rules.{rules}
 use Rattle.parting.specs.Parts.{no-gate, as-under}
 use Rattle.orienting.proofs.Readies.{kind-gate}
 use Rattle.network.proofs.Networks.{not-gated}

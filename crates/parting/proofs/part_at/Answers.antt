@@ -1,8 +1,6 @@
 -- `parting::part_at` meets its contract: a gate that is as drawn is tried turned.
 -- Assumes nothing.
-use native.Mathlib.Omega.{arith}
 use mathlib.Core.Path.{refl}
-use borrow.Author.Rules.{rules}
 use Rattle.parting.specs.Parts.{passed, freed, tried}
 use Rattle.orienting.proofs.Readies.{kind-gate}
 use Rattle.network.proofs.Networks.{not-gated}

@@ -2,7 +2,6 @@
 -- Assumes nothing.
 use Rattle.tables.specs.Rows.{net_of}
 use Rattle.planner_laws.proofs.Demands.{first-asked}
-use borrow.Author.Rules.{rules}
 use Rattle.planner_laws.proofs.first_shown_rows.Goals as goal
 
 pub returns : goal.returns

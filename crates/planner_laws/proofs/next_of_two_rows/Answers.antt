@@ -2,7 +2,6 @@
 -- Assumes nothing.
 use Rattle.tables.specs.Rows.{net_of}
 use Rattle.planner_laws.proofs.Demands.{next-of-two}
-use borrow.Author.Rules.{rules}
 use Rattle.planner_laws.proofs.next_of_two_rows.Goals as goal
 
 pub returns : goal.returns

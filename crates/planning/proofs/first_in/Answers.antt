@@ -7,7 +7,6 @@ use Rattle.network.proofs.Networks.{accepted}
 use Rattle.tables.specs.Rows.{net_of}
 use Rattle.finder.proofs.Rooms.{level-few, level-room}
 use Rattle.planning.proofs.Working.{first_fits, first-written}
-use borrow.Author.Rules.{rules}
 use Rattle.planning.proofs.first_in.Goals as goal
 
 pub slice_bounds-oriented-end : goal.slice_bounds-oriented-end

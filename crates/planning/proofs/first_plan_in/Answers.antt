@@ -4,7 +4,6 @@ use mathlib.Core.Path.{◌≡◌, sym, ◌∙◌}
 use mathlib.Core.Option.{none}
 use lib.ListN.{length}
 use lib.Seq.{length-take-le}
-use borrow.Author.Rules.{rules}
 use Rattle.network.specs.Networks.{Network, table_fault}
 use Rattle.network.specs.Replies.{first_of, room_fault}
 use Rattle.tables.specs.Rows.{net_of}

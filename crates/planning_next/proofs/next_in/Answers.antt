@@ -5,10 +5,8 @@ use mathlib.Core.Path.{sym, ◌∙◌}
 use lib.Seq.{length-take-le}
 use Rattle.network.proofs.Networks.{accepted}
 use Rattle.tables.specs.Rows.{net_of}
-use Rattle.replies.proofs.Refusals.{refused-written}
 use Rattle.finder.proofs.Rooms.{level-few, level-room}
-use Rattle.planning_next.proofs.Working.{next-at, next_last, next-written}
-use borrow.Author.Rules.{rules}
+use Rattle.planning_next.proofs.Working.{next-at, next-written}
 use Rattle.planning_next.proofs.next_in.Goals as goal
 
 pub slice_bounds-oriented-end : goal.slice_bounds-oriented-end
@@ -25,10 +23,10 @@ slice_bounds-find_next-end-2 c = sym (length-take-le _ c.args.under.now (omega (
 
 pub find_next-sought-requires : goal.find_next-sought-requires
 find_next-sought-requires c = record {
-      room = level-room c.requires.lent.level c.requires.space;
-      under-room = length-take-le _ c.args.under.now (omega (arith, level-few c.requires.lent.level, c.requires.under_len));
-      fits = c.requires.setting_value;
-    }
+  room = level-room c.requires.lent.level c.requires.space;
+  under-room = length-take-le _ c.args.under.now (omega (arith, level-few c.requires.lent.level, c.requires.under_len));
+  fits = c.requires.setting_value;
+}
 
 pub report-requires : goal.report-requires
 report-requires c = let facts = accepted (net_of c.args.n c.args.kinds.now c.args.a.now c.args.b.now) c.requires.lent.level.accepted in

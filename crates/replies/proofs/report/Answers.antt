@@ -7,7 +7,6 @@ use Rattle.seeking.specs.declared.Found.{Found}
 use Rattle.seeking.specs.declared.Found.TheVariants.{Bridge}
 use Rattle.seeking.specs.Found.{reach_found}
 use Rattle.replies.proofs.Reported.{reported-shut, reported-lone, reported-plan}
-use borrow.Author.Rules.{rules}
 use Rattle.replies.proofs.report.Goals as goal
 
 -- the reach found fits

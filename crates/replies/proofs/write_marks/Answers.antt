@@ -2,7 +2,6 @@
 -- Assumes nothing.
 use Rattle.marks.specs.Sets.{marked_set}
 use Rattle.replies.proofs.Reported.{marks-written}
-use borrow.Author.Rules.{rules}
 use Rattle.replies.proofs.write_marks.Goals as goal
 
 pub returns : goal.returns

@@ -1,6 +1,5 @@
 -- `begin` meets its contract: after the notes are cleared start is not seen, and its visit is the first.
 -- Assumes nothing.
-use borrow.Author.Rules.{rules}
 use Rattle.search.proofs.Fronts.{first-visit}
 use Rattle.search.proofs.begin.Goals as goal
 

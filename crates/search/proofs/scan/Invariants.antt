@@ -1,19 +1,10 @@
 -- `scan` meets its contract. The loop's invariant is `Scanning`: all half-edges at the basin from some x on are done, and h is the last one below x.
 -- The measure is h + 1, or 0 where h is `none`.
 -- Assumes nothing.
-use Prim.Native.Nat.{◌+◌, ◌%◌, ◌<◌}
-use native.Mathlib.Omega.{arith}
-use mathlib.Core.Path.{sym, ◌∙◌}
-use mathlib.Core.Logic.{⊎_elim}
-use lib.ListN.{length, get_or}
-use Rattle.half_edges.specs.Ends.{halves, sided, other_of}
-use Rattle.search.specs.Searches.{stay}
-use Rattle.half_edges.proofs.Halves.{end_below}
-use Rattle.half_edges.proofs.Laws.{table-turned}
-use Rattle.search.proofs.Sides.{length-sided}
-use Rattle.search.proofs.Visits.{grew_none}
-use Rattle.half_edges.proofs.Hands.{Current, current, falls}
-use Rattle.search.proofs.Scans.{Scanning, turn-past, turn-through, renamed, scanned}
+use Prim.Native.Nat.{◌+◌, ◌%◌}
+use lib.ListN.{get_or}
+use Rattle.half_edges.specs.Ends.{sided}
+use Rattle.search.proofs.Scans.{Scanning}
 use Rattle.search.proofs.scan.Given as goal
 
 abbrev pub invariant-loop-h : goal.invariant-loop-h

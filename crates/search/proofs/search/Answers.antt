@@ -2,25 +2,23 @@
 -- seen; and `Counting`: the counts are those of walks, and none of what no longer waits leads to a count of more than one more.
 -- The measure is what is left of the queue.
 -- Assumes nothing.
-use Prim.Native.Nat.{ℕ, ◌+◌, ◌-◌, ◌<◌}
-use mathlib.Core.Path.{◌≡◌, refl, ◌∙◌}
+use Prim.Native.Nat.{ℕ, ◌+◌, ◌<◌}
+use mathlib.Core.Path.{refl, ◌∙◌}
 use native.Mathlib.Omega.{arith}
-use lib.ListN.{length, get_or}
+use lib.ListN.{get_or}
 use Rattle.half_edges.specs.Ends.{arcs_of, sided, Next}
 use Rattle.half_edges.proofs.Halves.{arc-below}
 use Rattle.distances.specs.Distances.{unreached}
-use Rattle.search.specs.Fronts.{Searching, Counting}
 use Rattle.search.proofs.Fronts.{begins, scans, count-below, counts-begin, counts-on, counts_end}
 use Rattle.search.proofs.search.Goals as goal
 
 pub loop-at-init : goal.loop-at-init
-loop-at-init c =
-    (
-      begins c.args.seen.now c.requires.seen-room c.requires.queue-room c.requires.starts refl c.begin-tail.ensures,
-      counts-begin c.args.seen.now c.requires.seen-room c.requires.queue-room c.requires.starts c.begin-tail.ensures,
-      refl,
-      refl,
-    )
+loop-at-init c = (
+  begins c.args.seen.now c.requires.seen-room c.requires.queue-room c.requires.starts refl c.begin-tail.ensures,
+  counts-begin c.args.seen.now c.requires.seen-room c.requires.queue-room c.requires.starts c.begin-tail.ensures,
+  refl,
+  refl,
+)
 
 pub scan-tail-requires : goal.scan-tail-requires
 scan-tail-requires c =

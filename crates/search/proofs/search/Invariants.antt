@@ -2,15 +2,11 @@
 -- seen; and `Counting`: the counts are those of walks, and none of what no longer waits leads to a count of more than one more.
 -- The measure is what is left of the queue.
 -- Assumes nothing.
-use Prim.Native.Nat.{ℕ, ◌+◌, ◌-◌, ◌<◌}
-use mathlib.Core.Path.{◌≡◌, refl, ◌∙◌}
-use native.Mathlib.Omega.{arith}
-use lib.ListN.{length, get_or}
-use Rattle.half_edges.specs.Ends.{arcs_of, sided, Next}
-use Rattle.half_edges.proofs.Halves.{arc-below}
-use Rattle.distances.specs.Distances.{unreached}
+use Prim.Native.Nat.{◌-◌}
+use mathlib.Core.Path.{◌≡◌}
+use lib.ListN.{length}
+use Rattle.half_edges.specs.Ends.{arcs_of, sided}
 use Rattle.search.specs.Fronts.{Searching, Counting}
-use Rattle.search.proofs.Fronts.{begins, scans, count-below, counts-begin, counts-on, counts_end}
 use Rattle.search.proofs.search.Given as goal
 
 abbrev pub invariant-loop-at : goal.invariant-loop-at

@@ -1,6 +1,5 @@
 -- `visit` meets its contract. Where w is unseen, the room asked for leaves a place in the queue.
 -- Assumes nothing.
-use borrow.Author.Rules.{rules}
 use native.Mathlib.Omega.{arith}
 use Rattle.search.specs.Searches.{first, again}
 use Rattle.search.proofs.Counts.{unseen-set}

@@ -1,9 +1,8 @@
 -- `seeking::first_from` meets its contract: a closed set where some wet basin does not reach all, else as the gates can be oriented.
 -- Assumes nothing.
 use Prim.Native.Nat.{◌<◌}
-use mathlib.Core.Path.{refl, sym, ◌∙◌}
 use native.Mathlib.Omega.{arith}
-use Rattle.orienting.proofs.Readies.{searchable, ready-notes, ready-noted}
+use Rattle.orienting.proofs.Readies.{ready-noted}
 use Rattle.seeking.proofs.Rows.{row-passable, row-closed}
 use Rattle.seeking.proofs.first_from.Goals as goal
 

@@ -1,8 +1,6 @@
 -- `seeking::orient_all` meets its contract: the gates are decided one after the other, and the side of a bridge is noted.
 -- Assumes nothing.
 use native.Mathlib.Omega.{arith}
-use mathlib.Core.Path.{sym, ◌∙◌}
-use Rattle.orienting.proofs.Readies.{tabled}
 use Rattle.seeking.proofs.Rows.{open-completable, row-bridge, row-plan}
 use Rattle.seeking.proofs.orient_all.Goals as goal
 

@@ -1,7 +1,6 @@
 -- `seeking::part_from` meets its contract: the step makes the next plan, or none is later.
 -- Assumes nothing.
 use native.Mathlib.Omega.{arith}
-use mathlib.Core.Path.{refl}
 use Rattle.series.proofs.Channels.{none-guided}
 use Rattle.seeking.proofs.Seeks.{part-rows, row_last, row_next}
 use Rattle.seeking.proofs.part_from.Goals as goal

@@ -1,9 +1,6 @@
 -- `seeking::step_from` meets its contract: the gates after the last one at which a plan can part are decided.
 -- Assumes nothing.
-use mathlib.Core.Path.{◌∙◌}
 use native.Mathlib.Omega.{arith}
-use borrow.Author.Rules.{rules}
-use Rattle.orienting.proofs.Readies.{ready-ways, ready-notes}
 use Rattle.seeking.proofs.Seeks.{bridgeless, part-following, step-completable, step-completed, step-none}
 use Rattle.seeking.proofs.step_from.Goals as goal
 

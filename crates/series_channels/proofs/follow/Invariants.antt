@@ -1,14 +1,12 @@
 -- `series_channels::follow` meets its contract.
 -- Assumes nothing.
 use Prim.Native.Nat.{ℕ, ◌/◌, ◌≤◌, ◌<◌}
-use native.Mathlib.Omega.{arith}
-use mathlib.Core.Path.{◌≡◌, refl, sym, ◌∙◌}
+use mathlib.Core.Path.{◌≡◌}
 use lib.ListN.{length, get_or}
 use Rattle.half_edges.specs.Ends.{halves}
 use Rattle.tables.specs.Rows.{net_of}
 use Rattle.series_channels.specs.Channels.{Guiding}
-use Rattle.series_channels.proofs.Ways.{Came, at-start, follow-more}
-use Rattle.series_channels.proofs.Partners.{partner-below}
+use Rattle.series_channels.proofs.Ways.{Came}
 use Rattle.series_channels.proofs.follow.Given as goal
 
 abbrev pub invariant-loop-left : goal.invariant-loop-left

@@ -1,9 +1,8 @@
 -- `series_channels::note` meets its contract.
 -- Assumes nothing.
 use Prim.Native.Nat.{◌/◌}
-use native.Mathlib.Omega.{arith}
 use mathlib.Core.Path.{refl, ap}
-use lib.ListN.{set, length-set}
+use lib.ListN.{set}
 use Rattle.series_channels.specs.Channels.{noted, unchanged}
 use Rattle.series_channels.proofs.note.Goals as goal
 

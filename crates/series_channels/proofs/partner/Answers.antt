@@ -3,11 +3,9 @@
 use Prim.Native.Nat.{◌<◌}
 use native.Mathlib.Omega.{arith}
 use mathlib.Core.Path.{refl}
-use Rattle.half_edges.specs.Ends.{halves, end_of}
 use Rattle.half_edges.specs.Chains.{no_half}
-use Rattle.half_edges.proofs.Halves.{end_below}
 use Rattle.series_channels.specs.Channels.{nobody}
-use Rattle.series_channels.proofs.Partners.{Looked, looked-start, looked-below, looked-on, looked-found, looked-all}
+use Rattle.series_channels.proofs.Partners.{looked-on, looked-found, looked-all}
 use Rattle.series_channels.proofs.partner.Goals as goal
 
 pub returns-then-found-h : goal.returns-then-found-h

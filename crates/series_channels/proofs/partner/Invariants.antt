@@ -1,13 +1,7 @@
 -- `series_channels::partner` meets its contract. The loop's invariant is `Looked`: all half-edges in service so far are h or what was found.
 -- Assumes nothing.
-use Prim.Native.Nat.{◌<◌}
-use native.Mathlib.Omega.{arith}
-use mathlib.Core.Path.{refl}
-use Rattle.half_edges.specs.Ends.{halves, end_of}
-use Rattle.half_edges.specs.Chains.{no_half}
-use Rattle.half_edges.proofs.Halves.{end_below}
-use Rattle.series_channels.specs.Channels.{nobody}
-use Rattle.series_channels.proofs.Partners.{Looked, looked-start, looked-below, looked-on, looked-found, looked-all}
+use Rattle.half_edges.specs.Ends.{end_of}
+use Rattle.series_channels.proofs.Partners.{Looked}
 use Rattle.series_channels.proofs.partner.Given as goal
 
 abbrev pub invariant-loop-left : goal.invariant-loop-left

@@ -1,12 +1,9 @@
 -- `series_channels::pass` meets its contract.
 -- Assumes nothing.
-use Prim.Native.Nat.{◌+◌, ◌*◌, ◌-◌, ◌≤◌, ◌<◌}
-use native.Mathlib.Omega.{arith}
-use mathlib.Core.Path.{◌≡◌, refl, ◌∙◌}
+use Prim.Native.Nat.{◌-◌, ◌≤◌}
+use mathlib.Core.Path.{◌≡◌}
 use lib.ListN.{length}
-use Rattle.half_edges.specs.Chains.{no_half}
 use Rattle.series_channels.specs.Channels.{Guiding}
-use Rattle.series_channels.proofs.Ways.{kind-even, kind-odd}
 use Rattle.series_channels.proofs.pass.Given as goal
 
 abbrev pub invariant-loop-i : goal.invariant-loop-i

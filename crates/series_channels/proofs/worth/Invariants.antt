@@ -1,7 +1,6 @@
 -- `series_channels::worth` is safe and ends; it promises nothing.
 -- Assumes nothing.
 use Prim.Native.Nat.{◌≤◌}
-use native.Mathlib.Omega.{arith}
 use lib.ListN.{length}
 use Rattle.series_channels.proofs.worth.Given as goal
 

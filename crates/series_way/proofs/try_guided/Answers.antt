@@ -2,7 +2,6 @@
 -- Assumes nothing.
 use native.Mathlib.Omega.{arith}
 use mathlib.Core.Path.{sym, ◌∙◌}
-use lib.ListN.{length-set}
 use Rattle.series_way.proofs.Guided.{taken-on, taken-off}
 use Rattle.series_way.proofs.try_guided.Goals as goal
 

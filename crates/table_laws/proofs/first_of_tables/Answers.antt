@@ -2,7 +2,6 @@
 -- Assumes nothing.
 use Rattle.tables.specs.Rows.{net_of}
 use Rattle.table_laws.proofs.Tables.{first-of-tables}
-use borrow.Author.Rules.{rules}
 use Rattle.table_laws.proofs.first_of_tables.Goals as goal
 
 pub returns : goal.returns

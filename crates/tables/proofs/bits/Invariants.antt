@@ -1,11 +1,9 @@
 -- `bits` meets its contract. The loop's invariant: every byte is 0 or 1 exactly if every byte from i on is. The measure is what is left of the bytes.
 -- Assumes nothing.
 use Prim.Native.Nat.{◌-◌}
-use native.Mathlib.Omega.{arith}
-use lib.ListN.{length, get_or}
+use lib.ListN.{length}
 use lib.Dec.{leb}
-use borrow.Author.Tests.{le-leb, lt-leb}
-use Rattle.lists.proofs.Searches.{Passed, passed_none, passed-more, passed-not, passed-all}
+use Rattle.lists.proofs.Searches.{Passed}
 use Rattle.tables.proofs.bits.Given as goal
 
 abbrev pub invariant-loop-i : goal.invariant-loop-i

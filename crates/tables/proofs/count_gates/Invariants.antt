@@ -2,11 +2,8 @@
 -- Assumes nothing.
 use Prim.Native.Nat.{◌+◌, ◌-◌, ◌≤◌}
 use mathlib.Core.Path.{◌≡◌}
-use mathlib.Core.Logic.{⊎_elim}
-use native.Mathlib.Omega.{arith}
 use lib.ListN.{length, drop}
 use Rattle.tables.specs.Rows.{gates_in}
-use Rattle.tables.proofs.Turns.{gates-gate, gates-other, gates-done}
 use Rattle.tables.proofs.count_gates.Given as goal
 
 abbrev pub invariant-loop-i : goal.invariant-loop-i

@@ -5,7 +5,6 @@ use mathlib.Core.Path.{sym, ap, ◌∙◌}
 use lib.Seq.{length-take-le}
 use Rattle.network.specs.Networks.{max_reaches}
 use Rattle.tables.proofs.Cuts.{cut-kinds, cut-gates}
-use borrow.Author.Rules.{rules}
 use Rattle.tables.proofs.gates_held.Goals as goal
 
 pub slice_bounds-count_gates-end : goal.slice_bounds-count_gates-end

@@ -1,11 +1,8 @@
 -- `gather` meets its contract. The loop's invariant: the bytes of the gates among the first i reaches are the first k of the plan. The measure is what is left of the kinds.
 -- Assumes nothing.
-use Prim.Native.Nat.{◌-◌, ◌<◌}
-use mathlib.Core.Path.{◌≡◌, ap, ◌∙◌}
-use mathlib.Core.Logic.{⊎_elim}
-use native.Mathlib.Omega.{arith}
-use lib.ListN.{length, get_or, set}
-use Rattle.tables.proofs.Gathers.{Gathered, gathered_none, gate-room, gathered-gate, gathered-other, gathered-all}
+use Prim.Native.Nat.{◌-◌}
+use lib.ListN.{length}
+use Rattle.tables.proofs.Gathers.{Gathered}
 use Rattle.tables.proofs.gather.Given as goal
 
 abbrev pub invariant-loop-i : goal.invariant-loop-i

@@ -2,7 +2,6 @@
 -- Assumes nothing.
 use native.Mathlib.Omega.{arith}
 use Rattle.tables.proofs.Laws.{table-short}
-use borrow.Author.Rules.{rules}
 use Rattle.tables.proofs.row_count.Goals as goal
 
 pub returns : goal.returns

@@ -1,17 +1,15 @@
 -- `stray_end` meets its contract. The loop's invariant: every reach has good ends exactly if every reach from i on has. The measure is what is left of the table.
 -- Assumes nothing.
-use Prim.Native.Nat.{◌-◌, ◌<◌}
-use mathlib.Core.Logic.{⊎_elim}
+use Prim.Native.Nat.{◌<◌}
 use native.Mathlib.Omega.{arith}
-use lib.ListN.{length, get_or}
-use borrow.Author.Tests.{leb-true, leb-false}
+use lib.ListN.{length}
 use Rattle.network.specs.Tables.{table_of}
 use Rattle.tables.specs.Rows.{net_of}
 use Rattle.network.specs.Bridges.{no_reach}
 use Rattle.network.proofs.Networks.{ends_below}
-use Rattle.tables.proofs.Faults.{ends-good, ends-bad, stray-here, stray-none}
+use Rattle.tables.proofs.Faults.{ends-good, ends-bad, stray-here}
 use Rattle.tables.proofs.Laws.{table-short}
-use Rattle.lists.proofs.Searches.{Passed, passed_none, passed-more, passed-not, passed-all}
+use Rattle.lists.proofs.Searches.{passed-more, passed-not}
 use Rattle.tables.proofs.stray_end.Goals as goal
 use Rattle.tables.proofs.stray_end.Goals.{then-a-i-via-else-a-i+then-b-i, then-a-i-via-then-a-i}
 

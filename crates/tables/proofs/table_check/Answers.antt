@@ -2,12 +2,10 @@
 -- Assumes nothing.
 use mathlib.Core.Path.{◌≡◌, ◌∙◌}
 use mathlib.Core.Bool.{true}
-use mathlib.Core.Logic.{⊎_elim}
 use native.Mathlib.Omega.{arith}
 use lib.ListN.{length}
-use borrow.Author.Rules.{rules}
-use borrow.Author.Tests.{ltb-true, ltb-false, le-leb, lt-leb, eq-eqb, ne_eqb}
-use Rattle.network.specs.Networks.{Network, good_count, max_basins, max_reaches}
+use borrow.Author.Tests.{le-leb, lt-leb, eq-eqb, ne_eqb}
+use Rattle.network.specs.Networks.{Network, good_count, max_reaches}
 use Rattle.tables.specs.Rows.{net_of}
 use Rattle.network.proofs.Networks.{fault-none}
 use Rattle.tables.proofs.Faults.{count-good, count-bad, fault-count, fault-length, fault-ends, table-checked}

@@ -1,10 +1,7 @@
 -- `walker::moved` meets its contract. The loop's invariant: the first i bytes of the plan, i at most g, stand over the walker's. The measure is what is left of g.
 -- Assumes nothing.
 use Prim.Native.Nat.{◌-◌, ◌≤◌}
-use native.Mathlib.Omega.{arith}
-use mathlib.Core.Path.{◌≡◌, refl}
-use Rattle.walker.proofs.Sizes.{walker-size}
-use Rattle.lists.proofs.Lists.{Copied, copied_more, copied_none}
+use Rattle.lists.proofs.Lists.{Copied}
 use Rattle.walker.proofs.moved.Given as goal
 
 abbrev pub invariant-loop-i : goal.invariant-loop-i

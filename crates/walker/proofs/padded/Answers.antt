@@ -1,11 +1,9 @@
 -- `walker::padded` meets its contract. The loop's invariant: the first i bytes of the setting stand over zeros. The measure is what is left of the setting.
 -- Assumes nothing.
-use Prim.Native.Nat.{◌-◌}
 use native.Mathlib.Omega.{arith}
 use mathlib.Core.Path.{refl}
-use lib.ListN.{length}
 use Rattle.walker.proofs.Copies.{zeros, copied_all, length-zeros}
-use Rattle.lists.proofs.Lists.{Copied, copied_more, copied_none}
+use Rattle.lists.proofs.Lists.{copied_more, copied_none}
 use Rattle.walker.proofs.padded.Goals as goal
 
 pub loop-i-init : goal.loop-i-init

@@ -1,13 +1,12 @@
 -- `walker::Walker::make_rows` meets its contract: the walker gets the bytes that the answer lets it keep.
 -- Assumes nothing.
 use native.Mathlib.Omega.{arith}
-use mathlib.Core.Path.{◌≡◌, sym}
+use mathlib.Core.Path.{◌≡◌}
 use lib.ListN.{length, take}
 use lib.Seq.{length-take-le}
-use borrow.Author.Rules.{rules}
 use Rattle.network.specs.Networks.{Network}
 use Rattle.tables.specs.Rows.{net_of}
-use Rattle.walker.proofs.Makes.{kept-few, kept-held, make-made}
+use Rattle.walker.proofs.Makes.{kept-few, kept-held}
 use Rattle.walker.proofs.Walker.make_rows.Goals as goal
 
 pub padded-walker-requires : goal.padded-walker-requires

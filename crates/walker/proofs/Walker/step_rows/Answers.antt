@@ -1,11 +1,6 @@
 -- `walker::Walker::step_rows` meets its contract: the next plan from the bytes that the table uses, and the walker advanced by the answer.
 -- Assumes nothing.
-use native.Mathlib.Omega.{arith}
-use mathlib.Core.Path.{sym}
-use lib.Seq.{length-take-le}
-use borrow.Author.Rules.{rules}
 use Rattle.tables.specs.Rows.{net_of}
-use Rattle.walker.proofs.Sizes.{walker-size}
 use Rattle.walker.proofs.Steps.{step-made}
 use Rattle.walker.proofs.Walker.step_rows.Goals as goal
 
