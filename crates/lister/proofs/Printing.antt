@@ -1,6 +1,6 @@
 -- What is written of a text whose first bytes stand in a buffer, and what is left of it.
 -- Assumes nothing.
-use Rattle.std.proofs.Common.{◌≡◌, ℕ, ◌≤◌, List, ◌++◌, length, take, drop, sym, ap, subst, ◌∙◌, arith, append_assoc, length-take-le, take-append-drop, None, Some, IfSome}
+use Rattle.std.proofs.Common.{◌≡◌, ℕ, List, ◌++◌, take, drop, ap, subst, ◌∙◌, arith, append_assoc, length-take-le, take-append-drop, None, Some, IfSome}
 use lib.Seq.{take_at, take-take}
 use Rattle.std.specs.declared.option.Option.{Option}
 use Rattle.netfile_format.specs.Files.{read_file}

@@ -89,5 +89,5 @@ pub fn run<R: Read, W: Write>(r: &mut R, w: &mut W) -> io::Result<()>
 }
 
 fn main(rt: HostRuntime) -> io::Result<()> {
-    run(&mut rt.reader(), &mut io::writer(&rt))
+    run(&mut rt.stdin(), &mut rt.stdout())
 }

@@ -282,8 +282,8 @@ const MOST: u64 = 300000;
 
 fn main(rt: HostRuntime) -> io::Result<()> {
     let mut cases = Vec::new(rt.alloc());
-    rt.reader().take(MOST).read_to_end(&mut cases)?;
-    let mut w = BufWriter::new(rt.alloc(), io::writer(&rt))?;
+    rt.stdin().take(MOST).read_to_end(&mut cases)?;
+    let mut w = BufWriter::new(rt.alloc(), rt.stdout())?;
     play_cases(&mut w, cases.as_slice())?;
     w.flush()
 }
