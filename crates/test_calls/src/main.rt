@@ -3,6 +3,8 @@
 
 #![tactic(auto)]
 
+ghost use Rattle.std.specs.Prelude.{◌≤◌, length, IfOk};
+
 mod bounds;
 mod comparisons;
 mod contractions;
@@ -19,7 +21,7 @@ use plans::{BOUND, NEXT, Room};
 use runs::Row;
 use show::Out;
 use std::io;
-use std::io::{BufWriter, Read, Write};
+use std::io::{Read, Write};
 
 // The calls, by the bytes of the case file; those of files stand there, bound gates and the next plan in plans.
 const TABLE: u8 = 0;
@@ -278,12 +280,25 @@ fn play_cases(w: &mut impl Write, file: &[u8]) -> io::Result<()> {
 }
 
 // The most bytes of the file that are read.
-const MOST: u64 = 300000;
+const MOST: usize = 300000;
+
+// Reads the first bytes, as many as the buffer holds or there are, and answers how many.
+fn read_full<R: Read>(r: &mut R, buf: &mut [u8]) -> io::Result<usize>
+    ensures { IfOk result (λ n. n ≤ length buf.new) }
+{
+    let mut done = 0;
+    while done < buf.len() {
+        let n = r.read(&mut buf[done..])?;
+        if n == 0 {
+            break;
+        }
+        done += n;
+    }
+    Ok(done)
+}
 
 fn main(rt: HostRuntime) -> io::Result<()> {
-    let mut cases = Vec::new(rt.alloc());
-    rt.stdin().take(MOST).read_to_end(&mut cases)?;
-    let mut w = BufWriter::new(rt.alloc(), rt.stdout())?;
-    play_cases(&mut w, cases.as_slice())?;
-    w.flush()
+    let mut cases = [0u8; MOST];
+    let n = read_full(&mut rt.stdin(), &mut cases)?;
+    play_cases(&mut rt.stdout(), &cases[..n])
 }
