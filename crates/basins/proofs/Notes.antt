@@ -2,7 +2,7 @@
 -- Assumes nothing.
 use Prim.Native.Nat.{ℕ, ◌+◌, ◌≤◌, ◌<◌}
 use native.Mathlib.Omega.{arith}
-use native.Mathlib.Decide.{ℕ_discrete, dec_lt}
+use native.Mathlib.Decide.{ℕ_discrete}
 use mathlib.Core.Path.{◌≡◌, refl, sym, ap, subst, ◌∙◌}
 use mathlib.Core.Bool.{Bool, true, false, not, ◌&&◌, true≢false, beq}
 use mathlib.Mathlib.Data.Bool.Basic.{Bool-eq-false}
@@ -10,6 +10,8 @@ use mathlib.Core.List.{List}
 use lib.ListN.{length, get_or, set, length-set}
 use lib.Seq.{get_or-set_same, get_or-set_other}
 use lib.Dec.{ltb}
+use Rattle.std.proofs.Common.{Option, None, Some}
+use Rattle.std.specs.Option.{unwrap_or}
 use Rattle.network.specs.Networks.{Network, is_wet, lowest_basin}
 use Rattle.network.proofs.Networks.{lowest-is}
 use Rattle.distances.specs.Distances.{unreached, noted}
@@ -64,13 +66,11 @@ module _ (N : Network) (x : Bool) (s : List ℕ) where
 
 -- ---- the side without the lowest wet basin; if all are dry, no basin is on it
 
-module _ (N : Network) (low : ℕ) (l : Lowest N any_basin low) (s : List ℕ) where
-  dry-below : (v : ℕ) → v < low → is_wet N v ≡ false
-  dry-below v b = Bool-eq-false {b = is_wet N v} (λ w. true≢false (l.lower v b w))
-
-  pub side-noted : {s' : List ℕ} (x : Bool) → x ≡ noted s low → OthersNoted N x s s' → FarSideNoted N s s'
-  side-noted {s'} x e o = go (dec_lt low N.basins)
+module _ (N : Network) (s : List ℕ) where
+  pub side-noted : {s' : List ℕ} (low : Option ℕ) (x : Bool) → Lowest N any_basin low → x ≡ noted s (unwrap_or low 0) → OthersNoted N x s s' → FarSideNoted N s s'
+  side-noted {s'} (Some low) x l e o =
+      subst (λ (y : Bool). OthersNoted N y s s') (e ∙ ap (noted s) (sym (lowest-is N low l.at.0 l.at.1 (λ v b. Bool-eq-false {b = is_wet N v} (λ w. true≢false (l.lower v b w)))))) o
+  side-noted {s'} None x l e o = record { notes = λ v h. o.notes v h ∙ none v h x ∙ sym (none v h (noted s (lowest_basin N))) }
     where
-      go : Dec (low < N.basins) → FarSideNoted N s s'
-      go (yes b) = subst (λ (y : Bool). OthersNoted N y s s') (e ∙ ap (noted s) (sym (lowest-is N low b (l.at b).0 dry-below))) o
-      go (no b) = record { notes = λ v h. o.notes v h ∙ ap (λ (w : Bool). side_note (w && not (beq (noted s v) x))) (dry-below v (omega arith)) ∙ sym (ap (λ (w : Bool). side_note (w && not (beq (noted s v) (noted s (lowest_basin N))))) (dry-below v (omega arith))) }
+      none : (v : ℕ) → v < N.basins → (y : Bool) → side_note (is_other N y s v) ≡ unreached
+      none v h y = rw (Bool-eq-false {b = is_wet N v} (λ w. true≢false (l.lower v h w)))

@@ -1,7 +1,8 @@
 -- The lowest wet basin, and the wet basins on the side without it. Document 02, item 3: "A basin is dry if no reach in service has an end there; a loop keeps
 -- it wet." `is_wet` of network/specs/Networks.antt says so.
 -- Assumes nothing.
-use Rattle.std.specs.Prelude.{ℕ, ◌≤◌, ◌<◌, ◌≡◌, Bool, true, false, not, cond, ◌&&◌, List, length, get_or}
+use Rattle.std.specs.Prelude.{ℕ, ◌<◌, ◌≡◌, Bool, true, false, not, cond, ◌&&◌, List, length, get_or, Option, IfSome}
+use Rattle.std.specs.Option.{unwrap_or}
 use Rattle.std.specs.Bool.{beq}
 use Rattle.network.specs.Networks.{Network, is_wet, lowest_basin}
 use Rattle.distances.specs.Distances.{unreached, noted}
@@ -22,11 +23,10 @@ any_basin v = true
 abbrev pub is_unnoted : List ℕ → ℕ → Bool
 is_unnoted seen v = not (noted seen v)
 
--- r is the lowest wet basin that passes the test, or the basin count if none does.
-pub record Lowest (N : Network) (test : ℕ → Bool) (r : ℕ) : Type 0 where
-  pub bound : r ≤ N.basins
-  pub lower : (v : ℕ) → v < r → is_wet N v ≡ true → test v ≡ false
-  pub at : r < N.basins → (is_wet N r ≡ true) × (test r ≡ true)
+-- r is the lowest wet basin that passes the test, or none if none does.
+pub record Lowest (N : Network) (test : ℕ → Bool) (r : Option ℕ) : Type 0 where
+  pub lower : (v : ℕ) → v < unwrap_or r N.basins → is_wet N v ≡ true → test v ≡ false
+  pub at : IfSome r (λ v. (v < N.basins) × (is_wet N v ≡ true) × (test v ≡ true))
 
 -- ---- the other side
 

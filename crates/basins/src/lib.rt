@@ -11,6 +11,7 @@ ghost use Rattle.basins.specs.Wet.{Tabled, any_basin, is_unnoted, Lowest, is_oth
 
 use distances::UNREACHED;
 use half_edges::NO_HALF;
+use tables::TWO_WAY;
 
 // Whether basin v is wet: whether a reach in service has a half-edge there. Only the contract names the basin count and the ends.
 pub fn is_wet(
@@ -28,7 +29,7 @@ pub fn is_wet(
 {
     let mut h = head[v];
     while h != NO_HALF {
-        if kinds[h as usize / 2] < 3 {
+        if kinds[h as usize / 2] <= TWO_WAY {
             return true;
         }
         h = next[h as usize];
@@ -58,22 +59,22 @@ fn is_left(
     is_wet(n, kinds, a, b, head, next, v)
 }
 
-// The lowest wet basin, or n if all are dry.
-pub fn lowest_wet(n: usize, kinds: &[u8], a: &[u16], b: &[u16], head: &[u16], next: &[u16]) -> usize
+// The lowest wet basin, or None if all are dry.
+pub fn lowest_wet(
+    n: usize,
+    kinds: &[u8],
+    a: &[u16],
+    b: &[u16],
+    head: &[u16],
+    next: &[u16],
+) -> Option<usize>
     requires { Tabled n kinds.now a.now b.now head.now next.now }
     ensures { Lowest (net_of n kinds.now a.now b.now) any_basin result }
 {
-    let mut v = 0;
-    while v < n {
-        if is_wet(n, kinds, a, b, head, next, v) {
-            return v;
-        }
-        v += 1;
-    }
-    n
+    (0..n).find(|&v| is_wet(n, kinds, a, b, head, next, v))
 }
 
-// The lowest wet basin that is not noted as reached, or n if there is none.
+// The lowest wet basin that is not noted as reached, or None if there is none.
 pub fn lowest_unseen(
     n: usize,
     kinds: &[u8],
@@ -82,19 +83,12 @@ pub fn lowest_unseen(
     head: &[u16],
     next: &[u16],
     seen: &[u16],
-) -> usize
+) -> Option<usize>
     requires tabled { Tabled n kinds.now a.now b.now head.now next.now }
     requires n_in_bounds { n ≤ length seen.now }
     ensures { Lowest (net_of n kinds.now a.now b.now) (is_unnoted seen.now) result }
 {
-    let mut v = 0;
-    while v < n {
-        if is_left(n, kinds, a, b, head, next, seen, v) {
-            return v;
-        }
-        v += 1;
-    }
-    n
+    (0..n).find(|&v| is_left(n, kinds, a, b, head, next, seen, v))
 }
 
 // Whether basin v is noted as reached. Past the end of the row it counts as noted.
@@ -151,14 +145,12 @@ fn note_others(
     requires n_in_bounds { n ≤ length seen.old }
     ensures { OthersNoted (net_of n kinds.now a.now b.now) x seen.old seen.new }
 {
-    let mut v = 0;
-    while v < n {
+    for v in 0..n {
         note_at(n, kinds, a, b, head, next, v, x, seen);
-        v += 1;
     }
 }
 
-// Notes as reached each wet basin that was noted otherwise than the lowest wet basin, and no other.
+// Notes as reached each wet basin that was noted otherwise than the lowest wet basin, and no other. Where all are dry none is noted, whatever x is.
 pub fn note_side(
     n: usize,
     kinds: &[u8],
@@ -172,7 +164,7 @@ pub fn note_side(
     requires n_in_bounds { n ≤ length seen.old }
     ensures { FarSideNoted (net_of n kinds.now a.now b.now) seen.old seen.new }
 {
-    let low = lowest_wet(n, kinds, a, b, head, next);
+    let low = lowest_wet(n, kinds, a, b, head, next).unwrap_or(0);
     let x = is_noted(seen, low);
     note_others(n, kinds, a, b, head, next, x, seen);
 }

@@ -50,7 +50,7 @@ pub fn strongly_connected_under(
     ensures { result ≡ strongly_connected_under (net_of n kinds.now a.now b.now) setting.now }
 {
     prepare(n, kinds, a, b, setting, ways, head, next);
-    orienting::shut_in_basin(n, kinds, a, b, ways, head, next, seen, queue) == n
+    orienting::shut_in_basin(n, kinds, a, b, ways, head, next, seen, queue).is_none()
 }
 
 // Searches for the first plan, in lent working memory: the ways that it leaves are the plan's, and what it notes is the side of a finding.

@@ -5,9 +5,8 @@ use native.Mathlib.Omega.{arith}
 use native.Mathlib.Numerals.{add-one}
 use mathlib.Core.Path.{◌≡◌, sym, ap, subst, subst⁻¹, ◌∙◌}
 use mathlib.Core.List.{List, []}
-use lib.Dec.{eqb}
+use Rattle.std.proofs.Common.{Option, true, false, not, is_some, is_none}
 use lib.ListN.{length, get_or, set}
-use borrow.Author.Tests.{eq-eqb, ne_eqb}
 use mathlib.Mathlib.Data.Bool.Basic.{and_intro}
 use Rattle.network.specs.Networks.{Network, Accepted}
 use Rattle.network.specs.Orientations.{ways}
@@ -145,21 +144,21 @@ module _ (n : ℕ) (ks xs ys : List ℕ) where
       under-length n ks xs ys v.ends-a v.ends-b us (row_under v s p.fits p.oriented) ∙ sym p.ways-room
 
   -- the setting is a plan if with its ways all wet basins reach all
-  module _ {s us ws : List ℕ} {r : ℕ} (p : AtSetting n ks xs ys s us ws) (w : ShutInBasin N (arcs_of xs ys us) r) where
-    strongly_connected : eqb r n ≡ strongly_connected_under N s
+  module _ {s us ws : List ℕ} {r : Option ℕ} (p : AtSetting n ks xs ys s us ws) (w : ShutInBasin N (arcs_of xs ys us) r) where
+    strongly_connected : is_none r ≡ strongly_connected_under N s
     strongly_connected = under-basin p.level s p.oriented w
 
-    pub seek-plan : r ≡ n → AtPlan n ks xs ys s us
+    pub seek-plan : is_some r ≡ false → AtPlan n ks xs ys s us
     unfolding is_plan
-    seek-plan same = record { level = p.level; is-plan = and_intro p.fits (sym strongly_connected ∙ eq-eqb r n same); oriented = p.oriented }
+    seek-plan same = record { level = p.level; is-plan = and_intro p.fits (sym strongly_connected ∙ ap not same); oriented = p.oriented }
 
-    pub seek-other : (r ≡ n → ⊥) → OtherThanPlan n ks xs ys us ws
+    pub seek-other : is_some r ≡ true → OtherThanPlan n ks xs ys us ws
     unfolding strongly_connected_under
     seek-other differ =
         record {
           seeking = record { level = p.level; under = row_under p.level s p.fits p.oriented };
           ways-room = p.ways-room;
-          lost = subst⁻¹ (λ (v : List ℕ). NotStronglyConnected N v) (under-row p.level s p.oriented) (sym strongly_connected ∙ ne_eqb r n differ);
+          lost = subst⁻¹ (λ (v : List ℕ). NotStronglyConnected N v) (under-row p.level s p.oriented) (sym strongly_connected ∙ ap not differ);
         }
 
     pub seek_found : {ws' seen' : List ℕ} {q : Sought} → NextAfter N us ws' seen' q → NextFound N s ws' seen' q

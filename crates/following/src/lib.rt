@@ -107,7 +107,7 @@ pub fn next_of(
     ensures { NextFound (net_of n kinds.now a.now b.now) setting.now
         ways.new seen.new result }
 {
-    if orienting::shut_in_basin(n, kinds, a, b, under, head, next, seen, queue) == n {
+    if orienting::shut_in_basin(n, kinds, a, b, under, head, next, seen, queue).is_none() {
         next_of_plan(
             n, kinds, a, b, setting, under, ways, head, next, seen, queue,
         )

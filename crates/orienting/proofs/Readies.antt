@@ -9,7 +9,8 @@ use lib.ListN.{length, get_or, set}
 use lib.Seq.{set-set}
 use borrow.Author.Tests.{not-false, not-true}
 use mathlib.Mathlib.Data.Bool.Basic.{Bool-eq-false}
-use Rattle.network.specs.Networks.{Network, max_basins, basins_of}
+use Rattle.std.proofs.Common.{Option, None, Some, IfSome, is_some}
+use Rattle.network.specs.Networks.{Network, max_basins, is_wet, basins_of}
 use Rattle.network.specs.Tables.{state_of}
 use Rattle.network.specs.Settings.{is_gated}
 use Rattle.network.specs.Orientations.{Arc, reached}
@@ -96,51 +97,54 @@ kind-gate k e = rw e
 
 module _ (N : Network) (A : List Arc) where
   -- the lowest wet basin that a search has not noted as reached is the lowest not reached
-  pub unreached-first : {start r : ℕ} (seen : List ℕ) → ((v : ℕ) → v < N.basins → noted seen v ≡ reached A start v) → Lowest N (is_unnoted seen) r → FirstUnreached N A start r
-  unreached-first {start} {r} seen told f =
-      record {
-        bound = f.bound;
-        lower = λ v m l. not-false _ (sym (test v (basin-below N v m)) ∙ f.lower v l (basin-wet N v m));
-        at = λ l. let k = f.at l in (basin-in N r l k.0, not-true _ (sym (test r l) ∙ k.1));
-      }
+  pub unreached-first : {start : ℕ} {r : Option ℕ} (seen : List ℕ) → ((v : ℕ) → v < N.basins → noted seen v ≡ reached A start v) → Lowest N (is_unnoted seen) r → FirstUnreached N A start r
+  unreached-first {start} {r} seen told f = record { lower = λ v m l. not-false _ (sym (test v (basin-below N v m)) ∙ f.lower v l (basin-wet N v m)); at = at r f.at }
     where
       test : (v : ℕ) → v < N.basins → is_unnoted seen v ≡ not (reached A start v)
       test v l = ap not (told v l)
 
+      at : (r : Option ℕ) → IfSome r (λ v. (v < N.basins) × (is_wet N v ≡ true) × (is_unnoted seen v ≡ true)) → IfSome r (λ v. Memᴰ v (basins_of N) × (reached A start v ≡ false))
+      at None f = tt
+      at (Some v) f = (basin-in N v f.0 f.1, not-true _ (sym (test v f.0) ∙ f.2))
+
   -- ---- the lowest wet basin that does not reach all
 
-  module _ {w : ℕ} (low : Lowest N any_basin w) where
+  -- all are dry
+  pub shut-in-none : {r r' : Option ℕ} → Lowest N any_basin r → r ≡ None → r' ≡ None → ShutInBasin N A r'
+  shut-in-none {r = Some w} low e f = absurd (cc)
+  shut-in-none {r' = Some w} low e f = absurd (cc)
+  shut-in-none {r = None} {r' = None} low e f = record { bound = tt; lower = λ u m l. absurd (true≢false (low.lower u l (basin-wet N u m))); at = tt }
+
+  module _ {w : ℕ} (low : Lowest N any_basin (Some w)) where
     -- no wet basin is lower
     none-lower : (u : ℕ) → Memᴰ u (basins_of N) → u < w → ⊥
     none-lower u m l = true≢false (low.lower u l (basin-wet N u m))
 
-    -- all are dry
-    pub shut-in-none : {r : ℕ} → w ≡ N.basins → r ≡ N.basins → ShutInBasin N A r
-    shut-in-none e f = record { bound = omega arith; lower = λ u m l. absurd (none-lower u m (omega arith)); at = λ l. absurd (omega arith) }
+    low-in : Memᴰ w (basins_of N)
+    low-in = basin-in N w low.at.0 low.at.1
 
-    module _ (below : w < N.basins) where
-      low-in : Memᴰ w (basins_of N)
-      low-in = basin-in N w below (low.at below).0
+    -- the lowest does not
+    pub shut-in-lowest : {r : Option ℕ} → FirstUnreached N A w r → true ≡ is_some r → ShutInBasin N A (Some w)
+    shut-in-lowest {r = None} m some = absurd (true≢false some)
+    shut-in-lowest {r = Some r} m some =
+        record { bound = low.at.0; lower = λ u mu k. absurd (none-lower u mu k); at = (low-in, Bool-eq-false {b = reaches_all (basins_of N) A w} (λ e. clash (every-at (reached A w) e m.at.0) m.at.1)) }
 
-      -- the lowest does not
-      pub shut-in-lowest : {r : ℕ} → FirstUnreached N A w r → r < N.basins → ShutInBasin N A w
-      shut-in-lowest {r} m l =
-          record {
-            bound = low.bound;
-            lower = λ u mu k. absurd (none-lower u mu k);
-            at = λ k. (low-in, Bool-eq-false {b = reaches_all (basins_of N) A w} (λ e. clash (every-at (reached A w) e (m.at l).0) (m.at l).1));
-          }
+    -- it does, and so does each basin that leads to it
+    pub shut-in-back : {B : List Arc} {r r' : Option ℕ} → FirstUnreached N A w r → false ≡ is_some r → ((u v : ℕ) → reached B u v ≡ reached A v u) → FirstUnreached N B w r' → ShutInBasin N A r'
+    shut-in-back {r = Some r} m all against k = absurd (true≢false (sym all))
+    shut-in-back {B = B} {r = None} {r' = r'} m all against k =
+        record {
+          bound = below r' k.at;
+          lower = λ u mu l.
+              every-make (reached A u) (basins_of N)
+              (λ v mv. walk-reached (walk-trans (reached-walk A u w (sym (against w u) ∙ k.lower u mu l)) (reached-walk A w v (m.lower v mv (basin-below N v mv)))));
+          at = at r' k.at;
+        }
+      where
+        below : (r : Option ℕ) → IfSome r (λ v. Memᴰ v (basins_of N) × (reached B w v ≡ false)) → IfSome r (λ u. u < N.basins)
+        below None f = tt
+        below (Some u) f = basin-below N u f.0
 
-      -- it does, and so does each basin that leads to it
-      pub shut-in-back : {B : List Arc} {r r' : ℕ} → FirstUnreached N A w r → (r < N.basins → ⊥) → ((u v : ℕ) → reached B u v ≡ reached A v u) → FirstUnreached N B w r' → ShutInBasin N A r'
-      shut-in-back {B} {r} {r'} m all against k =
-          record {
-            bound = k.bound;
-            lower = λ u mu l.
-                every-make (reached A u) (basins_of N)
-                (λ v mv. walk-reached (walk-trans (reached-walk A u w (sym (against w u) ∙ k.lower u mu l)) (reached-walk A w v (m.lower v mv (omega (arith, basin-below N v mv))))));
-            at = λ l. (
-              (k.at l).0,
-              Bool-eq-false {b = reaches_all (basins_of N) A r'} (λ e. clash (every-at (reached A r') e low-in) (sym (against w r') ∙ (k.at l).1)),
-            );
-          }
+        at : (r : Option ℕ) → IfSome r (λ v. Memᴰ v (basins_of N) × (reached B w v ≡ false)) → IfSome r (λ u. Memᴰ u (basins_of N) × (reaches_all (basins_of N) A u ≡ false))
+        at None f = tt
+        at (Some u) f = (f.0, Bool-eq-false {b = reaches_all (basins_of N) A u} (λ e. clash (every-at (reached A u) e low-in) (sym (against w u) ∙ f.1)))

@@ -1,6 +1,7 @@
 -- A table ready to be searched, and what single searches find.
 -- Assumes nothing.
-use Rattle.std.specs.Prelude.{ℕ, ◌≤◌, ◌<◌, ◌≡◌, true, false, length}
+use Rattle.std.specs.Prelude.{ℕ, ◌≤◌, ◌<◌, ◌≡◌, true, false, length, Option, IfSome}
+use Rattle.std.specs.Option.{unwrap_or}
 use mathlib.Core.List.{List, Memᴰ}
 use Rattle.network.specs.Networks.{Network, max_basins, basins_of}
 use Rattle.network.specs.Orientations.{Arc, reached}
@@ -23,14 +24,13 @@ pub record AtReach (n : ℕ) (ks xs ys ws head next : List ℕ) (i : ℕ) (seen 
   pub kinds-full : length ks ≡ length xs
   pub below : i < length xs
 
--- r is the lowest wet basin that is not reached from start along A, or the basin count.
-pub record FirstUnreached (N : Network) (A : List Arc) (start r : ℕ) : Type 0 where
-  pub bound : r ≤ N.basins
-  pub lower : (v : ℕ) → Memᴰ v (basins_of N) → v < r → reached A start v ≡ true
-  pub at : r < N.basins → Memᴰ r (basins_of N) × (reached A start r ≡ false)
+-- r is the lowest wet basin that is not reached from start along A, or none if all are.
+pub record FirstUnreached (N : Network) (A : List Arc) (start : ℕ) (r : Option ℕ) : Type 0 where
+  pub lower : (v : ℕ) → Memᴰ v (basins_of N) → v < unwrap_or r N.basins → reached A start v ≡ true
+  pub at : IfSome r (λ v. Memᴰ v (basins_of N) × (reached A start v ≡ false))
 
--- r is the shut-in basin of document 01, the lowest wet basin that does not reach all wet basins along A; or the basin count if all do.
-pub record ShutInBasin (N : Network) (A : List Arc) (r : ℕ) : Type 0 where
-  pub bound : r ≤ N.basins
-  pub lower : (u : ℕ) → Memᴰ u (basins_of N) → u < r → reaches_all (basins_of N) A u ≡ true
-  pub at : r < N.basins → Memᴰ r (basins_of N) × (reaches_all (basins_of N) A r ≡ false)
+-- r is the shut-in basin of document 01, the lowest wet basin that does not reach all wet basins along A; or none if all do.
+pub record ShutInBasin (N : Network) (A : List Arc) (r : Option ℕ) : Type 0 where
+  pub bound : IfSome r (λ u. u < N.basins)
+  pub lower : (u : ℕ) → Memᴰ u (basins_of N) → u < unwrap_or r N.basins → reaches_all (basins_of N) A u ≡ true
+  pub at : IfSome r (λ u. Memᴰ u (basins_of N) × (reaches_all (basins_of N) A u ≡ false))

@@ -3,14 +3,14 @@
 
 #![tactic(auto)]
 
-ghost use Rattle.std.specs.Prelude.{◌≡◌, cond, ◌≤◌, ◌<◌, length, set};
+ghost use Rattle.std.specs.Prelude.{◌≡◌, cond, ◌≤◌, ◌<◌, length, set, Some};
 ghost use Rattle.half_edges.specs.Ends.{arcs_of, sided};
 ghost use Rattle.tables.specs.Rows.{net_of};
 ghost use Rattle.basins.specs.Wet.{any_basin, Lowest};
 ghost use Rattle.orienting.specs.Ready.{Ready, FirstUnreached, ShutInBasin};
 ghost use Rattle.orienting.specs.Tries.{Tried};
 
-// The lowest wet basin that is not reached from start along the arrows or, if so asked, against them; or n if all are. What it leaves in seen and in the
+// The lowest wet basin that is not reached from start along the arrows or, if so asked, against them; or None if all are. What it leaves in seen and in the
 // queue is free.
 fn first_unreached(
     n: usize,
@@ -24,7 +24,7 @@ fn first_unreached(
     against: bool,
     seen: &mut [u16],
     queue: &mut [u16],
-) -> usize
+) -> Option<usize>
     requires ready { Ready n a.now b.now ways.now head.now next.now seen.old queue.old }
     requires kinds_len { length kinds.now ≡ length a.now }
     requires start_lt_n { start < n }
@@ -35,7 +35,7 @@ fn first_unreached(
     basins::lowest_unseen(n, kinds, a, b, head, next, seen)
 }
 
-// The lowest wet basin that does not reach all wet basins, or n if all do; low is the lowest: if it reaches all, a basin does exactly if it reaches low.
+// The lowest wet basin that does not reach all wet basins, or None if all do; low is the lowest: if it reaches all, a basin does exactly if it reaches low.
 // What it leaves in seen and in the queue is free.
 fn shut_in_from(
     n: usize,
@@ -48,21 +48,20 @@ fn shut_in_from(
     low: u16,
     seen: &mut [u16],
     queue: &mut [u16],
-) -> usize
+) -> Option<usize>
     requires ready { Ready n a.now b.now ways.now head.now next.now seen.old queue.old }
     requires kinds_len { length kinds.now ≡ length a.now }
-    requires lowest { Lowest (net_of n kinds.now a.now b.now) any_basin low }
-    requires low_lt_n { low < n }
+    requires lowest { Lowest (net_of n kinds.now a.now b.now) any_basin (Some low) }
     ensures { ShutInBasin (net_of n kinds.now a.now b.now)
         (arcs_of a.now b.now ways.now) result }
 {
-    if first_unreached(n, kinds, a, b, ways, head, next, low, false, seen, queue) < n {
-        return low as usize;
+    if first_unreached(n, kinds, a, b, ways, head, next, low, false, seen, queue).is_some() {
+        return Some(low as usize);
     }
     first_unreached(n, kinds, a, b, ways, head, next, low, true, seen, queue)
 }
 
-// The lowest wet basin that does not reach all wet basins, or n if all do: so it is if all basins are dry. What it leaves in seen and in the queue is free.
+// The lowest wet basin that does not reach all wet basins, or None if all do: so it is if all basins are dry. What it leaves in seen and in the queue is free.
 pub fn shut_in_basin(
     n: usize,
     kinds: &[u8],
@@ -73,16 +72,13 @@ pub fn shut_in_basin(
     next: &[u16],
     seen: &mut [u16],
     queue: &mut [u16],
-) -> usize
+) -> Option<usize>
     requires ready { Ready n a.now b.now ways.now head.now next.now seen.old queue.old }
     requires kinds_len { length kinds.now ≡ length a.now }
     ensures { ShutInBasin (net_of n kinds.now a.now b.now)
         (arcs_of a.now b.now ways.now) result }
 {
-    let low = basins::lowest_wet(n, kinds, a, b, head, next);
-    if low == n {
-        return n;
-    }
+    let low = basins::lowest_wet(n, kinds, a, b, head, next)?;
     shut_in_from(n, kinds, a, b, ways, head, next, low as u16, seen, queue)
 }
 

@@ -2,14 +2,13 @@
 -- Assumes nothing.
 use Prim.Native.Nat.{ℕ, ◌≤◌, ◌<◌}
 use native.Mathlib.Omega.{arith}
-use native.Mathlib.Decide.{dec_lt}
 use mathlib.Core.Path.{◌≡◌, refl, sym, ap, subst, ◌∙◌}
 use mathlib.Core.Bool.{Bool, true, false, not, ◌&&◌, beq}
-use mathlib.Core.Option.{Option, none, some, get_or}
+use mathlib.Core.Option.{Option as Maybe, none, some, get_or}
+use Rattle.std.proofs.Common.{Option, None, Some, is_none}
 use mathlib.Core.List.{List, [], Memᴰ}
 use lib.ListN.{length}
-use lib.Dec.{eqb, ltb}
-use borrow.Author.Tests.{eq-eqb, ne_eqb}
+use lib.Dec.{ltb}
 use mathlib.Mathlib.Data.Bool.Basic.{and_intro, Bool-eq-false}
 use Rattle.lists.specs.Lists.{range, find, keep, elem}
 use Rattle.network.specs.Networks.{Network, is_wet, basins_of, lowest_basin, Accepted}
@@ -45,20 +44,13 @@ use Rattle.tables.specs.Rows.{net_of, ways_row}
 
 -- ---- shut in
 
--- all wet basins reach all exactly if the lowest that does not is past the last
-pub strong-basin : (N : Network) (A : List Arc) (r : ℕ) → ShutInBasin N A r → strongly_connected (basins_of N) A ≡ eqb r N.basins
-strong-basin N A r w = go (dec_lt r N.basins)
-  where
-    go : Dec (r < N.basins) → strongly_connected (basins_of N) A ≡ eqb r N.basins
-    go (yes l) =
-        Bool-eq-false {b = strongly_connected (basins_of N) A} (λ e. clash (every-at (reaches_all (basins_of N) A) e (w.at l).0) (w.at l).1)
-        ∙ sym (ne_eqb r N.basins (omega arith))
-    go (no k) =
-        every-make (reaches_all (basins_of N) A) (basins_of N) (λ u m. w.lower u m (omega (arith, w.bound, basin-below N u m)))
-        ∙ sym (eq-eqb r N.basins (omega (arith, w.bound)))
+-- all wet basins reach all exactly if there is none that does not
+pub strong-basin : (N : Network) (A : List Arc) (r : Option ℕ) → ShutInBasin N A r → strongly_connected (basins_of N) A ≡ is_none r
+strong-basin N A (Some r) w = Bool-eq-false {b = strongly_connected (basins_of N) A} (λ e. clash (every-at (reaches_all (basins_of N) A) e w.at.0) w.at.1)
+strong-basin N A None w = every-make (reaches_all (basins_of N) A) (basins_of N) (λ u m. w.lower u m (basin-below N u m))
 
 -- the two searches of the check
-pub under-basin : {n r : ℕ} {ks xs ys ws : List ℕ} → Level n ks xs ys → (s : List ℕ) → ws ≡ ways_row ks s → ShutInBasin (net_of n ks xs ys) (arcs_of xs ys ws) r → eqb r n ≡ strongly_connected_under (net_of n ks xs ys) s
+pub under-basin : {n : ℕ} {r : Option ℕ} {ks xs ys ws : List ℕ} → Level n ks xs ys → (s : List ℕ) → ws ≡ ways_row ks s → ShutInBasin (net_of n ks xs ys) (arcs_of xs ys ws) r → is_none r ≡ strongly_connected_under (net_of n ks xs ys) s
 under-basin {n} {r} {ks} {xs} {ys} v s e w =
     sym (level-under v s ∙ strong-basin (net_of n ks xs ys) (arcs_of xs ys (ways_row ks s)) r (subst (λ (u : List ℕ). ShutInBasin (net_of n ks xs ys) (arcs_of xs ys u) r) e w))
 
@@ -79,9 +71,9 @@ module _ (N : Network) where
   opened-is : arcs_under N (unoriented N) ≡ opened
   opened-is = ap (arcs N.reaches) (ways-unoriented N.reaches (gate_count N))
 
-  pub closed-first : Accepted N → (r : ℕ) (ws seen : List ℕ) → ShutInBasin N opened r → r < N.basins → ((v : ℕ) → v < N.basins → noted seen v ≡ reached opened r v) → FirstFound N ws seen Closed
+  pub closed-first : Accepted N → (r : ℕ) (ws seen : List ℕ) → ShutInBasin N opened (Some r) → ((v : ℕ) → v < N.basins → noted seen v ≡ reached opened r v) → FirstFound N ws seen Closed
   unfolding shut_in_side shut_in_basin
-  closed-first ok r ws seen w l told = found-closed (passable-open N ∙ strong-basin N opened r w ∙ ne_eqb r N.basins (omega arith)) (ap marks_of (sym side))
+  closed-first ok r ws seen w told = found-closed (passable-open N ∙ strong-basin N opened (Some r) w) (ap marks_of (sym side))
     where
       test : List Arc → ℕ → Bool
       test A u = not (reaches_all (basins_of N) A u)
@@ -90,16 +82,16 @@ module _ (N : Network) where
       at =
           ap (λ (A : List Arc). find (test A) (basins_of N)) opened-is
           ∙ basins-found N (test opened)
-          ∙ find-lowest (λ b. is_wet N b && test opened b) 0 N.basins r (omega arith) (omega arith) (and_intro (basin-wet N r (w.at l).0) (ap not (w.at l).1))
-          (λ j a b. and-fails (is_wet N j) (test opened j) (λ wet. ap not (w.lower j (basin-in N j (omega arith) wet) b)))
+          ∙ find-lowest (λ b. is_wet N b && test opened b) 0 N.basins r (omega arith) (omega (arith, w.bound)) (and_intro (basin-wet N r w.at.0) (ap not w.at.1))
+          (λ j a b. and-fails (is_wet N j) (test opened j) (λ wet. ap not (w.lower j (basin-in N j (omega (arith, w.bound)) wet) b)))
 
       -- what is reached from a wet basin is wet
       wet : (b : ℕ) → reached opened r b ≡ true → is_wet N b ≡ true
-      wet b e = basin-wet N b (walk-in-basins N ok (ways N.reaches []) (shut_out N.reaches []) (reached-walk opened r b e) (w.at l).0)
+      wet b e = basin-wet N b (walk-in-basins N ok (ways N.reaches []) (shut_out N.reaches []) (reached-walk opened r b e) w.at.0)
 
       side : shut_in_side N ≡ marked_set N.basins seen
       side =
-          ap (λ (o : Option ℕ). keep (reached (arcs_under N (unoriented N)) (get_or o 0)) (basins_of N)) at
+          ap (λ (o : Maybe ℕ). keep (reached (arcs_under N (unoriented N)) (get_or o 0)) (basins_of N)) at
           ∙ ap (λ (A : List Arc). keep (reached A r) (basins_of N)) opened-is
           ∙ basins-kept N (reached opened r)
           ∙ keep_same (λ b. is_wet N b && reached opened r b) (noted seen) (range 0 N.basins)
@@ -177,8 +169,8 @@ module _ (N : Network) where
     unfolding lowest_bridge
     lowest-at r e l f = find-lowest (is_bridge N) 0 (length N.reaches) r (omega arith) (omega arith) e f
 
-    pub passed-basin : (r : ℕ) → ShutInBasin N opened r → (r < N.basins → ⊥) → passable N ≡ true
-    passed-basin r w n = passable-open N ∙ strong-basin N opened r w ∙ eq-eqb r N.basins (omega (arith, w.bound))
+    pub passed-basin : ShutInBasin N opened None → passable N ≡ true
+    passed-basin w = passable-open N ∙ strong-basin N opened None w
 
     pub bridge-first : {ws₁ ws seen seen' : List ℕ} {r : ℕ} → passable N ≡ true → r < length N.reaches → Greedy N (ways N.reaches []) 0 ws₁ seen r → FarSideNoted N seen seen' → FirstFound N ws seen' (Bridge r)
     bridge-first pass l (all-oriented e m) far = absurd (omega arith)

@@ -5,6 +5,7 @@ use native.Mathlib.Omega.{arith}
 use mathlib.Core.Path.{◌≡◌, sym, ap, subst, subst⁻¹, ◌∙◌}
 use mathlib.Core.List.{List, []}
 use lib.ListN.{length}
+use Rattle.std.proofs.Common.{Option, None, Some}
 use Rattle.network.specs.Networks.{Network}
 use Rattle.network.specs.Orientations.{Arc, ways, arcs, reached}
 use Rattle.half_edges.specs.Ends.{arcs_of}
@@ -32,14 +33,16 @@ module _ (n : ℕ) (ks xs ys : List ℕ) where
         let v = o.level in
         sym (row-arcs n ks xs ys v.ends-a v.ends-b ws) ∙ ap (arcs N.reaches) (under-row v [] o.unoriented)
 
-    basin-net : {u : ℕ} → ShutInBasin N (arcs_of xs ys ws) u → ShutInBasin N (arcs N.reaches (ways N.reaches [])) u
-    basin-net {u} w = subst (λ (A : List Arc). ShutInBasin N A u) open-arcs w
+    basin-net : {r : Option ℕ} → ShutInBasin N (arcs_of xs ys ws) r → ShutInBasin N (arcs N.reaches (ways N.reaches [])) r
+    basin-net {r} w = subst (λ (A : List Arc). ShutInBasin N A r) open-arcs w
 
-    pub row-passable : {u : ℕ} → ShutInBasin N (arcs_of xs ys ws) u → (u < n → ⊥) → Passable n ks xs ys ws
-    row-passable {u} w not-below = record { level = o.level; unoriented = o.unoriented; passable-net = passed-basin N o.level.accepted u (basin-net w) not-below }
+    pub row-passable : {r : Option ℕ} → ShutInBasin N (arcs_of xs ys ws) r → r ≡ None → Passable n ks xs ys ws
+    row-passable {r} w e = record { level = o.level; unoriented = o.unoriented; passable-net = passed-basin N o.level.accepted (basin-net (subst (ShutInBasin N (arcs_of xs ys ws)) e w)) }
 
-    pub row-closed : {u : ℕ} {seen : List ℕ} (ws' : List ℕ) → ShutInBasin N (arcs_of xs ys ws) u → u < n → ((v : ℕ) → v < n → noted seen v ≡ reached (arcs_of xs ys ws) u v) → FirstFound N ws' seen Closed
-    row-closed {u} {seen} ws' w l m = closed-first N o.level.accepted u ws' seen (basin-net w) l (subst (λ (A : List Arc). (v : ℕ) → v < n → noted seen v ≡ reached A u v) open-arcs m)
+    pub row-closed : {r : Option ℕ} {u : ℕ} {seen : List ℕ} (ws' : List ℕ) → ShutInBasin N (arcs_of xs ys ws) r → r ≡ Some u → ((v : ℕ) → v < n → noted seen v ≡ reached (arcs_of xs ys ws) u v) → FirstFound N ws' seen Closed
+    row-closed {r} {u} {seen} ws' w e m =
+        closed-first N o.level.accepted u ws' seen (basin-net (subst (ShutInBasin N (arcs_of xs ys ws)) e w))
+        (subst (λ (A : List Arc). (v : ℕ) → v < n → noted seen v ≡ reached A u v) open-arcs m)
 
   module _ {ws : List ℕ} (p : Passable n ks xs ys ws) where
     opened : ws ≡ ways N.reaches []

@@ -68,12 +68,13 @@ pub fn first_from(
     requires none_oriented { NoneOriented n kinds.now a.now b.now ways.old }
     ensures { FirstFound (net_of n kinds.now a.now b.now) ways.new seen.new result }
 {
-    let u = orienting::shut_in_basin(n, kinds, a, b, ways, head, next, seen, queue);
-    if u < n {
-        search::search(n, a, b, ways, head, next, u as u16, false, seen, queue);
-        return Found::Closed;
+    match orienting::shut_in_basin(n, kinds, a, b, ways, head, next, seen, queue) {
+        Some(u) => {
+            search::search(n, a, b, ways, head, next, u as u16, false, seen, queue);
+            Found::Closed
+        }
+        None => orient_all(n, kinds, a, b, ways, head, next, seen, queue),
     }
-    orient_all(n, kinds, a, b, ways, head, next, seen, queue)
 }
 
 // One step: from ways that `under` has up to reach `to`, parts from them upwards at the last gate before it at which a plan can, and decides the

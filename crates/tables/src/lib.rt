@@ -14,11 +14,11 @@ ghost use Rattle.tables.specs.Answers.{TableChecked, StrayEnd};
 use network::{MAX_BASINS, MAX_REACHES, Refusal};
 
 // The kinds of reaches in service. Every greater number is a shut reach.
-const GATED: u8 = 0;
+pub const GATED: u8 = 0;
 
-const FLAP: u8 = 1;
+pub const FLAP: u8 = 1;
 
-const TWO_WAY: u8 = 2;
+pub const TWO_WAY: u8 = 2;
 
 // The ways of a reach that passes both ways, and of one that passes neither.
 const EITHER: u8 = 2;

@@ -1,12 +1,8 @@
 -- `note_others` meets its contract: the basins passed have their new bytes.
 -- Assumes nothing.
-use Prim.Native.Nat.{◌-◌, ◌≤◌}
 use Rattle.tables.specs.Rows.{net_of}
 use Rattle.basins.proofs.Notes.{Noting}
 use Rattle.basins.proofs.note_others.Given as goal
 
 abbrev pub invariant-loop-v : goal.invariant-loop-v
-invariant-loop-v l = (l.v ≤ l.n) × Noting (net_of l.n l.kinds l.a l.b) l.x l.v l.initial.seen l.seen
-
-abbrev pub decreases-loop-v : goal.decreases-loop-v
-decreases-loop-v l = l.n - l.v
+invariant-loop-v l = Noting (net_of l.n l.kinds l.a l.b) l.x l.v l.initial.seen l.seen

@@ -9,4 +9,5 @@ use Rattle.basins.proofs.note_side.Goals as goal
 
 pub returns : goal.returns
 returns c =
-    side-noted (net_of c.args.n c.args.kinds.now c.args.a.now c.args.b.now) c.lowest_wet-low.result c.lowest_wet-low.ensures c.args.seen.now _ (c.is_noted-x.ensures ∙ ap (λ j. noted c.args.seen.now j) (omega arith)) c.note_others.ensures
+    side-noted (net_of c.args.n c.args.kinds.now c.args.a.now c.args.b.now) c.args.seen.now c.lowest_wet.result _ c.lowest_wet.ensures
+    (c.is_noted-x.ensures ∙ ap (λ j. noted c.args.seen.now j) (omega (arith, c.unwrap_or-low.ensures))) c.note_others.ensures

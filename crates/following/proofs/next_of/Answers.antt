@@ -8,10 +8,10 @@ pub shut_in_basin-requires-clause-ready : goal.shut_in_basin-requires-clause-rea
 shut_in_basin-requires-clause-ready c = ready-ways _ c.requires.ready (setting-room c.args.n c.args.kinds.now c.args.a.now c.args.b.now c.requires.at_setting)
 
 pub next_of_plan-requires-clause-at_plan : goal.next_of_plan-requires-clause-at_plan
-next_of_plan-requires-clause-at_plan c = seek-plan c.args.n c.args.kinds.now c.args.a.now c.args.b.now c.requires.at_setting c.shut_in_basin.ensures c.if-shut_in_basin-n.true
+next_of_plan-requires-clause-at_plan c = seek-plan c.args.n c.args.kinds.now c.args.a.now c.args.b.now c.requires.at_setting c.shut_in_basin.ensures c.if-is_none.ensures
 
-pub returns-else-shut_in_basin-n : goal.returns-else-shut_in_basin-n
-returns-else-shut_in_basin-n c = seek_found c.args.n c.args.kinds.now c.args.a.now c.args.b.now c.requires.at_setting c.shut_in_basin.ensures c.next_of_other.ensures
+pub returns-else-is_none : goal.returns-else-is_none
+returns-else-is_none c = seek_found c.args.n c.args.kinds.now c.args.a.now c.args.b.now c.requires.at_setting c.shut_in_basin.ensures c.next_of_other.ensures
 
 pub next_of_other-requires-clause-other_than_plan : goal.next_of_other-requires-clause-other_than_plan
-next_of_other-requires-clause-other_than_plan c = seek-other c.args.n c.args.kinds.now c.args.a.now c.args.b.now c.requires.at_setting c.shut_in_basin.ensures c.if-shut_in_basin-n.false
+next_of_other-requires-clause-other_than_plan c = seek-other c.args.n c.args.kinds.now c.args.a.now c.args.b.now c.requires.at_setting c.shut_in_basin.ensures c.if-is_none.ensures
