@@ -3,8 +3,8 @@
 use Prim.Native.Nat.{ℕ, ◌+◌, max, ◌≤◌, ◌<◌}
 use native.Mathlib.Omega.{arith}
 use native.Mathlib.Decide.{ℕ_discrete, dec_lt}
-use mathlib.Core.Path.{◌≡◌, refl, sym, ap₂, ◌∙◌}
-use mathlib.Core.Bool.{Bool, true, false, cond}
+use mathlib.Core.Path.{◌≡◌, refl}
+use mathlib.Core.Bool.{Bool, true, false}
 use mathlib.Core.Logic.{◌⊎◌, inl, inr, ⊎_elim}
 use mathlib.Core.List.{List}
 use Rattle.lists.proofs.Bools.{clash}
@@ -16,21 +16,6 @@ use Rattle.distances.specs.Diameters.{greatest, farthest}
 use Rattle.distances.proofs.Diameters.{greatest-at, greatest-le, greatest-same}
 use Rattle.search.specs.Searches.{Noted}
 use Rattle.eccentricity.specs.Rows.{count_at, most_with}
-
--- ---- the larger of most and x, if the basin is wet
-
-pub most-kept : {r : ℕ} (wet : Bool) (most x : ℕ) → r ≡ most → x ≤ most → r ≡ most_with wet most x
-most-kept true most x e l = omega arith
-most-kept false most x e l = e
-
-pub most-picked : {r z : ℕ} {is wet : Bool} (most x : ℕ) → r ≡ cond is z most → is ≡ wet → z ≡ x → most ≤ x → r ≡ most_with wet most x
-most-picked {wet = wet} most x q e f l = q ∙ ap₂ (λ (b : Bool) (y : ℕ). cond b y most) e (omega arith)
-
-pub most-larger : {r wet : Bool} {z : ℕ} (most x : ℕ) → r ≡ wet → r ≡ true → z ≡ max most x → z ≡ most_with wet most x
-most-larger most x e y q = rw (sym e ∙ y) q
-
-pub most-dry : {r wet : Bool} {z : ℕ} (most x : ℕ) → r ≡ wet → r ≡ false → z ≡ most → z ≡ most_with wet most x
-most-dry most x e y q = rw (sym e ∙ y) q
 
 -- ---- one basin after the other
 

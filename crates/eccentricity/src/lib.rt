@@ -14,13 +14,6 @@ ghost use Rattle.eccentricity.specs.Rows.{count_at, most_with};
 
 use distances::UNREACHED;
 
-// The first number if so asked, else the second.
-fn pick(first: bool, x: u16, y: u16) -> u16
-    ensures { result ≡ cond first x y }
-{
-    if first { x } else { y }
-}
-
 // The larger of most and the count of basin v, if it is wet; else most.
 fn count_in(
     n: usize,
@@ -43,7 +36,7 @@ fn count_in(
         return most;
     }
     let wet = basins::is_wet(n, kinds, a, b, head, next, v);
-    pick(wet, count, most)
+    if wet { count } else { most }
 }
 
 // The greatest count of a wet basin: UNREACHED if one is not reached, 0 if there is none.
@@ -61,10 +54,8 @@ fn greatest_count(
     ensures { result ≡ greatest (count_at seen.now) (basins_of (net_of n kinds.now a.now b.now)) }
 {
     let mut most = 0;
-    let mut v = 0;
-    while v < n {
+    for v in 0..n {
         most = count_in(n, kinds, a, b, head, next, seen, v, most);
-        v += 1;
     }
     most
 }
@@ -92,13 +83,6 @@ fn eccentricity(
     greatest_count(n, kinds, a, b, head, next, seen)
 }
 
-// The larger of two.
-fn larger(x: u16, y: u16) -> u16
-    ensures { result ≡ max x y }
-{
-    if x < y { y } else { x }
-}
-
 // The larger of most and the longest of the fewest counts from basin v, if it is wet; else most.
 fn longest_in(
     n: usize,
@@ -124,7 +108,7 @@ fn longest_in(
     }
     let u = v as u16;
     let far = eccentricity(n, kinds, a, b, ways, head, next, u, seen, queue);
-    larger(most, far)
+    most.max(far)
 }
 
 // The longest of the fewest counts over all ordered pairs of wet basins, by one search for each wet basin; UNREACHED if one is not reached from another, and
@@ -146,13 +130,11 @@ pub fn longest(
         (arcs_of a.now b.now ways.now)) (basins_of (net_of n kinds.now a.now b.now)) }
 {
     let mut most = 0;
-    let mut v = 0;
-    while v < n {
+    for v in 0..n {
         if most >= UNREACHED {
             return most;
         }
         most = longest_in(n, kinds, a, b, ways, head, next, v, most, seen, queue);
-        v += 1;
     }
     most
 }

@@ -1,13 +1,9 @@
 -- `greatest_count` meets its contract: of the basins passed none has more.
 -- Assumes nothing.
-use Prim.Native.Nat.{◌-◌, ◌≤◌}
 use Rattle.tables.specs.Rows.{net_of}
 use Rattle.eccentricity.specs.Rows.{count_at}
 use Rattle.eccentricity.proofs.Mosts.{Most}
 use Rattle.eccentricity.proofs.greatest_count.Given as goal
 
 abbrev pub invariant-loop-v : goal.invariant-loop-v
-invariant-loop-v l = (l.v ≤ l.n) × Most (net_of l.n l.kinds l.a l.b) (count_at l.seen) l.v l.most
-
-abbrev pub decreases-loop-v : goal.decreases-loop-v
-decreases-loop-v l = l.n - l.v
+invariant-loop-v l = Most (net_of l.n l.kinds l.a l.b) (count_at l.seen) l.v l.most

@@ -1,7 +1,6 @@
 -- `longest` meets its contract: from none of the basins passed is it farther.
 -- Assumes nothing.
 use Prim.Native.Nat.{ℕ}
-use mathlib.Core.Path.{◌∙◌}
 use native.Mathlib.Omega.{arith}
 use Rattle.network.specs.Networks.{basins_of}
 use Rattle.distances.specs.Diameters.{farthest}
@@ -14,18 +13,14 @@ use Rattle.eccentricity.proofs.longest.Goals as goal
 pub returns-then-most-ge-UNREACHED : goal.returns-then-most-ge-UNREACHED
 returns-then-most-ge-UNREACHED c =
     let far : ℕ → ℕ = farthest (basins_of (net_of c.args.n c.args.kinds.now c.args.a.now c.args.b.now)) (arcs_of c.args.a.now c.args.b.now c.args.ways.now) in
-    most-top (net_of c.args.n c.args.kinds.now c.args.a.now c.args.b.now) (far) (omega (arith, c.loop-v.invariant.0)) (omega (arith, c.if-most-ge-UNREACHED.true)) (farthest-most (basins_of (net_of c.args.n c.args.kinds.now c.args.a.now c.args.b.now)) (arcs_of c.args.a.now c.args.b.now c.args.ways.now)) c.loop-v.invariant.1
+    most-top (net_of c.args.n c.args.kinds.now c.args.a.now c.args.b.now) (far) (omega (arith, c.loop-v-test.true)) (omega (arith, c.if-most-ge-UNREACHED.true)) (farthest-most (basins_of (net_of c.args.n c.args.kinds.now c.args.a.now c.args.b.now)) (arcs_of c.args.a.now c.args.b.now c.args.ways.now)) c.loop-v.invariant
 
 pub loop-v-preserved : goal.loop-v-preserved
 loop-v-preserved c =
-    let far : ℕ → ℕ = farthest (basins_of (net_of c.args.n c.args.kinds.now c.args.a.now c.args.b.now)) (arcs_of c.args.a.now c.args.b.now c.args.ways.now) in (
-      omega (arith, c.loop-v-test.true),
-      most-more (net_of c.args.n c.args.kinds.now c.args.a.now c.args.b.now) (far) c.loop-v.v c.loop-v.most c.loop-v.invariant.1 c.longest_in-most.ensures,
-      c.longest_in-most.auto.seen ∙ c.loop-v.invariant.2,
-      c.longest_in-most.auto.queue ∙ c.loop-v.invariant.3,
-    )
+    let far : ℕ → ℕ = farthest (basins_of (net_of c.args.n c.args.kinds.now c.args.a.now c.args.b.now)) (arcs_of c.args.a.now c.args.b.now c.args.ways.now) in
+    most-more (net_of c.args.n c.args.kinds.now c.args.a.now c.args.b.now) (far) c.loop-v.v c.loop-v.most c.loop-v.invariant c.longest_in-most.ensures
 
 pub returns : goal.returns
 returns c =
     let far : ℕ → ℕ = farthest (basins_of (net_of c.args.n c.args.kinds.now c.args.a.now c.args.b.now)) (arcs_of c.args.a.now c.args.b.now c.args.ways.now) in
-    most-all (net_of c.args.n c.args.kinds.now c.args.a.now c.args.b.now) (far) (omega (arith, c.loop-v-test.false, c.loop-v.invariant.0)) c.loop-v.invariant.1
+    most-all (net_of c.args.n c.args.kinds.now c.args.a.now c.args.b.now) (far) (omega (arith, c.loop-v-test.false)) c.loop-v.invariant
