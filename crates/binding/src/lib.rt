@@ -11,6 +11,8 @@ ghost use Rattle.orienting.specs.Ready.{Ready};
 ghost use Rattle.orienting.specs.Tries.{left_out, led_round};
 ghost use Rattle.binding.specs.Tellings.{Tellable};
 
+use tables::GATED;
+
 // Whether reach i, which a plan hangs in the way, can get no other. Afterwards it is usable either way. What it leaves in seen and in the queue is free.
 pub fn bound_at(
     n: usize,
@@ -65,16 +67,13 @@ pub fn tell_bound(
         ++ drop (gates_in kinds.now) bytes.old }
 {
     let mut k = 0;
-    let mut i = 0;
-    while i < kinds.len() {
-        if kinds[i] != 0 {
-            i += 1;
+    for (i, &kind) in kinds.iter().enumerate() {
+        if kind != GATED {
             continue;
         }
         let way = bytes[k];
         let bound = bound_at(n, a, b, ways, head, next, i, way, seen, queue);
         bytes[k] = told(bound, way);
         k += 1;
-        i += 1;
     }
 }

@@ -1,13 +1,7 @@
--- `binding::tell_bound` meets its contract. The loop's invariant: the bytes of the gates among the first i reaches are told, and the ways are as they were. The measure is
--- what is left of the kinds.
+-- `binding::tell_bound` meets its contract. The loop's invariant: the bytes of the gates among the first i reaches are told, and the ways are as they were.
 -- Assumes nothing.
-use Prim.Native.Nat.{◌-◌}
-use lib.ListN.{length}
 use Rattle.binding.proofs.Tellings.{TellingOn}
 use Rattle.binding.proofs.tell_bound.Given as goal
 
 abbrev pub invariant-loop-i : goal.invariant-loop-i
 invariant-loop-i l = TellingOn l.n l.kinds l.a l.b l.initial.ways l.initial.bytes l.initial.seen l.initial.queue l.ways l.bytes l.seen l.queue l.k l.i
-
-abbrev pub decreases-loop-i : goal.decreases-loop-i
-decreases-loop-i l = length l.kinds - l.i
