@@ -11,6 +11,7 @@ ghost use Rattle.basins.specs.Wet.{Tabled};
 ghost use Rattle.series_channels.specs.Channels.{Partner, other_half, guide_of, GuideNoted, GuidingStill, FindableIf, GuidesFound};
 
 use half_edges::NO_HALF;
+use tables::{FLAP, GATED, TWO_WAY};
 
 // Basins with fewer half-edges than this are looked through: beside two in service there may be shut ones. No promise rests on it.
 const LOOKED: usize = 8;
@@ -43,9 +44,7 @@ fn partner(n: usize, kinds: &[u8], a: &[u16], b: &[u16], head: &[u16], next: &[u
     let v = end_of(a, b, h);
     let mut o = head[v as usize];
     let mut found = NO_HALF;
-    let mut left = LOOKED;
-    while left > 0 {
-        left -= 1;
+    for _ in 0..LOOKED {
         if o >= NO_HALF {
             if found / 2 == h / 2 {
                 return NO_HALF;
@@ -57,7 +56,7 @@ fn partner(n: usize, kinds: &[u8], a: &[u16], b: &[u16], head: &[u16], next: &[u
         if here == h {
             continue;
         }
-        if kinds[(here / 2) as usize] > 2 {
+        if kinds[(here / 2) as usize] > TWO_WAY {
             continue;
         }
         if found < NO_HALF {
@@ -98,7 +97,7 @@ fn note(kinds: &[u8], start: u16, o: u16, guide: &mut [u16])
     ensures { GuideNoted guide.old start o guide.new }
 {
     let k = (o / 2) as usize;
-    if kinds[k] != 0 {
+    if kinds[k] != GATED {
         return;
     }
     if guide[k] < NO_HALF {
@@ -126,9 +125,7 @@ fn follow(
     ensures { GuidingStill kinds.now a.now b.now guide.old guide.new }
 {
     let mut h = start;
-    let mut left = a.len();
-    while left > 0 {
-        left -= 1;
+    for _ in 0..a.len() {
         let o = partner(n, kinds, a, b, head, next, h);
         if o >= NO_HALF {
             return;
@@ -136,7 +133,7 @@ fn follow(
         if o / 2 == start / 2 {
             return;
         }
-        if kinds[(o / 2) as usize] == 1 {
+        if kinds[(o / 2) as usize] == FLAP {
             return;
         }
         note(kinds, start, o, guide);
@@ -160,24 +157,20 @@ fn pass(
     requires guide_len { length guide.old ≡ length a.now }
     ensures { GuidingStill kinds.now a.now b.now guide.old guide.new }
 {
-    let mut i = 0;
-    while i < a.len() {
-        if kinds[i] != kind {
-            i += 1;
+    for (i, &k) in kinds.iter().enumerate() {
+        if k != kind {
             continue;
         }
         if guide[i] < NO_HALF {
-            i += 1;
             continue;
         }
         let h = (2 * i) as u16;
         follow(n, kinds, a, b, head, next, h, guide);
         follow(n, kinds, a, b, head, next, h + 1, guide);
-        i += 1;
     }
 }
 
-// 1 if reach i has an end at a basin of a channel, else 0.
+// Whether reach i has an end at a basin of a channel.
 fn in_channel(
     n: usize,
     kinds: &[u8],
@@ -186,38 +179,32 @@ fn in_channel(
     head: &[u16],
     next: &[u16],
     i: usize,
-) -> usize
+) -> bool
     requires tabled { Tabled n kinds.now a.now b.now head.now next.now }
     requires i_in_bounds { i < length a.now }
-    ensures { result ≤ 1 }
 {
     let h = (2 * i) as u16;
-    if partner(n, kinds, a, b, head, next, h) < NO_HALF {
-        return 1;
-    }
-    if partner(n, kinds, a, b, head, next, h + 1) < NO_HALF {
-        return 1;
-    }
-    0
+    partner(n, kinds, a, b, head, next, h) < NO_HALF
+        || partner(n, kinds, a, b, head, next, h + 1) < NO_HALF
 }
 
 // Whether it is worth following channels. No promise rests on it.
 fn worth(n: usize, kinds: &[u8], a: &[u16], b: &[u16], head: &[u16], next: &[u16]) -> bool
     requires { Tabled n kinds.now a.now b.now head.now next.now }
 {
-    let mut i = a.len();
     let mut gates = 0;
     let mut found = 0;
-    while i > 0 {
-        i -= 1;
-        if kinds[i] != 0 {
+    for i in (0..a.len()).rev() {
+        if kinds[i] != GATED {
             continue;
         }
         if gates >= LAST {
-            return found >= WORTH;
+            break;
         }
         gates += 1;
-        found += in_channel(n, kinds, a, b, head, next, i);
+        if in_channel(n, kinds, a, b, head, next, i) {
+            found += 1;
+        }
     }
     found >= WORTH
 }
@@ -242,8 +229,8 @@ fn find(
     }
     let m = a.len();
     half_edges::fill_row(m, NO_HALF, guide);
-    pass(n, kinds, a, b, head, next, 1, guide);
-    pass(n, kinds, a, b, head, next, 0, guide);
+    pass(n, kinds, a, b, head, next, FLAP, guide);
+    pass(n, kinds, a, b, head, next, GATED, guide);
     m
 }
 

@@ -2,7 +2,6 @@
 -- Assumes nothing.
 use Prim.Native.Nat.{◌/◌, ◌<◌}
 use native.Mathlib.Omega.{arith}
-use mathlib.Core.Path.{◌∙◌}
 use lib.ListN.{length}
 use Rattle.series_channels.proofs.Ways.{follow-more}
 use Rattle.series_channels.proofs.Partners.{partner-below}
@@ -17,8 +16,8 @@ pub note-requires-clause-o_bound : goal.note-requires-clause-o_bound
 note-requires-clause-o_bound c =
     let found_below : c.partner-o.result / 2 < length c.args.kinds.now = omega (arith, partner-below _ _ _ _ _ c.partner-o.ensures c.if-o-ge-NO_HALF.false, c.requires.tabled.kinds-full) in omega (arith, found_below)
 
-pub loop-left-preserved : goal.loop-left-preserved
-loop-left-preserved c =
-    let g = follow-more c.requires.tabled c.args.start c.loop-left.h _ _ c.args.guide.now c.loop-left.guide _ c.loop-left.invariant.0 c.loop-left.invariant.1 c.loop-left.invariant.3 c.partner-o.ensures c.if-o-ge-NO_HALF.false
-    c.if-o-start.false c.other_half-h.ensures c.note.ensures c.loop-left.invariant.4 in
-    (g.0, g.1, c.note.auto.guide ∙ c.loop-left.invariant.2, g.2, g.3)
+pub loop-preserved : goal.loop-preserved
+loop-preserved c =
+    let g = follow-more c.requires.tabled c.args.start c.loop.h _ _ c.args.guide.now c.loop.guide _ c.loop.invariant.0 c.loop.invariant.1 c.loop.invariant.2 c.partner-o.ensures c.if-o-ge-NO_HALF.false
+    c.if-o-start.false c.other_half-h.ensures c.note.ensures c.loop.invariant.3 in
+    (g.0, g.1, g.2, g.3)

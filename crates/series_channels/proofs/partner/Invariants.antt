@@ -4,8 +4,5 @@ use Rattle.half_edges.specs.Ends.{end_of}
 use Rattle.series_channels.proofs.Partners.{Looked}
 use Rattle.series_channels.proofs.partner.Given as goal
 
-abbrev pub invariant-loop-left : goal.invariant-loop-left
-invariant-loop-left l = Looked l.kinds l.a l.b (end_of l.a l.b l.h) l.h l.o l.found
-
-abbrev pub decreases-loop-left : goal.decreases-loop-left
-decreases-loop-left l = l.left
+abbrev pub invariant-loop : goal.invariant-loop
+invariant-loop l = Looked l.kinds l.a l.b (end_of l.a l.b l.h) l.h l.o l.found

@@ -1,11 +1,7 @@
 -- `series_channels::worth` is safe and ends; it promises nothing.
 -- Assumes nothing.
 use Prim.Native.Nat.{◌≤◌}
-use lib.ListN.{length}
 use Rattle.series_channels.proofs.worth.Given as goal
 
 abbrev pub invariant-loop-i : goal.invariant-loop-i
-invariant-loop-i l = (l.i ≤ length l.a) × (l.found ≤ l.gates) × (l.gates ≤ 16)
-
-abbrev pub decreases-loop-i : goal.decreases-loop-i
-decreases-loop-i l = l.i
+invariant-loop-i l = (l.found ≤ l.gates) × (l.gates ≤ 16)
