@@ -18,6 +18,7 @@ use Rattle.search.specs.Searches.{Unseen, unseen, first}
 use Rattle.search.specs.Fronts.{Searching}
 use Rattle.search.proofs.Counts.{unseen-le, unseen-set}
 use Rattle.search.proofs.Fronts.{fresh-cleared, begins, scans, unseen-unreached}
+use Rattle.std.proofs.Common.{Option, None, Some}
 use Rattle.leading.specs.Leads.{own_seen, lane, Sided, Spreadable, Spread, met, on, BothBegun, BothSearching}
 use Rattle.leading.proofs.Lanes.{own-seen, own-unseen, own-noted, own-blank, own-set, own_same, lane-length, lane-set}
 
@@ -72,13 +73,15 @@ module _ {A B : List Arc} {n c d : ℕ} {up : Bool} {seen queue : List ℕ} {don
         other = apart;
       }
 
-  module _ {seen' queue' : List ℕ} {r : ℕ} where
+  module _ {seen' queue' : List ℕ} {r : Option ℕ} where
     -- a turn of the one, in which they have not met
-    pub both-on : ((u w : ℕ) → Next A u w → w < n) → done < tail → length seen' ≡ length seen → length queue' ≡ length queue
-        → Spread A (get_or (lane up queue) done 0) up n c d seen queue tail seen' queue' r → r ≤ n → BothSearching A B n c d up (not up) seen' queue' (done + 1) r done' tail'
-    both-on f l m q (met _ _ _ _ e) low = absurd (omega arith)
-    both-on f l m q (on _ o) low =
-        record {
+    pub both-on : {t : ℕ} → ((u w : ℕ) → Next A u w → w < n) → done < tail → length seen' ≡ length seen → length queue' ≡ length queue
+        → Spread A (get_or (lane up queue) done 0) up n c d seen queue tail seen' queue' r → r ≡ Some t → BothSearching A B n c d up (not up) seen' queue' (done + 1) t done' tail'
+    both-on f l m q (met _ _ _ _ e) some = absurd (cc)
+    both-on {t} f l m q (on {tail' = s} o e) some =
+        let same : s ≡ t = cc in
+        subst (λ (z : ℕ). BothSearching A B n c d up (not up) seen' queue' (done + 1) z done' tail') same
+        (record {
           mine = scans f (omega arith) l p.mine o.scanned;
           other = subst (λ (s : List ℕ). Searching B n d s (lane (not up) queue') done' tail') (sym o.others)
               (requeued (lane-length (not up) queue' ∙ q ∙ sym (lane-length (not up) queue)) (λ k b. o.lanes k (omega (arith, b, o.counted, p.room))) p.other);
@@ -86,12 +89,12 @@ module _ {A B : List Arc} {n c d : ℕ} {up : Bool} {seen queue : List ℕ} {don
           room = omega (arith, o.counted, p.room);
           seen-length = m ∙ p.seen-length;
           queue-length = q ∙ p.queue-length;
-        }
+        })
 
     -- one in which they have: an arc from the basin in hand leads to one that the other sees
-    pub both-met : ((u v : ℕ) → reached B u v ≡ reached A v u) → done < tail → Spread A (get_or (lane up queue) done 0) up n c d seen queue tail seen' queue' r → n < r → reached A c d ≡ true
-    both-met against l (on h _) high = absurd (omega arith)
-    both-met against l (met w b m e _) high =
+    pub both-met : ((u v : ℕ) → reached B u v ≡ reached A v u) → done < tail → Spread A (get_or (lane up queue) done 0) up n c d seen queue tail seen' queue' r → r ≡ None → reached A c d ≡ true
+    both-met against l (on _ e) none = absurd (cc)
+    both-met against l (met w b m e _) none =
         walk-reached (walk-trans (p.mine.sound.walks done l) (walk-trans (walk-arc m)
         (reached-walk A w d (sym (against d w) ∙ walk-reached (p.other.sound.walked w b (own-seen d seen w (omega (arith, p.seen-length)) e))))))
 

@@ -1,12 +1,13 @@
 -- The scan of a basin by one of two searches: its loop's invariant, a turn, and what holds at the end.
 -- Assumes nothing.
 use Prim.Native.Nat.{ℕ, suc, ◌+◌, ◌≤◌, ◌<◌}
-use mathlib.Core.Path.{◌≡◌, subst, ◌∙◌}
+use mathlib.Core.Path.{◌≡◌, refl, subst, ◌∙◌}
 use mathlib.Core.Logic.{◌⊎◌, inl, ⊎_elim}
 use mathlib.Core.Bool.{Bool, true, false, not}
 use mathlib.Core.List.{List}
 use native.Mathlib.Decide.{ℕ_discrete}
 use native.Mathlib.Omega.{arith}
+use Rattle.std.proofs.Common.{Option, None, Some}
 use lib.ListN.{length, get_or, set, length-set}
 use lib.Seq.{get_or-set_same, get_or-set_other}
 use Rattle.distances.specs.Distances.{unreached}
@@ -46,9 +47,9 @@ module _ {xs ys ws : List ℕ} {u : ℕ} {up : Bool} {n c d : ℕ} {seen₀ queu
       }
 
   -- where the far end of one that passes is the other's, the two have met
-  pub spread-met : {seen queue seen' queue' : List ℕ} {end h w r : ℕ} → (s : Spreading xs ys ws u up n c d seen₀ queue₀ tail seen queue end h)
+  pub spread-met : {seen queue seen' queue' : List ℕ} {end h w : ℕ} {r : Option ℕ} → (s : Spreading xs ys ws u up n c d seen₀ queue₀ tail seen queue end h)
       → Current xs ys s.scanning.x u h → length ys ≡ length xs → length xs ≤ length ws → leaves ws h ≡ true
-      → w ≡ other_of xs ys h → w < n → length seen₀ ≡ n → get_or seen w 0 ≡ d → r ≡ n + 1 → Spread (arcs_of xs ys ws) u up n c d seen₀ queue₀ tail seen' queue' r
+      → w ≡ other_of xs ys h → w < n → length seen₀ ≡ n → get_or seen w 0 ≡ d → r ≡ None → Spread (arcs_of xs ys ws) u up n c d seen₀ queue₀ tail seen' queue' r
   spread-met {seen} {h = h} {w = w} s k paired room p e b long y q =
       met w b (rw (e, ← k.stands) (half-arc xs ys ws h paired room (omega (arith, k.below, s.scanning.within)) p))
       (own-noted d seen₀ w (omega arith) (subst (λ (l : List ℕ). Seen l w) s.others (own-seen d seen w (omega (arith, s.seen-length)) y))) q
@@ -116,7 +117,7 @@ module _ {xs ys ws : List ℕ} {u : ℕ} {up : Bool} {n c d : ℕ} {seen₀ queu
         }
 
   -- the end: all are done
-  pub spread-on : {seen queue : List ℕ} {end h : ℕ} → halves xs < no_half → h ≡ no_half → tail + unseen seen₀ ≤ n → Spreading xs ys ws u up n c d seen₀ queue₀ tail seen queue end h
-      → Spread (arcs_of xs ys ws) u up n c d seen₀ queue₀ tail seen queue end
-  spread-on few e room s =
-      on (omega (arith, s.counted)) (record { scanned = scanned few e s.scanning; others = s.others; lanes = s.lanes; counted = s.counted; sides = s.sides })
+  pub spread-on : {seen queue : List ℕ} {end h : ℕ} → halves xs < no_half → h ≡ no_half → Spreading xs ys ws u up n c d seen₀ queue₀ tail seen queue end h
+      → Spread (arcs_of xs ys ws) u up n c d seen₀ queue₀ tail seen queue (Some end)
+  spread-on few e s =
+      on (record { scanned = scanned few e s.scanning; others = s.others; lanes = s.lanes; counted = s.counted; sides = s.sides }) refl

@@ -1,6 +1,6 @@
 -- Two searches at once, along the arrows from a basin and against them from a goal, in one row of notes and one queue.
 -- Assumes nothing.
-use Rattle.std.specs.Prelude.{ℕ, ◌+◌, ◌-◌, ◌≤◌, ◌<◌, ◌≡◌, ◌⊎◌, Bool, true, false, not, cond, List, map, length, get_or, set, replicate, eqb}
+use Rattle.std.specs.Prelude.{ℕ, ◌+◌, ◌-◌, ◌≤◌, ◌<◌, ◌≡◌, ◌⊎◌, Bool, true, false, not, cond, List, map, length, get_or, set, replicate, eqb, Option, None, Some}
 use Rattle.lists.specs.Lists.{range}
 use Rattle.network.specs.Orientations.{Arc}
 use Rattle.half_edges.specs.Ends.{arcs_of, flip_way, Next}
@@ -54,10 +54,10 @@ pub record SpreadOn (A : List Arc) (u : ℕ) (up : Bool) (n c d : ℕ) (seen que
   pub counted : tail' + unseen seen' ≡ tail + unseen seen
   pub sides : Sided n c d seen'
 
--- The one or the other: that they met is the number n + 1.
-pub data Spread (A : List Arc) (u : ℕ) (up : Bool) (n c d : ℕ) (seen queue : List ℕ) (tail : ℕ) (seen' queue' : List ℕ) (r : ℕ) : Type 0 where
-  met : (w : ℕ) → w < n → Next A u w → get_or seen w 0 ≡ d → r ≡ n + 1 → Spread A u up n c d seen queue tail seen' queue' r
-  on : r ≤ n → SpreadOn A u up n c d seen queue tail seen' queue' r → Spread A u up n c d seen queue tail seen' queue' r
+-- The one or the other: r is how many the search from c has queued then, or none if the two met.
+pub data Spread (A : List Arc) (u : ℕ) (up : Bool) (n c d : ℕ) (seen queue : List ℕ) (tail : ℕ) (seen' queue' : List ℕ) (r : Option ℕ) : Type 0 where
+  met : (w : ℕ) → w < n → Next A u w → get_or seen w 0 ≡ d → r ≡ None → Spread A u up n c d seen queue tail seen' queue' r
+  on : {tail' : ℕ} → SpreadOn A u up n c d seen queue tail seen' queue' tail' → r ≡ Some tail' → Spread A u up n c d seen queue tail seen' queue' r
 
 -- How both begin.
 pub record BothBegun (n start goal : ℕ) (queue seen' queue' : List ℕ) : Type 0 where

@@ -50,7 +50,7 @@ fn visit(
 }
 
 // The search from c visits each basin to which a half-edge passes from the one that it queued k-th, or upstream passes from there to it. Returns how many it has queued
-// then, or n + 1 as soon as one of these basins is seen by the search from d: the two have met.
+// then, or None as soon as one of these basins is seen by the search from d: the two have met.
 fn scan(
     n: usize,
     a: &[u16],
@@ -65,7 +65,7 @@ fn scan(
     up: bool,
     c: u16,
     d: u16,
-) -> usize
+) -> Option<usize>
     requires { Spreadable n a.now b.now ways.now head.now next.now seen.old queue.old k tail up c d }
     ensures { Spread (arcs_of a.now b.now (sided up ways.now)) (get_or (lane up queue.old) k 0) up n c d
         seen.old queue.old tail seen.new queue.new result }
@@ -80,11 +80,11 @@ fn scan(
         }
         let w = search::far(a, b, half);
         if seen[w as usize] == d {
-            return n + 1;
+            return None;
         }
         end = visit(n, w, c, up, seen, queue, end);
     }
-    end
+    Some(end)
 }
 
 // Goes on with two searches that have begun, by turns, until the two meet or one of them has nothing left to search from. Says whether they met: whether the goal
@@ -114,21 +114,19 @@ fn search_on(
         }
         // Which of the two goes on is free: the one with fewer basins waiting, and each by turns where these are equal.
         if tail - done + (done + updone) % 2 <= uptail - updone {
-            let end = scan(
+            let Some(end) = scan(
                 n, a, b, ways, head, next, seen, queue, done, tail, false, start, goal,
-            );
-            if end > n {
+            ) else {
                 return true;
-            }
+            };
             tail = end;
             done += 1;
         } else {
-            let end = scan(
+            let Some(end) = scan(
                 n, a, b, ways, head, next, seen, queue, updone, uptail, true, goal, start,
-            );
-            if end > n {
+            ) else {
                 return true;
-            }
+            };
             uptail = end;
             updone += 1;
         }

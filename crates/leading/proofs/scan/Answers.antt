@@ -70,4 +70,4 @@ loop-h-preserved c =
     spread-through c.loop-h.invariant (leads-in _ c.far-w.ensures) c.requires.low c.requires.other c.requires.room (λ e. omega (arith, c.if-seen-w.false, e)) (here) (onward) c.requires.table.paired (wide) passes c.far-w.ensures c.visit-end.ensures
 
 pub returns : goal.returns
-returns c = spread-on c.requires.table.few c.loop-h-test.false c.requires.room c.loop-h.invariant
+returns c = spread-on c.requires.table.few c.loop-h-test.false c.loop-h.invariant

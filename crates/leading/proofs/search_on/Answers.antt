@@ -19,32 +19,32 @@ returns-then-updone-uptail c =
     let up_in : (u w : ℕ) → Next (up) u w → w < c.args.n = λ u. λ w. λ m. arc-below c.args.a.now c.args.b.now (map flip_way c.args.ways.now) c.args.n u w c.requires.table m in
     both-shut (swapped c.loop-done.invariant) (up_in) c.requires.goals c.requires.starts (λ e. c.requires.apart (sym e)) (omega (arith, c.if-updone-uptail.true)) ∙ against c.args.goal c.args.start
 
-pub returns-then-end-n : goal.returns-then-end-n
-returns-then-end-n c =
+pub returns-in_default : goal.returns-in_default
+returns-in_default c =
     let along : List Arc = arcs_of c.args.a.now c.args.b.now c.args.ways.now in
     let up : List Arc = arcs_of c.args.a.now c.args.b.now (map flip_way c.args.ways.now) in
     let against : (u v : ℕ) → reached (up) u v ≡ reached (along) v u = reached-flipped c.args.a.now c.args.b.now c.args.ways.now in
-    sym (both-met c.loop-done.invariant (against) c.loop-done-test.true c.scan-end.ensures c.if-end-n.true)
+    sym (both-met c.loop-done.invariant (against) c.loop-done-test.true c.scan.ensures c.in_default.is)
 
 pub loop-done-preserved-then-tail-done : goal.loop-done-preserved-then-tail-done
 loop-done-preserved-then-tail-done c =
     let along : List Arc = arcs_of c.args.a.now c.args.b.now c.args.ways.now in
     let along-in : (u w : ℕ) → Next (along) u w → w < c.args.n = λ u. λ w. λ m. arc-below c.args.a.now c.args.b.now c.args.ways.now c.args.n u w c.requires.table m in
-    both-on c.loop-done.invariant (along-in) c.loop-done-test.true c.scan-end.auto.seen c.scan-end.auto.queue c.scan-end.ensures c.if-end-n.false
+    both-on c.loop-done.invariant (along-in) c.loop-done-test.true c.scan.auto.seen c.scan.auto.queue c.scan.ensures c.in-Some.is
 
-pub returns-then-end-n-2 : goal.returns-then-end-n-2
-returns-then-end-n-2 c =
+pub returns-in_default-scan : goal.returns-in_default-scan
+returns-in_default-scan c =
     let along : List Arc = arcs_of c.args.a.now c.args.b.now c.args.ways.now in
     let up : List Arc = arcs_of c.args.a.now c.args.b.now (map flip_way c.args.ways.now) in
     let against : (u v : ℕ) → reached (up) u v ≡ reached (along) v u = reached-flipped c.args.a.now c.args.b.now c.args.ways.now in
     let along-against : (u v : ℕ) → reached (along) u v ≡ reached (up) v u = λ u. λ v. sym (against v u) in
-    sym (along-against c.args.start c.args.goal ∙ both-met (swapped c.loop-done.invariant) (along-against) c.if-updone-uptail.false c.scan-end-else-tail-done.ensures c.if-end-n-2.true)
+    sym (along-against c.args.start c.args.goal ∙ both-met (swapped c.loop-done.invariant) (along-against) c.if-updone-uptail.false c.scan-else-tail-done.ensures c.in_default-scan.is)
 
 pub loop-done-preserved : goal.loop-done-preserved
 loop-done-preserved c =
     let up : List Arc = arcs_of c.args.a.now c.args.b.now (map flip_way c.args.ways.now) in
     let up_in : (u w : ℕ) → Next (up) u w → w < c.args.n = λ u. λ w. λ m. arc-below c.args.a.now c.args.b.now (map flip_way c.args.ways.now) c.args.n u w c.requires.table m in
-    swapped (both-on (swapped c.loop-done.invariant) (up_in) c.if-updone-uptail.false c.scan-end-else-tail-done.auto.seen c.scan-end-else-tail-done.auto.queue c.scan-end-else-tail-done.ensures c.if-end-n-2.false)
+    swapped (both-on (swapped c.loop-done.invariant) (up_in) c.if-updone-uptail.false c.scan-else-tail-done.auto.seen c.scan-else-tail-done.auto.queue c.scan-else-tail-done.ensures c.in-Some-scan.is)
 
 pub returns : goal.returns
 returns c =
