@@ -12,7 +12,7 @@ use network::MAX_REACHES;
 // The half-edges of the largest table.
 pub const HALF_EDGES: usize = 2 * MAX_REACHES;
 
-// What stands where there is no half-edge.
+// What stands where there is no half-edge: a 16-bit number and no Option, since the index is lent rows, and their memory is fixed and small.
 pub const NO_HALF: u16 = 65535;
 
 // Fills row[0..n] with x.
