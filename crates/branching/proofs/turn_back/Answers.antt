@@ -3,7 +3,6 @@
 use Prim.Native.Nat.{◌-◌}
 use native.Mathlib.Omega.{arith}
 use mathlib.Core.Path.{sym, ◌∙◌}
-use lib.ListN.{length}
 use Rattle.branching.proofs.Follows.{turn_on, turn-found, back_done}
 use Rattle.orienting.proofs.Readies.{ready-ways, ready-notes}
 use Rattle.branching.proofs.turn_back.Goals as goal
@@ -28,4 +27,4 @@ loop-i-preserved c = (
 
 pub returns : goal.returns
 returns c =
-    record { from = λ ks p all d. back_done c.args.n ks c.args.a.now c.args.b.now (sym p.kinds-full) (c.requires.ready.table.paired ∙ sym p.kinds-full) c.args.under.now p.under c.args.tried.now p.tries c.args.to c.loop-i.ways c.loop-i.i (length c.args.a.now) (omega (arith, c.loop-i-test.false)) (sym p.kinds-full) (c.loop-i.invariant.2 ks p all d) }
+    record { from = λ ks p all d. back_done c.args.n ks c.args.a.now c.args.b.now (sym p.kinds-full) (c.requires.ready.table.paired ∙ sym p.kinds-full) c.args.under.now p.under c.args.tried.now p.tries c.args.to c.loop-i.ways c.loop-i.i (omega (arith, c.loop-i-test.false)) (c.loop-i.invariant.2 ks p all d) }
