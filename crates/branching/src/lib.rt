@@ -3,7 +3,7 @@
 
 #![tactic(auto)]
 
-ghost use Rattle.std.specs.Prelude.{◌≡◌, ◌≤◌, length};
+ghost use Rattle.std.specs.Prelude.{◌≡◌, ◌<◌, ◌≤◌, length, IfSome};
 ghost use Rattle.tables.specs.Rows.{net_of};
 ghost use Rattle.orientations.specs.Partials.{StronglyConnected};
 ghost use Rattle.orienting.specs.Ready.{Ready};
@@ -59,7 +59,8 @@ pub fn turn_back(
     requires tried_len { length tried.now ≡ length a.now }
     requires under_len { length under.now ≡ length a.now }
     requires to_in_bounds { to ≤ length a.now }
-    ensures { TurnedBackFrom n guide.now tried.now a.now b.now under.now
+    ensures below { IfSome result (λ r. r < to) }
+    ensures turned_back { TurnedBackFrom n guide.now tried.now a.now b.now under.now
         ways.old to ways.new result }
 {
     for i in (0..to).rev() {
