@@ -87,14 +87,16 @@ fn line_after(
         under.new ways.new head.now next.now seen.new queue.new standing }
 {
     if standing {
-        let basins = l.basins;
-        let n = basins as usize;
-        let r = stepping::advance(n, guide, tried, a, b, under, ways, head, next, seen, queue);
-        let noted = skipping::note_bound(
-            n, guide, kinds, a, b, tried, under, ways, head, next, r, known, seen, queue,
-        );
-        let line = after_step(l, setting, left, g, r, kinds, ways);
-        return Turn { line, known: noted };
+        let n = l.basins as usize;
+        let parted = stepping::advance(n, guide, tried, a, b, under, ways, head, next, seen, queue);
+        let line = after_step(l, setting, left, g, parted, kinds, ways);
+        let known = match parted {
+            Some(r) => skipping::note_bound(
+                n, guide, kinds, a, b, tried, under, ways, head, next, r, known, seen, queue,
+            ),
+            None => known,
+        };
+        return Turn { line, known };
     }
     let line = asked(l, setting, left, g, kinds, a, b);
     Turn { line, known }

@@ -57,9 +57,7 @@ fn next_in(
     );
     match sought {
         None => Answer::Refused(Refusal::LastPlan),
-        Some(found) => Answer::Given(report(
-            found, n, kinds, oriented, seen, plan, marks,
-        )),
+        Some(found) => Answer::Given(report(found, n, kinds, oriented, seen, plan, marks)),
     }
 }
 

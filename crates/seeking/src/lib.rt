@@ -4,7 +4,7 @@
 
 #![tactic(auto)]
 
-ghost use Rattle.std.specs.Prelude.{◌≡◌, ◌<◌, ◌≤◌, length, IfSome};
+ghost use Rattle.std.specs.Prelude.{◌≡◌, ◌≤◌, length};
 ghost use Rattle.tables.specs.Rows.{net_of};
 ghost use Rattle.orienting.specs.Ready.{Ready};
 ghost use Rattle.seeking.specs.Levels.{NoneOriented, Passable};
@@ -90,8 +90,7 @@ pub fn step_from(
     requires tried_len { length tried.now ≡ length a.now }
     requires under_len { length under.now ≡ length a.now }
     requires to_in_bounds { to ≤ length a.now }
-    ensures below { IfSome result (λ r. r < to) }
-    ensures stepped { StepFrom n guide.now tried.now a.now b.now under.now
+    ensures { StepFrom n guide.now tried.now a.now b.now under.now
         ways.old to ways.new result }
 {
     let at = branching::turn_back(

@@ -10,4 +10,4 @@ step_from-at-requires-clause-under_len c = (part-rows c.args.n c.args.kinds.now 
 
 pub returns : goal.returns
 returns c =
-    row_found c.args.n c.args.kinds.now c.args.a.now c.args.b.now c.requires.partable (c.step_from-at.ensures.stepped.from c.args.kinds.now c.requires.partable (none-guided _)) (search rules)
+    row_found c.args.n c.args.kinds.now c.args.a.now c.args.b.now c.requires.partable (c.step_from-at.ensures.from c.args.kinds.now c.requires.partable (none-guided _)) (search rules)

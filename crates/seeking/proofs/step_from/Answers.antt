@@ -3,16 +3,16 @@
 use Rattle.seeking.proofs.Seeks.{bridgeless, part-following, step-completable, step-completed, step-none}
 use Rattle.seeking.proofs.step_from.Goals as goal
 
-pub returns-in_err-at-clause-stepped : goal.returns-in_err-at-clause-stepped
-returns-in_err-at-clause-stepped c =
+pub returns-in_err-at : goal.returns-in_err-at
+returns-in_err-at c =
     rw c.from_residual.ensures
     record {
       from = λ ks p guides.
           step-none (c.in_err-at.ensures.turned_back.from ks (part-following c.args.n ks c.args.a.now c.args.b.now p) p.connected-below guides);
     }
 
-pub returns-clause-stepped : goal.returns-clause-stepped
-returns-clause-stepped c =
+pub returns : goal.returns
+returns c =
     record {
       from = λ ks p guides.
           let d = c.in_ok-at.ensures.turned_back.from ks (part-following c.args.n ks c.args.a.now c.args.b.now p) p.connected-below guides in
