@@ -178,6 +178,7 @@ fn print_lines(
     let mut line = l;
     let mut known = kinds.len();
     let mut n = 0;
+    // each turn moves on by what a line could put: no index loop
     while n < out.len() {
         let turn = turned(
             line, setting, g, standing, known, guide, kinds, a, b, tried, under, ways, head, next,
