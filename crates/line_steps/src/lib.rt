@@ -14,7 +14,6 @@ use lines::{Due, due_of, due_plan};
 use listing_state::Line;
 use marks::MARK_BYTES;
 use network::MAX_REACHES;
-use stepping::copy_row;
 
 // The length of a plan's line.
 pub fn plan_length(g: usize) -> usize
@@ -41,7 +40,7 @@ pub fn asked(
 {
     let basins = l.basins;
     let mut old = [0u8; MAX_REACHES];
-    copy_row(setting, &mut old);
+    old.copy_from_slice(setting);
     let mut marks = [0u8; MARK_BYTES];
     let answer = planner_rows::next_plan(basins, kinds, a, b, &old[..g], setting, &mut marks);
     let due = due_of(answer, left);

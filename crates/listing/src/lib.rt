@@ -23,7 +23,6 @@ use listing_state::{Filled, Line, Lister};
 use network::{MAX_BASINS, MAX_REACHES};
 use priming::prime;
 use series_channels::find_if;
-use stepping::copy_row;
 use tables::{gates_held, least};
 
 // A line; and, of the working memory, the first reach of those that were looked at for bound gates (no promise rests on it).
@@ -224,7 +223,7 @@ fn fill_in(
     let oriented = &mut ways[..m];
     let standing = prime(basins, kinds, a, b, &setting[..g], oriented, head, next);
     let all = &mut tried[..m];
-    copy_row(&kinds[..m], all);
+    all.copy_from_slice(&kinds[..m]);
     let k = find_if(standing, basins, kinds, a, b, head, next, guide);
     print_lines(
         l,
