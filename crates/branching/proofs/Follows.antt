@@ -7,6 +7,7 @@ use mathlib.Core.Path.{◌≡◌, sym, ap, subst, subst⁻¹, ◌∙◌}
 use mathlib.Core.Bool.{Bool, true, false}
 use mathlib.Core.List.{List}
 use lib.ListN.{length, get_or, set}
+use Rattle.std.specs.Prelude.{None, Some}
 use Rattle.lists.proofs.Lists.{get_d_any}
 use Rattle.network.specs.Networks.{Network, basins_of, Accepted}
 use Rattle.network.specs.Orientations.{arcs}
@@ -50,15 +51,15 @@ module _ (n : ℕ) (ks xs ys : List ℕ) (ea : length xs ≡ length ks) (eb : le
 
   module _ (fs : List ℕ) (tries : Tries N fs) where
     -- all gates are oriented so
-    pub follow-done : (ws : List ℕ) (i : ℕ) → i ≡ length ks → Along N fs us ws i → Followed N fs us ws i
+    pub follow-done : (ws : List ℕ) (i : ℕ) → i ≡ length ks → Along N fs us ws i → Followed N fs us ws None
     follow-done ws i e w =
         let same : i ≡ length N.reaches = e ∙ sym (row-length ks xs ys ea eb) in
         let all : up_to fs us i ≡ us = ap (λ (j : ℕ). up_to fs us j) same ∙ up-all N u.setting us u.is fs tries in
-        through same (w.is ∙ all) (subst (λ (v : List ℕ). StronglyConnected N v) all w.connected)
+        through (w.is ∙ all) (subst (λ (v : List ℕ). StronglyConnected N v) all w.connected)
 
     -- no gate is left to look at
-    pub back_done : (to : ℕ) (ws : List ℕ) (i r : ℕ) → i ≡ 0 → r ≡ length ks → Back N fs us to ws i → TurnedBack N fs us to ws r
-    back_done to ws i r e f w = nowhere (f ∙ sym (row-length ks xs ys ea eb)) (λ j l. w.none j (omega arith) l)
+    pub back_done : (to : ℕ) (ws : List ℕ) (i : ℕ) → i ≡ 0 → Back N fs us to ws i → TurnedBack N fs us to ws None
+    back_done to ws i e w = nowhere (λ j l. w.none j (omega arith) l)
 
     module _ (ok : Accepted N) (i : ℕ) (l : i < length ks) where
       below : i < length N.reaches
@@ -108,7 +109,7 @@ module _ (n : ℕ) (ks xs ys : List ℕ) (ea : length xs ≡ length ks) (eb : le
             record { is = d.0 ∙ more; connected = subst (λ (v : List ℕ). StronglyConnected N v) more d.1 }
 
         -- or the gate that loses something
-        pub follow-off : {ws' : List ℕ} {r : Bool} → OrientedAs fs xs ys us ws i ws' r → r ≡ false → Followed N fs us ws' i
+        pub follow-off : {ws' : List ℕ} {r : Bool} → OrientedAs fs xs ys us ws i ws' r → r ≡ false → Followed N fs us ws' (Some i)
         follow-off (no-gate p e q) y = clash q y
         follow-off (as-under p t) y =
             let d = tried-off w.connected p (get_or us i 0) (byte_small p) (tried_same xs ys ws (up_to fs us i) i same t) y in
@@ -144,7 +145,7 @@ module _ (n : ℕ) (ks xs ys : List ℕ) (ea : length xs ≡ length ks) (eb : le
             record { is = o.0; none = more-none (λ h x. o.1) }
 
         -- or the gate that was turned
-        back_found : {ws' : List ℕ} {r : Bool} → PartedAt fs xs ys us ws i ws' r → r ≡ true → TurnedBack N fs us to ws' i
+        back_found : {ws' : List ℕ} {r : Bool} → PartedAt fs xs ys us ws i ws' r → r ≡ true → TurnedBack N fs us to ws' (Some i)
         back_found (passed p q z) y = clash y z
         back_found (freed p z q d) y = clash y d
         back_found (tried p z t) y =
@@ -176,5 +177,5 @@ module _
     pub turn_on : {ws' : List ℕ} {r : Bool} → PartedAtFrom n guide fs xs ys us ws i ws' r → r ≡ false → Back (net_of n ks xs ys) fs us to ws' i
     turn_on f = back_on n ks xs ys (sym p.kinds-full) (eb ∙ sym p.kinds-full) us p.under fs p.tries p.accepted i l ws to m e k all w (parted f)
 
-    pub turn-found : {ws' : List ℕ} {r : Bool} → PartedAtFrom n guide fs xs ys us ws i ws' r → r ≡ true → TurnedBack (net_of n ks xs ys) fs us to ws' i
+    pub turn-found : {ws' : List ℕ} {r : Bool} → PartedAtFrom n guide fs xs ys us ws i ws' r → r ≡ true → TurnedBack (net_of n ks xs ys) fs us to ws' (Some i)
     turn-found f = back_found n ks xs ys (sym p.kinds-full) (eb ∙ sym p.kinds-full) us p.under fs p.tries p.accepted i l ws to m e k all w (parted f)

@@ -7,6 +7,7 @@ use mathlib.Core.Bool.{Bool, true, false}
 use mathlib.Core.Logic.{⊎_elim}
 use mathlib.Core.List.{List, []}
 use lib.ListN.{length, set}
+use Rattle.std.specs.Prelude.{None, Some}
 use Rattle.network.specs.Networks.{Network, Accepted}
 use Rattle.network.specs.Tables.{table_of}
 use Rattle.network.specs.Orientations.{Arc, reached}
@@ -56,7 +57,7 @@ module _ (n : ℕ) (ks xs ys : List ℕ) (ea : length xs ≡ length ks) (eb : le
         bridge y = is-bridge N ok fs ws i below w.begun g (row-led n ks xs ys ea eb ws i l ∙ p) (row-led-turned n ks xs ys ea eb ws i l ∙ y)
 
     -- or the gate that can get neither way
-    pub going-bridge : {ws' seen : List ℕ} {r : Bool} (ws'' : List ℕ) → OrientedGate n fs xs ys ws i ws' seen r → r ≡ false → Greedy N ws₀ from ws'' seen i
+    pub going-bridge : {ws' seen : List ℕ} {r : Bool} (ws'' : List ℕ) → OrientedGate n fs xs ys ws i ws' seen r → r ≡ false → Greedy N ws₀ from ws'' seen (Some i)
     going-bridge ws'' (no-gate g e q) y = clash q y
     going-bridge ws'' (drawn g p e q) y = clash q y
     going-bridge ws'' (turned g p p' e q) y = clash q y
@@ -71,10 +72,10 @@ module _ (n : ℕ) (ks xs ys : List ℕ) (ea : length xs ≡ length ks) (eb : le
   pub plain-clear : (i : ℕ) → i < length ks → is_tried ks i ≡ false → is_bridge N i ≡ false
   plain-clear i l p = Bool-eq-false {b = is_bridge N i} (λ e. clash (bridge-gated N i e) (row-gated n ks xs ys ea eb i false l p))
 
-  pub going_done : (fs ws₀ : List ℕ) (from : ℕ) (ws seen : List ℕ) (i : ℕ) → i ≡ length ks → Going N fs ws₀ from ws i → Greedy N ws₀ from ws seen i
+  pub going_done : (fs ws₀ : List ℕ) (from : ℕ) (ws seen : List ℕ) (i : ℕ) → i ≡ length ks → Going N fs ws₀ from ws i → Greedy N ws₀ from ws seen None
   going_done fs ws₀ from ws seen i e w =
       let same : i ≡ length (table_of ks xs ys) = e ∙ sym (row-length ks xs ys ea eb) in
-      all-oriented same (going_end N fs ws₀ from ws (subst (λ (j : ℕ). Going N fs ws₀ from ws j) same w))
+      all-oriented (going_end N fs ws₀ from ws (subst (λ (j : ℕ). Going N fs ws₀ from ws j) same w))
 
   pub going-complete : (fs ws₀ : List ℕ) (from : ℕ) (ws : List ℕ) (i : ℕ) → i ≡ length ks → Going N fs ws₀ from ws i → Completed N ws₀ ws
   going-complete fs ws₀ from ws i e w =

@@ -1,6 +1,6 @@
 -- Deciding the gates one after the other, each as drawn where that loses nothing, else turned.
 -- Assumes nothing.
-use Rattle.std.specs.Prelude.{ℕ, ◌≤◌, ◌<◌, ◌≡◌, true, false, List, length}
+use Rattle.std.specs.Prelude.{ℕ, ◌≤◌, ◌<◌, ◌≡◌, true, false, List, length, Option, None, Some}
 use Rattle.lists.specs.Lists.{keep}
 use Rattle.network.specs.Networks.{Network, basins_of, Accepted}
 use Rattle.network.specs.Orientations.{ways}
@@ -21,10 +21,10 @@ pub record Completable (n : ℕ) (ks fs xs ys ws : List ℕ) (i : ℕ) : Type 0 
 
 -- What deciding the gates from i on leaves: the least plan that fits, or the first gate that can get neither way. That one is a bridge,
 -- those before it are none, and it alone crosses the cut of the basins that are noted as reached.
-pub data Greedy (N : Network) (ws : List ℕ) (i : ℕ) : List ℕ → List ℕ → ℕ → Type 0 where
-  all-oriented : {ws' seen : List ℕ} {r : ℕ} → r ≡ length N.reaches → LeastPlan N ws (bytes_of N.reaches ws') → Greedy N ws i ws' seen r
+pub data Greedy (N : Network) (ws : List ℕ) (i : ℕ) : List ℕ → List ℕ → Option ℕ → Type 0 where
+  all-oriented : {ws' seen : List ℕ} → LeastPlan N ws (bytes_of N.reaches ws') → Greedy N ws i ws' seen None
   bridge-at : {ws' seen : List ℕ} {r : ℕ} → r < length N.reaches → is_bridge N r ≡ true → ((j : ℕ) → i ≤ j → j < r → is_bridge N j ≡ false)
-      → crosses_alone N (keep (noted seen) (basins_of N)) r ≡ true → Greedy N ws i ws' seen r
+      → crosses_alone N (keep (noted seen) (basins_of N)) r ≡ true → Greedy N ws i ws' seen (Some r)
 
 -- What it leaves where no reach is a bridge: the ways of the least plan that fits.
 pub record Completed (N : Network) (ws ws' : List ℕ) : Type 0 where

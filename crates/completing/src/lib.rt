@@ -8,8 +8,8 @@ ghost use Rattle.tables.specs.Rows.{net_of};
 ghost use Rattle.orienting.specs.Ready.{Ready};
 ghost use Rattle.completing.specs.Greedy.{Completable, Greedy, CompletedFrom};
 
-// Orients the gates from reach `from` on, one after the other. Returns the number of reaches, or the first gate that can get neither way: then seen
-// holds a side of it, and the ways are free. What else it leaves in seen, and the queue, is free.
+// Orients the gates from reach `from` on, one after the other. Returns the first gate that can get neither way: then seen holds a side of it, and the ways
+// are free. What else it leaves in seen, and the queue, is free.
 pub fn greedy(
     n: usize,
     kinds: &[u8],
@@ -21,20 +21,18 @@ pub fn greedy(
     from: usize,
     seen: &mut [u16],
     queue: &mut [u16],
-) -> usize
+) -> Option<usize>
     requires ready { Ready n a.now b.now ways.old head.now next.now seen.old queue.old }
     requires completable { Completable n kinds.now kinds.now a.now b.now ways.old from }
     ensures { Greedy (net_of n kinds.now a.now b.now) ways.old from
         ways.new seen.new result }
 {
-    let mut i = from;
-    while i < a.len() {
+    for i in from..a.len() {
         if !deciding::orient_gate(n, kinds, a, b, ways, head, next, i, seen, queue) {
-            return i;
+            return Some(i);
         }
-        i += 1;
     }
-    i
+    None
 }
 
 // The same as `greedy` where no reach is a bridge, of the gates that are tried: one search for each that no other reach guides, and every one gets a way. A
@@ -57,9 +55,7 @@ pub fn complete(
     requires from_in_bounds { from ≤ length a.now }
     ensures { CompletedFrom n guide.now tried.now a.now b.now ways.old from ways.new }
 {
-    let mut i = from;
-    while i < a.len() {
+    for i in from..a.len() {
         deciding::settle(n, guide, tried, a, b, ways, head, next, i, seen, queue);
-        i += 1;
     }
 }

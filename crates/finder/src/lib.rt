@@ -12,7 +12,7 @@ ghost use Rattle.finder.specs.Rooms.{Room, Preparable, Prepared, Seekable};
 
 use half_edges::HALF_EDGES;
 use network::MAX_BASINS;
-use seeking::{Found, Sought};
+use seeking::Found;
 
 // Fills the working memory: the ways of the reaches under a setting, and the index of their half-edges.
 pub fn prepare(
@@ -85,7 +85,7 @@ pub fn find_next(
     next: &mut [u16; HALF_EDGES],
     seen: &mut [u16; MAX_BASINS],
     queue: &mut [u16; MAX_BASINS],
-) -> Sought
+) -> Option<Found>
     requires { Seekable n kinds.now a.now b.now setting.now under.old ways.old head.old next.old seen.old queue.old }
     ensures { NextFound (net_of n kinds.now a.now b.now) setting.now
         ways.new seen.new result }

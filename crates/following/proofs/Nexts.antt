@@ -3,11 +3,13 @@
 use Prim.Native.Nat.{ℕ, suc, ◌+◌, ◌<◌}
 use native.Mathlib.Omega.{arith}
 use native.Mathlib.Numerals.{add-one}
-use mathlib.Core.Path.{◌≡◌, sym, ap, subst, subst⁻¹, ◌∙◌}
+use mathlib.Core.Path.{◌≡◌, refl, sym, ap, subst, subst⁻¹, ◌∙◌}
 use mathlib.Core.List.{List, []}
 use Rattle.std.proofs.Common.{Option, true, false, not, is_some, is_none}
 use lib.ListN.{length, get_or, set}
 use mathlib.Mathlib.Data.Bool.Basic.{and_intro}
+use Rattle.std.proofs.Common.{rules}
+use Rattle.std.specs.Prelude.{Option, Some, IsSome}
 use Rattle.network.specs.Networks.{Network, Accepted}
 use Rattle.network.specs.Orientations.{ways}
 use Rattle.network.specs.Plans.{strongly_connected_under, is_plan}
@@ -27,8 +29,6 @@ use Rattle.branching.proofs.Follows.{under-length}
 use Rattle.lists.proofs.Lists.{get_d_any}
 use Rattle.seeking.specs.declared.Found.{Found}
 use Rattle.seeking.specs.declared.Found.TheVariants.{Closed, Bridge, Oriented}
-use Rattle.seeking.specs.declared.Sought.{Sought}
-use Rattle.seeking.specs.declared.Sought.TheVariants.{CameTo}
 use Rattle.seeking.specs.Found.{FirstFound, found-closed, found-bridge, found-plan, NextFound, next-is}
 use Rattle.seeking.specs.Seeks.{SomePlan, Partable, AtPlan, NextFrom}
 use Rattle.following.specs.Nexts.{OtherThanPlan, Followable, AtSetting, NextAfter}
@@ -45,19 +45,11 @@ record Stop (N : Network) (fs us ws : List ℕ) (r : ℕ) : Type 0 where
 module _ (N : Network) where
   -- ---- a finding is one whatever is asked for
 
-  pub closed-next : {ws seen us : List ℕ} {f : Found} (ws' : List ℕ) → f ≡ Closed → FirstFound N ws seen f → NextAfter N us ws' seen (CameTo Closed)
+  pub finding-next : Accepted N → {ws seen us : List ℕ} {f : Found} (ws' : List ℕ) → (f ≡ Oriented → ⊥) → FirstFound N ws seen f → NextAfter N us ws' seen (Some f)
   unfolding next_answer answer
-  closed-next {ws} {seen} {us} {f} ws' same d = go (subst (λ (x : Found). FirstFound N ws seen x) same d)
-    where
-      go : FirstFound N ws seen Closed → NextAfter N us ws' seen (CameTo Closed)
-      go (found-closed n k) = record { found = λ s fit is. next-is {ws = ws'} {f = Closed} (rw n) k (omega arith) }
-
-  pub bridge-next : Accepted N → {ws seen us : List ℕ} {f : Found} {r : ℕ} (ws' : List ℕ) → f ≡ Bridge r → FirstFound N ws seen f → NextAfter N us ws' seen (CameTo (Bridge r))
-  unfolding next_answer answer
-  bridge-next ok {ws} {seen} {us} {f} {r} ws' same d = go (subst (λ (x : Found). FirstFound N ws seen x) same d)
-    where
-      go : FirstFound N ws seen (Bridge r) → NextAfter N us ws' seen (CameTo (Bridge r))
-      go (found-bridge p e l k) = record { found = λ s fit is. next-is {ws = ws'} {f = Bridge r} (rw (p, e)) k (omega (arith, (accepted N ok).few-reaches)) }
+  finding-next ok ws' differ (found-closed n k) = record { found = λ s fit is. next-is {ws = ws'} {f = Closed} (rw n) k (omega arith) }
+  finding-next ok ws' differ (found-bridge {r = r} p e l k) = record { found = λ s fit is. next-is {ws = ws'} {f = Bridge r} (rw (p, e)) k (omega (arith, (accepted N ok).few-reaches)) }
+  finding-next ok ws' differ (found-plan p e m) = absurd (differ refl)
 
   pub plan-some : {ws seen : List ℕ} {f : Found} → f ≡ Oriented → FirstFound N ws seen f → SomePlan N
   plan-some {ws} {seen} {f} same d = go (subst (λ (x : Found). FirstFound N ws seen x) same d)
@@ -72,9 +64,8 @@ module _ (N : Network) where
   open-connected p = sym (passable-open N) ∙ plan-passable N p.plan p.is-plan
 
   -- it stops at a reach if it is no plan
-  stops : {fs us ws : List ℕ} {r : ℕ} → NotStronglyConnected N us → Followed N fs us ws r → Stop N fs us ws r
-  stops b (through e q w) = clash w b
-  stops b (stopped l e w q) = record { below = l; is = e; connected = subst (λ (v : List ℕ). StronglyConnected N v) e w; lost = q }
+  stops : {fs us ws : List ℕ} {r : ℕ} → Followed N fs us ws (Some r) → Stop N fs us ws r
+  stops (stopped l e w q) = record { below = l; is = e; connected = subst (λ (v : List ℕ). StronglyConnected N v) e w; lost = q }
 
 -- ---- said of rows
 
@@ -105,9 +96,14 @@ module _ (n : ℕ) (ks xs ys : List ℕ) where
     pub follow-length : length us ≡ length xs
     follow-length = let v = p.other.seeking.level in under-length n ks xs ys v.ends-a v.ends-b us p.other.seeking.under ∙ sym v.ends-a
 
-    module _ {ws₁ : List ℕ} {r : ℕ} (f : Followed N ks us ws₁ r) where
+    -- since it is no plan, it stops
+    pub follow-stops : {ws₁ : List ℕ} {r : Option ℕ} → Followed N ks us ws₁ r → IsSome r
+    follow-stops (through e w) = clash w p.other.lost
+    follow-stops {ws₁} (stopped {r = x} l e w q) = search rules
+
+    module _ {ws₁ : List ℕ} {q : Option ℕ} {r : ℕ} (f : Followed N ks us ws₁ q) (e : q ≡ Some r) where
       stop : Stop N ks us ws₁ r
-      stop = stops N p.other.lost f
+      stop = stops N (subst (λ (v : Option ℕ). Followed N ks us ws₁ v) e f)
 
       pub follow-below : r < length xs
       follow-below = omega (arith, stop.below, level-length p.other.seeking.level)
@@ -126,7 +122,7 @@ module _ (n : ℕ) (ks xs ys : List ℕ) where
             connected-below = λ j l. connected-lower N u.setting us u.is ks (kinds-bind p.other.seeking.level u).tries r j stop.connected (omega arith) (omega (arith, stop.below));
           }
 
-      pub follow-found : {ws' seen : List ℕ} {q : Sought} → NextFrom N us (r + 1) ws' seen q → NextAfter N us ws' seen q
+      pub follow-found : {ws' seen : List ℕ} {p' : Option Found} → NextFrom N us (r + 1) ws' seen p' → NextAfter N us ws' seen p'
       follow-found d =
           record {
             found = λ s fit is.
@@ -161,5 +157,5 @@ module _ (n : ℕ) (ks xs ys : List ℕ) where
           lost = subst⁻¹ (λ (v : List ℕ). NotStronglyConnected N v) (under-row p.level s p.oriented) (sym strongly_connected ∙ ap not differ);
         }
 
-    pub seek_found : {ws' seen' : List ℕ} {q : Sought} → NextAfter N us ws' seen' q → NextFound N s ws' seen' q
+    pub seek_found : {ws' seen' : List ℕ} {q : Option Found} → NextAfter N us ws' seen' q → NextFound N s ws' seen' q
     seek_found d = d.found s p.fits (under-row p.level s p.oriented)

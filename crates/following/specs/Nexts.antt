@@ -1,12 +1,12 @@
 -- What the search for the next plan of a setting requires, and what it finds.
 -- Assumes nothing.
-use Rattle.std.specs.Prelude.{ℕ, ◌≡◌, true, List, length}
+use Rattle.std.specs.Prelude.{ℕ, ◌≡◌, true, List, length, Option}
 use Rattle.network.specs.Networks.{Network}
 use Rattle.network.specs.Settings.{is_setting}
 use Rattle.network.specs.Orientations.{ways}
 use Rattle.tables.specs.Rows.{net_of, ways_row}
 use Rattle.orientations.specs.Partials.{NotStronglyConnected}
-use Rattle.seeking.specs.declared.Sought.{Sought}
+use Rattle.seeking.specs.declared.Found.{Found}
 use Rattle.seeking.specs.Levels.{Level}
 use Rattle.seeking.specs.Found.{NextFound}
 use Rattle.seeking.specs.Seeks.{SomePlan, Seeking}
@@ -30,5 +30,5 @@ pub record Followable (n : ℕ) (ks xs ys us ws : List ℕ) : Type 0 where
   pub some-plan : SomePlan (net_of n ks xs ys)
 
 -- What is found after the setting with the ways us.
-pub record NextAfter (N : Network) (us ws seen : List ℕ) (r : Sought) : Type 0 where
+pub record NextAfter (N : Network) (us ws seen : List ℕ) (r : Option Found) : Type 0 where
   pub found : (s : List ℕ) → is_setting N s ≡ true → us ≡ ways N.reaches s → NextFound N s ws seen r

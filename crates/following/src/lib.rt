@@ -11,7 +11,7 @@ ghost use Rattle.seeking.specs.Found.{NextFound};
 ghost use Rattle.seeking.specs.Seeks.{AtPlan};
 ghost use Rattle.following.specs.Nexts.{OtherThanPlan, Followable, AtSetting, NextAfter};
 
-use seeking::{Found, Sought};
+use seeking::Found;
 
 // The next plan of a plan, whose ways `under` has: no other is alike to the end.
 fn next_of_plan(
@@ -26,7 +26,7 @@ fn next_of_plan(
     next: &[u16],
     seen: &mut [u16],
     queue: &mut [u16],
-) -> Sought
+) -> Option<Found>
     requires ready { Ready n a.now b.now ways.old head.now next.now seen.old queue.old }
     requires at_plan { AtPlan n kinds.now a.now b.now setting.now under.now }
     ensures { NextFound (net_of n kinds.now a.now b.now) setting.now
@@ -37,8 +37,8 @@ fn next_of_plan(
     seeking::part_from(n, kinds, a, b, under, ways, head, next, m, seen, queue)
 }
 
-// The next plan of a setting that is none, where there is a plan: the setting is followed up to the first gate that loses something, and none is
-// alike up to that gate and with it.
+// The next plan of a setting that is none, where there is a plan: the setting is followed up to the first gate that loses something, which it has, since it is
+// no plan; and no plan is alike up to that gate and with it.
 fn follow_and_part(
     n: usize,
     kinds: &[u8],
@@ -50,14 +50,14 @@ fn follow_and_part(
     next: &[u16],
     seen: &mut [u16],
     queue: &mut [u16],
-) -> Sought
+) -> Option<Found>
     requires ready { Ready n a.now b.now ways.old head.now next.now seen.old queue.old }
     requires followable { Followable n kinds.now a.now b.now under.now ways.old }
     ensures { NextAfter (net_of n kinds.now a.now b.now) under.now
         ways.new seen.new result }
 {
     tables::orient(kinds, &[], ways);
-    let r = branching::follow(n, kinds, a, b, under, ways, head, next, seen, queue);
+    let r = branching::follow(n, kinds, a, b, under, ways, head, next, seen, queue).unwrap();
     ways[r] = under[r];
     seeking::part_from(n, kinds, a, b, under, ways, head, next, r + 1, seen, queue)
 }
@@ -74,7 +74,7 @@ fn next_of_other(
     next: &[u16],
     seen: &mut [u16],
     queue: &mut [u16],
-) -> Sought
+) -> Option<Found>
     requires ready { Ready n a.now b.now ways.old head.now next.now seen.old queue.old }
     requires other_than_plan { OtherThanPlan n kinds.now a.now b.now under.now ways.old }
     ensures { NextAfter (net_of n kinds.now a.now b.now) under.now
@@ -82,9 +82,8 @@ fn next_of_other(
 {
     tables::orient(kinds, &[], ways);
     match seeking::first_from(n, kinds, a, b, ways, head, next, seen, queue) {
-        Found::Closed => Sought::CameTo(Found::Closed),
-        Found::Bridge(r) => Sought::CameTo(Found::Bridge(r)),
         Found::Oriented => follow_and_part(n, kinds, a, b, under, ways, head, next, seen, queue),
+        finding => Some(finding),
     }
 }
 
@@ -101,7 +100,7 @@ pub fn next_of(
     next: &[u16],
     seen: &mut [u16],
     queue: &mut [u16],
-) -> Sought
+) -> Option<Found>
     requires ready { Ready n a.now b.now ways.old head.now next.now seen.old queue.old }
     requires at_setting { AtSetting n kinds.now a.now b.now setting.now under.now ways.old }
     ensures { NextFound (net_of n kinds.now a.now b.now) setting.now

@@ -3,7 +3,7 @@
 
 #![tactic(auto)]
 
-ghost use Rattle.std.specs.Prelude.{◌≡◌, ◌≤◌, length};
+ghost use Rattle.std.specs.Prelude.{◌≡◌, ◌≤◌, length, IfSome};
 ghost use Rattle.network.specs.Networks.{max_reaches};
 ghost use Rattle.tables.specs.Rows.{net_of, gates_in, gates_held};
 ghost use Rattle.listing_state.specs.Pending.{holding};
@@ -14,7 +14,6 @@ use lines::{Due, due_of, due_plan};
 use listing_state::Line;
 use marks::MARK_BYTES;
 use network::MAX_REACHES;
-use stepping::copy_row;
 
 // The length of a plan's line.
 pub fn plan_length(g: usize) -> usize
@@ -41,39 +40,38 @@ pub fn asked(
 {
     let basins = l.basins;
     let mut old = [0u8; MAX_REACHES];
-    copy_row(setting, &mut old);
+    old.copy_from_slice(setting);
     let mut marks = [0u8; MARK_BYTES];
     let answer = planner_rows::next_plan(basins, kinds, a, b, &old[..g], setting, &mut marks);
     let due = due_of(answer, left);
     Line { basins, due, at: 0 }
 }
 
-// The same after a step from the plan in hand to the ways of the next, which part from it at reach r; or no plan is later, and r is the number of reaches.
-// The bytes before that reach's stand.
+// The same after a step from the plan in hand to the ways of the next, which part from it at a reach, if a plan is later. The bytes before that reach's stand.
 pub fn after_step(
     l: Line,
     setting: &mut [u8],
     left: usize,
     g: usize,
-    r: usize,
+    parted: Option<usize>,
     kinds: &[u8],
     ways: &[u8],
 ) -> Line
     requires ways_len { length ways.now ≡ length kinds.now }
     requires g_value { g ≡ gates_in kinds.now }
     requires g_in_bounds { g ≤ length setting.old }
-    requires front_stands { FrontStands kinds.now ways.now r setting.old }
+    requires front_stands { IfSome parted (FrontStands kinds.now ways.now setting.old) }
     ensures { holding result setting.new
-        ≡ after_step kinds.now ways.now r (holding l setting.old) left g }
+        ≡ after_step kinds.now ways.now parted (holding l setting.old) left g }
 {
     let basins = l.basins;
-    if r >= kinds.len() {
+    let Some(r) = parted else {
         return Line {
             basins,
             due: Due::End,
             at: 0,
         };
-    }
+    };
     stepping::rewrite(kinds, ways, r, g, setting);
     let due = due_plan(left);
     Line { basins, due, at: 0 }

@@ -8,6 +8,7 @@ use mathlib.Core.Bool.{Bool, true, true≢false}
 use mathlib.Core.List.{List, ◌++◌}
 use lib.ListN.{length, get_or, take, drop}
 use lib.Seq.{take-take, take_all}
+use Rattle.std.specs.Prelude.{Option, IfSome}
 use Rattle.network.specs.declared.Refusal.TheVariants.{LastPlan}
 use Rattle.network.specs.Networks.{Network, max_basins, max_reaches}
 use Rattle.network.specs.Settings.{setting_fault}
@@ -39,7 +40,6 @@ use Rattle.listing_state.specs.Pending.{pending_of, state_net}
 use Rattle.listing_state.specs.Parts.{LineAfter}
 use Rattle.listing.specs.Keeping.{Placed, Standing, Kept, unknown, kept}
 use Rattle.line_steps.specs.Steps.{after_step, FrontStands}
-use Rattle.line_steps.proofs.Steps.{after_last, after_next}
 use Rattle.listing_state.proofs.States.{GivenPlan, roomy, plan-held, reply-pending}
 
 module _ (l : Lister) (ks xs ys ws : List ℕ) (left g : ℕ) (held : g ≡ gates_held (state_net l ks xs ys)) (p : AtPlan l.basins ks xs ys (take g l.setting) ws) where
@@ -125,21 +125,21 @@ module _ (l : Lister) (ks xs ys ws : List ℕ) (left g : ℕ) (held : g ≡ gate
         stands (suc k) = record { at-plan = subst⁻¹ (λ (v : List ℕ). AtPlan l.basins ks xs ys v ws') in-hand at_next; binds = b.still q at_next moved_on }
 
   -- a step that was taken: the bytes before the next plan's gate stand, and the state after it
-  module _ {ws' : List ℕ} {r : ℕ} (a : Advanced N ks s ws' r) where
-    pub step-front : FrontStands ks ws' r l.setting
-    step-front t = go a
+  module _ {ws' : List ℕ} {r : Option ℕ} (a : Advanced N ks s ws' r) where
+    pub step-front : IfSome r (FrontStands ks ws' l.setting)
+    step-front = go a
       where
-        go : Advanced N ks s ws' r → take (gates_before ks r) l.setting ≡ take (gates_before ks r) (bytes_row ks ws')
-        go (moved d e is oriented) = front-stands d
-        go (at_last y e) = absurd (omega arith)
+        go : {r' : Option ℕ} → Advanced N ks s ws' r' → IfSome r' (FrontStands ks ws' l.setting)
+        go (moved d e is oriented) = record { below = d.below; stands = front-stands d }
+        go (at_last e) = tt
 
     module _ {o : Lister} (is : o ≡ after_step ks ws' r l left g) where
       pub step_line : LineAfter N l left o
       step_line = subst⁻¹ (LineAfter N l left) is (go a)
         where
-          go : Advanced N ks s ws' r → LineAfter N l left (after_step ks ws' r l left g)
-          go (moved d e p' oriented) = subst (LineAfter N l left) (after_next ks ws' r l left g d.below refl refl) (step-next refl e p' oriented refl)
-          go (at_last y e) = subst (LineAfter N l left) (after_last ks ws' r l left g (omega (arith, y))) (step-last e)
+          go : {r' : Option ℕ} → Advanced N ks s ws' r' → LineAfter N l left (after_step ks ws' r' l left g)
+          go (moved d e p' oriented) = step-next refl e p' oriented refl
+          go (at_last e) = step-last e
 
       pub step-stands : {fs fs' : List ℕ} → Binds N fs ws → BindsStill l.basins ks xs ys ws' fs fs' → Standing l.basins ks fs' xs ys o.due (take g o.setting) ws'
       step-stands {fs} {fs'} h b = subst⁻¹ at is (go a)
@@ -147,9 +147,9 @@ module _ (l : Lister) (ks xs ys ws : List ℕ) (left g : ℕ) (held : g ≡ gate
           at : Lister → Type 0
           at x = Standing l.basins ks fs' xs ys x.due (take g x.setting) ws'
 
-          go : Advanced N ks s ws' r → at (after_step ks ws' r l left g)
-          go (moved d e p' oriented) = subst at (after_next ks ws' r l left g d.below refl refl) (next-stands refl e p' oriented refl h b)
-          go (at_last y e) = subst at (after_last ks ws' r l left g (omega (arith, y))) tt
+          go : {r' : Option ℕ} → Advanced N ks s ws' r' → at (after_step ks ws' r' l left g)
+          go (moved d e p' oriented) = next-stands refl e p' oriented refl h b
+          go (at_last e) = tt
 
 -- ---- working memory that is kept
 

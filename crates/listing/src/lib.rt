@@ -23,7 +23,6 @@ use listing_state::{Filled, Line, Lister};
 use network::{MAX_BASINS, MAX_REACHES};
 use priming::prime;
 use series_channels::find_if;
-use stepping::copy_row;
 use tables::{gates_held, least};
 
 // A line; and, of the working memory, the first reach of those that were looked at for bound gates (no promise rests on it).
@@ -45,13 +44,11 @@ fn put_line(l: Line, setting: &[u8], g: usize, out: &mut [u8]) -> usize
     requires { g ≤ length setting.now }
     ensures { Put (drop l.at (line_of l.due (take g setting.now))) out.old out.new result }
 {
-    let at = l.at;
-    let due = l.due;
-    match due {
-        Due::Plan(_) => put_plan(&setting[..g], at, out),
-        Due::More => put_more(at, out),
-        Due::End => put_end(at, out),
-        Due::Refused(n) => put_refused(n, at, out),
+    match l.due {
+        Due::Plan(_) => put_plan(&setting[..g], l.at, out),
+        Due::More => put_more(l.at, out),
+        Due::End => put_end(l.at, out),
+        Due::Refused(n) => put_refused(n, l.at, out),
     }
 }
 
@@ -87,14 +84,16 @@ fn line_after(
         under.new ways.new head.now next.now seen.new queue.new standing }
 {
     if standing {
-        let basins = l.basins;
-        let n = basins as usize;
-        let r = stepping::advance(n, guide, tried, a, b, under, ways, head, next, seen, queue);
-        let noted = skipping::note_bound(
-            n, guide, kinds, a, b, tried, under, ways, head, next, r, known, seen, queue,
-        );
-        let line = after_step(l, setting, left, g, r, kinds, ways);
-        return Turn { line, known: noted };
+        let n = l.basins as usize;
+        let parted = stepping::advance(n, guide, tried, a, b, under, ways, head, next, seen, queue);
+        let line = after_step(l, setting, left, g, parted, kinds, ways);
+        let known = match parted {
+            Some(r) => skipping::note_bound(
+                n, guide, kinds, a, b, tried, under, ways, head, next, r, known, seen, queue,
+            ),
+            None => known,
+        };
+        return Turn { line, known };
     }
     let line = asked(l, setting, left, g, kinds, a, b);
     Turn { line, known }
@@ -130,8 +129,7 @@ fn turned(
     ensures kept_2 { Kept l.basins kinds.now tried.new a.now b.now result.line.due (take g setting.new)
         under.new ways.new head.now next.now seen.new queue.new standing }
 {
-    let due = l.due;
-    match due {
+    match l.due {
         Due::Plan(left) => if l.at < plan_length(g) {
             Turn { line: l, known }
         } else {
@@ -176,6 +174,7 @@ fn print_lines(
     let mut line = l;
     let mut known = kinds.len();
     let mut n = 0;
+    // each turn moves on by what a line could put: no index loop
     while n < out.len() {
         let turn = turned(
             line, setting, g, standing, known, guide, kinds, a, b, tried, under, ways, head, next,
@@ -224,7 +223,7 @@ fn fill_in(
     let oriented = &mut ways[..m];
     let standing = prime(basins, kinds, a, b, &setting[..g], oriented, head, next);
     let all = &mut tried[..m];
-    copy_row(&kinds[..m], all);
+    all.copy_from_slice(&kinds[..m]);
     let k = find_if(standing, basins, kinds, a, b, head, next, guide);
     print_lines(
         l,
@@ -277,20 +276,17 @@ fn fill_lines(
 pub fn fill(l: Lister, kinds: &[u8], a: &[u16], b: &[u16], out: &mut [u8]) -> Filled
     ensures { Filling l kinds.now a.now b.now out.old out.new result }
 {
-    let due = l.due;
     let line = Line {
         basins: l.basins,
-        due,
+        due: l.due,
         at: l.at,
     };
     let mut setting = l.setting;
     let laid = fill_lines(line, &mut setting, kinds, a, b, out);
-    let after = laid.line;
-    let due = after.due;
     let lister = Lister {
-        basins: after.basins,
-        due,
-        at: after.at,
+        basins: laid.line.basins,
+        due: laid.line.due,
+        at: laid.line.at,
         setting,
     };
     Filled {

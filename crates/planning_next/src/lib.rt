@@ -15,7 +15,6 @@ ghost use Rattle.replies.specs.Reports.{Lent};
 use half_edges::HALF_EDGES;
 use network::{MAX_BASINS, MAX_REACHES, Refusal};
 use replies::{Answer, report};
-use seeking::Sought;
 
 // The next plan of a setting of an accepted table whose rows are of one length, or its finding, or that no plan is later, in lent working memory.
 // The setting fits and the buffers are long enough.
@@ -57,10 +56,8 @@ fn next_in(
         queue,
     );
     match sought {
-        Sought::NoneLater => Answer::Refused(Refusal::LastPlan),
-        Sought::CameTo(found) => Answer::Given(report(
-            found, n, kinds, oriented, seen, plan, marks,
-        )),
+        None => Answer::Refused(Refusal::LastPlan),
+        Some(found) => Answer::Given(report(found, n, kinds, oriented, seen, plan, marks)),
     }
 }
 

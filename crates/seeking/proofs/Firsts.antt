@@ -10,6 +10,7 @@ use mathlib.Core.List.{List, [], Memᴰ}
 use lib.ListN.{length}
 use lib.Dec.{ltb}
 use mathlib.Mathlib.Data.Bool.Basic.{and_intro, Bool-eq-false}
+use Rattle.std.specs.Prelude.{None, Some}
 use Rattle.lists.specs.Lists.{range, find, keep, elem}
 use Rattle.network.specs.Networks.{Network, is_wet, basins_of, lowest_basin, Accepted}
 use Rattle.network.specs.Orientations.{Arc, ways, arcs, arcs_under, reached, unoriented}
@@ -172,13 +173,11 @@ module _ (N : Network) where
     pub passed-basin : ShutInBasin N opened None → passable N ≡ true
     passed-basin w = passable-open N ∙ strong-basin N opened None w
 
-    pub bridge-first : {ws₁ ws seen seen' : List ℕ} {r : ℕ} → passable N ≡ true → r < length N.reaches → Greedy N (ways N.reaches []) 0 ws₁ seen r → FarSideNoted N seen seen' → FirstFound N ws seen' (Bridge r)
-    bridge-first pass l (all-oriented e m) far = absurd (omega arith)
-    bridge-first {seen} {r} pass l (bridge-at k e clear cross) far = found-bridge pass (lowest-at r e k clear) k (bridge-noted r seen k pass e cross far)
+    pub bridge-first : {ws₁ ws seen seen' : List ℕ} {r : ℕ} → passable N ≡ true → Greedy N (ways N.reaches []) 0 ws₁ seen (Some r) → FarSideNoted N seen seen' → FirstFound N ws seen' (Bridge r)
+    bridge-first {seen} {r} pass (bridge-at k e clear cross) far = found-bridge pass (lowest-at r e k clear) k (bridge-noted r seen k pass e cross far)
 
-    pub plan-first : {ws seen : List ℕ} {r : ℕ} → passable N ≡ true → (r < length N.reaches → ⊥) → Greedy N (ways N.reaches []) 0 ws seen r → FirstFound N ws seen Oriented
-    plan-first pass n (all-oriented e m) = found-plan pass (no-bridge _ m.is-plan) m
-    plan-first pass n (bridge-at k e clear cross) = absurd (n k)
+    pub plan-first : {ws seen : List ℕ} → passable N ≡ true → Greedy N (ways N.reaches []) 0 ws seen None → FirstFound N ws seen Oriented
+    plan-first pass (all-oriented m) = found-plan pass (no-bridge _ m.is-plan) m
 
   -- ---- and the reply that they make
 

@@ -20,7 +20,7 @@ use Rattle.completing.specs.Greedy.{Completable, Greedy}
 use Rattle.seeking.specs.declared.Found.TheVariants.{Closed, Bridge, Oriented}
 use Rattle.seeking.specs.Levels.{NoneOriented, Passable}
 use Rattle.seeking.specs.Found.{FirstFound}
-use Rattle.seeking.proofs.Levels.{passable-open, level-length, under-row, kinds-full, kinds-tried}
+use Rattle.seeking.proofs.Levels.{passable-open, under-row, kinds-full, kinds-tried}
 use Rattle.seeking.proofs.Firsts.{closed-first, passed-basin, bridge-first, plan-first}
 
 module _ (n : ℕ) (ks xs ys : List ℕ) where
@@ -57,12 +57,11 @@ module _ (n : ℕ) (ks xs ys : List ℕ) where
           begun = subst⁻¹ (λ (v : List ℕ). Begun N ks v 0) opened (open_none N ks (kinds-full p.level) (kinds-tried p.level) (sym (passable-open N) ∙ p.passable-net));
         }
 
-    module _ {ws' seen : List ℕ} {r : ℕ} (g : Greedy N ws 0 ws' seen r) where
-      greedy-net : Greedy N (ways N.reaches []) 0 ws' seen r
-      greedy-net = subst (λ (v : List ℕ). Greedy N v 0 ws' seen r) opened g
+    greedy-net : {ws' seen : List ℕ} {r : Option ℕ} → Greedy N ws 0 ws' seen r → Greedy N (ways N.reaches []) 0 ws' seen r
+    greedy-net {ws'} {seen} {r} g = subst (λ (v : List ℕ). Greedy N v 0 ws' seen r) opened g
 
-      pub row-bridge : {seen' : List ℕ} → r < length xs → FarSideNoted N seen seen' → FirstFound N ws' seen' (Bridge r)
-      row-bridge l noted = bridge-first N p.level.accepted p.passable-net (omega (arith, level-length p.level)) greedy-net noted
+    pub row-bridge : {ws' seen seen' : List ℕ} {r : ℕ} → Greedy N ws 0 ws' seen (Some r) → FarSideNoted N seen seen' → FirstFound N ws' seen' (Bridge r)
+    row-bridge g noted = bridge-first N p.level.accepted p.passable-net (greedy-net g) noted
 
-      pub row-plan : (r < length xs → ⊥) → FirstFound N ws' seen Oriented
-      row-plan not-below = plan-first N p.level.accepted p.passable-net (λ l. not-below (omega (arith, level-length p.level))) greedy-net
+    pub row-plan : {ws' seen : List ℕ} → Greedy N ws 0 ws' seen None → FirstFound N ws' seen Oriented
+    row-plan g = plan-first N p.level.accepted p.passable-net (greedy-net g)

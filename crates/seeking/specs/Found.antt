@@ -1,6 +1,6 @@
 -- What the searches for the first plan and for the next find.
 -- Assumes nothing.
-use Rattle.std.specs.Prelude.{ℕ, ◌<◌, ◌≡◌, true, false, List, [], length}
+use Rattle.std.specs.Prelude.{ℕ, ◌<◌, ◌≡◌, true, false, List, [], length, Option, None, Some}
 use Rattle.std.proofs.Math.Option.{none, some}
 use Rattle.network.specs.Networks.{Network}
 use Rattle.network.specs.Orientations.{ways}
@@ -13,8 +13,6 @@ use Rattle.marks.specs.Sets.{marked_set}
 use Rattle.orientations.specs.Least.{LeastPlan}
 use Rattle.seeking.specs.declared.Found.{Found}
 use Rattle.seeking.specs.declared.Found.TheVariants.{Closed, Bridge, Oriented}
-use Rattle.seeking.specs.declared.Sought.{Sought}
-use Rattle.seeking.specs.declared.Sought.TheVariants.{NoneLater, CameTo}
 use Rattle.network.specs.declared.Refusal.TheVariants.{LastPlan}
 
 -- The reply that is written down from it: the plan is made of the ways ws.
@@ -45,6 +43,6 @@ pub data FirstFound (N : Network) : List ℕ → List ℕ → Found → Type 0 w
 
 -- What the search for the next plan of the setting s finds: that there is none later, though there is a plan; or a finding with its side
 -- noted; or the ways of the next plan.
-pub data NextFound (N : Network) (s : List ℕ) : List ℕ → List ℕ → Sought → Type 0 where
-  no-later : {ws seen : List ℕ} → next_answer N s ≡ refused LastPlan → NextFound N s ws seen NoneLater
-  next-is : {ws seen : List ℕ} {f : Found} → next_answer N s ≡ outcome_of N ws f → SideNoted N seen f → reach_found f < 65536 → NextFound N s ws seen (CameTo f)
+pub data NextFound (N : Network) (s : List ℕ) : List ℕ → List ℕ → Option Found → Type 0 where
+  no-later : {ws seen : List ℕ} → next_answer N s ≡ refused LastPlan → NextFound N s ws seen None
+  next-is : {ws seen : List ℕ} {f : Found} → next_answer N s ≡ outcome_of N ws f → SideNoted N seen f → reach_found f < 65536 → NextFound N s ws seen (Some f)

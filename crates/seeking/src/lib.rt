@@ -20,13 +20,6 @@ pub enum Found {
     Oriented,
 }
 
-// What the search for the next plan came to: no plan is later, or what was found.
-#[derive(Clone, Copy)]
-pub enum Sought {
-    NoneLater,
-    CameTo(Found),
-}
-
 // Orients all gates of a passable network, none of which is oriented yet. At a bridge what it notes is its side without the lowest wet basin.
 fn orient_all(
     n: usize,
@@ -43,12 +36,12 @@ fn orient_all(
     requires passable { Passable n kinds.now a.now b.now ways.old }
     ensures { FirstFound (net_of n kinds.now a.now b.now) ways.new seen.new result }
 {
-    let r = completing::greedy(n, kinds, a, b, ways, head, next, 0, seen, queue);
-    if r < a.len() {
-        basins::note_side(n, kinds, a, b, head, next, seen);
-        Found::Bridge(r)
-    } else {
-        Found::Oriented
+    match completing::greedy(n, kinds, a, b, ways, head, next, 0, seen, queue) {
+        Some(r) => {
+            basins::note_side(n, kinds, a, b, head, next, seen);
+            Found::Bridge(r)
+        }
+        None => Found::Oriented,
     }
 }
 
@@ -78,8 +71,8 @@ pub fn first_from(
 }
 
 // One step: from ways that `under` has up to reach `to`, parts from them upwards at the last gate before it at which a plan can, and decides the
-// gates after it. Returns the number of that gate, or the number of reaches if there is none. There is a plan. A gate that has one way in all plans is not
-// tried if `tried` has another kind in its place: it keeps the way that it has. A gate that another reach guides, as the row has it, takes its way from that.
+// gates after it. Returns the number of that gate, if there is one. There is a plan. A gate that has one way in all plans is not tried if `tried` has another
+// kind in its place: it keeps the way that it has. A gate that another reach guides, as the row has it, takes its way from that.
 pub fn step_from(
     n: usize,
     guide: &[u16],
@@ -93,7 +86,7 @@ pub fn step_from(
     to: usize,
     seen: &mut [u16],
     queue: &mut [u16],
-) -> usize
+) -> Option<usize>
     requires ready { Ready n a.now b.now ways.old head.now next.now seen.old queue.old }
     requires tried_len { length tried.now ≡ length a.now }
     requires under_len { length under.now ≡ length a.now }
@@ -103,15 +96,12 @@ pub fn step_from(
 {
     let at = branching::turn_back(
         n, guide, tried, a, b, under, ways, head, next, to, seen, queue,
-    );
-    if at < a.len() {
-        completing::complete(n, guide, tried, a, b, ways, head, next, at + 1, seen, queue);
-        return at;
-    }
-    at
+    )?;
+    completing::complete(n, guide, tried, a, b, ways, head, next, at + 1, seen, queue);
+    Some(at)
 }
 
-// The next plan, if none is alike up to `to` and later: what the step came to. Its row of guides is the empty one.
+// The next plan, if none is alike up to `to` and later: what the step came to, or none is later. Its row of guides is the empty one.
 pub fn part_from(
     n: usize,
     kinds: &[u8],
@@ -124,7 +114,7 @@ pub fn part_from(
     to: usize,
     seen: &mut [u16],
     queue: &mut [u16],
-) -> Sought
+) -> Option<Found>
     requires ready { Ready n a.now b.now ways.old head.now next.now seen.old queue.old }
     requires partable { Partable n kinds.now kinds.now a.now b.now under.now ways.old to }
     ensures { NextFrom (net_of n kinds.now a.now b.now) under.now to
@@ -144,9 +134,5 @@ pub fn part_from(
         seen,
         queue,
     );
-    if at < a.len() {
-        Sought::CameTo(Found::Oriented)
-    } else {
-        Sought::NoneLater
-    }
+    at.map(|_| Found::Oriented)
 }

@@ -1,6 +1,6 @@
 -- What a row of guides says of a gate is what a search would say.
 -- Assumes nothing.
-use Prim.Native.Nat.{ℕ, zero, suc, ◌/◌, ◌%◌, ◌-◌, ◌≤◌, ◌<◌}
+use Prim.Native.Nat.{ℕ, zero, suc, ◌/◌, ◌%◌, ◌≤◌, ◌<◌}
 use native.Mathlib.Omega.{arith}
 use native.Mathlib.Decide.{dec_lt}
 use mathlib.Core.Path.{◌≡◌, refl, sym, ap, subst, subst⁻¹, ◌∙◌}
@@ -8,6 +8,7 @@ use mathlib.Core.Bool.{Bool, true, false, cond, not, beq}
 use mathlib.Core.List.{List}
 use lib.ListN.{length, get_or, set, get_or-eq_default}
 use lib.Seq.{get_or-set_other, set-set}
+use Rattle.std.specs.Prelude.{Some}
 use Rattle.lists.proofs.Lists.{get_d_any}
 use Rattle.network.specs.Orientations.{arcs, reached}
 use Rattle.network.specs.Networks.{Network, basins_of}
@@ -22,14 +23,7 @@ use Rattle.orienting.proofs.Rows.{row-led, row-led-turned}
 use Rattle.series.specs.Pairs.{CutPair, guided_way, toward}
 use Rattle.series.specs.Guides.{unguided, way_by, GuidedBy}
 use Rattle.series.proofs.Pairs.{guided-drawn, guided-turned}
-use Rattle.series_way.specs.Guided.{WayTaken, taken, not_taken, Guidable}
-
--- an even entry gives the way of the guide, an odd one the other
-pub way-even : (h x : ℕ) → h % 2 ≡ 0 → x ≤ 1 → x ≡ way_by h x
-way-even h x e l = omega arith
-
-pub way-odd : (h x : ℕ) → (h % 2 ≡ 0 → ⊥) → x ≤ 1 → 1 - x ≡ way_by h x
-way-odd h x n l = omega (arith, n)
+use Rattle.series_way.specs.Guided.{WayTaken, taken, Guidable}
 
 -- the row says what the ends say
 way-guided : (h w : ℕ) (x y : Bool) → w ≤ 1 → h % 2 ≡ cond (beq x y) 1 0 → way_by h w ≡ guided_way x y w
@@ -87,18 +81,16 @@ module _ (n : ℕ) (ks xs ys : List ℕ) (ea : length xs ≡ length ks) (eb : le
         ∙ ap (λ v. not (toward v)) says)
 
   -- a way that is the one taken is open
-  pub taken-on : (w way : ℕ) → way ≤ 1 → WayTaken guide ws i w → w ≤ 1 → w ≡ way → Tried xs ys ws i way (set ws i way) true
-  taken-on w zero small (taken il f at is hung e) m q = oriented (drawn il f _ _ at is hung ∙ ap toward (sym e ∙ q)) refl refl
-  taken-on w (suc zero) small (taken il f at is hung e) m q = oriented (turned il f _ _ at is hung ∙ ap (λ x. not (toward x)) (sym e ∙ q)) refl refl
-  taken-on w (suc (suc way)) small (taken il f at is hung e) m q = absurd (omega arith)
-  taken-on w way small (not_taken e) m q = absurd (omega arith)
+  pub taken-on : (w way : ℕ) → way ≤ 1 → WayTaken guide ws i (Some w) → w ≡ way → Tried xs ys ws i way (set ws i way) true
+  taken-on w zero small (taken il f at is hung e) q = oriented (drawn il f _ _ at is hung ∙ ap toward (sym e ∙ q)) refl refl
+  taken-on w (suc zero) small (taken il f at is hung e) q = oriented (turned il f _ _ at is hung ∙ ap (λ x. not (toward x)) (sym e ∙ q)) refl refl
+  taken-on w (suc (suc way)) small (taken il f at is hung e) q = absurd (omega arith)
 
   -- and the other is not
-  pub taken-off : (w way : ℕ) → way ≤ 1 → WayTaken guide ws i w → w ≤ 1 → (w ≡ way → ⊥) → Tried xs ys ws i way (set ws i 2) false
-  taken-off zero zero small (taken il f at is hung e) m q = absurd (q refl)
-  taken-off (suc w) zero small (taken il f at is hung e) m q = undecided (drawn il f _ _ at is hung ∙ ap toward (sym e)) refl refl
-  taken-off zero (suc zero) small (taken il f at is hung e) m q = undecided (turned il f _ _ at is hung ∙ ap (λ x. not (toward x)) (sym e)) refl refl
-  taken-off (suc zero) (suc zero) small (taken il f at is hung e) m q = absurd (q refl)
-  taken-off (suc (suc w)) (suc zero) small (taken il f at is hung e) m q = absurd (omega arith)
-  taken-off w (suc (suc way)) small (taken il f at is hung e) m q = absurd (omega arith)
-  taken-off w way small (not_taken e) m q = absurd (omega arith)
+  pub taken-off : (w way : ℕ) → way ≤ 1 → WayTaken guide ws i (Some w) → (w ≡ way → ⊥) → Tried xs ys ws i way (set ws i 2) false
+  taken-off zero zero small (taken il f at is hung e) q = absurd (q refl)
+  taken-off (suc w) zero small (taken il f at is hung e) q = undecided (drawn il f _ _ at is hung ∙ ap toward (sym e)) refl refl
+  taken-off zero (suc zero) small (taken il f at is hung e) q = undecided (turned il f _ _ at is hung ∙ ap (λ x. not (toward x)) (sym e)) refl refl
+  taken-off (suc zero) (suc zero) small (taken il f at is hung e) q = absurd (q refl)
+  taken-off (suc (suc w)) (suc zero) small (taken il f at is hung e) q = absurd (omega (arith, e, hung))
+  taken-off w (suc (suc way)) small (taken il f at is hung e) q = absurd (omega arith)

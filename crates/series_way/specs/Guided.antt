@@ -1,6 +1,6 @@
 -- A gate's way taken from its guide, and a way tried with it.
 -- Assumes nothing.
-use Rattle.std.specs.Prelude.{ℕ, ◌/◌, ◌≤◌, ◌<◌, ◌≡◌, Bool, true, List, length, get_or, set}
+use Rattle.std.specs.Prelude.{ℕ, ◌/◌, ◌≤◌, ◌<◌, ◌≡◌, Bool, true, List, length, get_or, set, Option, None, Some}
 use Rattle.network.specs.Networks.{Accepted}
 use Rattle.tables.specs.Rows.{net_of}
 use Rattle.orientations.specs.Least.{is_tried}
@@ -8,11 +8,11 @@ use Rattle.orientations.specs.Partials.{Begun}
 use Rattle.orienting.specs.Tries.{Tried}
 use Rattle.series.specs.Guides.{unguided, way_by, Guides}
 
--- The way that reach i takes from its guide, reach k, which has the way x; or 2 if the row has no entry for it, or its guide is not hung.
-pub data WayTaken (guide ws : List ℕ) (i : ℕ) : ℕ → Type 0 where
+-- The way that reach i takes from its guide, reach k, which has the way x; or none, as where the row has no entry for it, or its guide is not hung.
+pub data WayTaken (guide ws : List ℕ) (i : ℕ) : Option ℕ → Type 0 where
   taken : {k x w : ℕ} → i < length guide → get_or guide i 0 < unguided → x ≡ get_or ws k 2 → k ≡ get_or guide i 0 / 2 → x ≤ 1 → w ≡ way_by (get_or guide i 0) x
-      → WayTaken guide ws i w
-  not_taken : {w : ℕ} → w ≡ 2 → WayTaken guide ws i w
+      → WayTaken guide ws i (Some w)
+  not_taken : WayTaken guide ws i None
 
 -- An accepted table, with a kind for each reach, of which the row of guides is true. If fs tries reach i, the ways with it usable either way are a partial
 -- orientation up to it.

@@ -14,31 +14,25 @@ pub const UNGUIDED: u16 = 65535;
 fn way_at(ways: &[u8], k: usize) -> u8
     ensures { result ≡ get_or ways.now k 2 }
 {
-    if k < ways.len() {
-        return ways[k];
-    }
-    2
+    ways.get(k).copied().unwrap_or(2)
 }
 
-// The way that reach i takes from its guide, or 2.
-fn taken(guide: &[u16], ways: &[u8], i: usize) -> u8
+// The way that reach i takes from its guide, if it has one that is hung.
+fn taken(guide: &[u16], ways: &[u8], i: usize) -> Option<u8>
     ensures { WayTaken guide.now ways.now i result }
 {
-    if i >= guide.len() {
-        return 2;
-    }
-    let h = guide[i];
+    let h = *guide.get(i)?;
     if h >= UNGUIDED {
-        return 2;
+        return None;
     }
     let w = way_at(ways, (h / 2) as usize);
     if w > 1 {
-        return 2;
+        return None;
     }
     if h % 2 == 0 {
-        return w;
+        return Some(w);
     }
-    1 - w
+    Some(1 - w)
 }
 
 // Gives reach i the way if that loses nothing: by its guide or, if it has none that is hung, by a search. Otherwise it is usable either way. Says whether it
@@ -61,10 +55,9 @@ pub fn try_guided(
     requires way_bound { way ≤ 1 }
     ensures { TriedFrom n guide.now a.now b.now ways.old i way ways.new result }
 {
-    let w = taken(guide, ways, i);
-    if w > 1 {
+    let Some(w) = taken(guide, ways, i) else {
         return orienting::try_way(n, a, b, ways, head, next, i, way, seen, queue);
-    }
+    };
     if w == way {
         ways[i] = way;
         return true;

@@ -15,10 +15,7 @@ const WORTH: usize = 32;
 
 // Whether another reach guides reach i: it is then tried without a search, and need not be looked at. No promise rests on it.
 fn is_guided(guide: &[u16], i: usize) -> bool {
-    if i >= guide.len() {
-        return false;
-    }
-    guide[i] < UNGUIDED
+    guide.get(i).is_some_and(|&h| h < UNGUIDED)
 }
 
 // Tries reach i no more if it is a gate that is bound, being hung in the way by a plan. No gate is oriented in the ways `loose`. What it leaves in seen and in
@@ -78,12 +75,10 @@ fn note_from(
     requires to_in_bounds { to ≤ length a.now }
     ensures { NotedFrom n a.now b.now ways.now tried.old loose.old tried.new }
 {
-    let mut i = from;
-    while i < to {
+    for i in from..to {
         note_at(
             n, guide, a, b, tried, loose, head, next, i, ways[i], seen, queue,
         );
-        i += 1;
     }
 }
 

@@ -8,6 +8,7 @@ use mathlib.Core.Logic.{⊎_elim}
 use mathlib.Core.List.{List}
 use lib.ListN.{length, get_or, set}
 use lib.Seq.{get_or-set_other}
+use Rattle.std.specs.Prelude.{Option, None, Some}
 use Rattle.network.specs.Networks.{Network}
 use Rattle.network.specs.Tables.{state_of}
 use Rattle.network.specs.Settings.{is_gated, is_setting}
@@ -26,7 +27,7 @@ use Rattle.orientations.proofs.Least.{same-plain, has-decided, fits-at}
 use Rattle.orientations.proofs.Nexts.{gate-byte, oriented-length, oriented-below}
 use Rattle.completing.specs.Greedy.{Completed}
 use Rattle.seeking.specs.Levels.{Level}
-use Rattle.seeking.specs.Seeks.{StepTaken, stepped-at, no_step, AtPlan}
+use Rattle.seeking.specs.Seeks.{StepTaken, stepped-at, AtPlan}
 use Rattle.seeking.proofs.Seeks.{plan-next, plan-last}
 use Rattle.stepping.specs.Advances.{PartsAt, Advanced, moved, at_last}
 use Rattle.stepping.proofs.Rewrites.{front_same, gate-row}
@@ -95,12 +96,12 @@ module _ (n : ℕ) (ks xs ys : List ℕ) (v : Level n ks xs ys) where
       l g (ap (λ (u : List ℕ). get_or u r 3) (sym is) ∙ z) fs t fits
 
   -- what a step from a plan came to
-  pub advanced : {s us ws₀ ws fs : List ℕ} {r : ℕ} → AtPlan n ks xs ys s us → ws₀ ≡ ways_row ks s → Binds N fs us → StepTaken N fs us (length xs) ws r → Advanced N ks s ws r
-  advanced {s} {us} {ws₀} {ws} {fs} {r} p e t d = go d
+  pub advanced : {s us ws₀ ws fs : List ℕ} {r : Option ℕ} → AtPlan n ks xs ys s us → ws₀ ≡ ways_row ks s → Binds N fs us → StepTaken N fs us (length xs) ws r → Advanced N ks s ws r
+  advanced {s} {us} {ws} {fs} {r = None} p e t d = at_last (plan-last n ks xs ys p e t d)
+  advanced {s} {us} {ws₀} {ws} {fs} {r = Some x} p e t d = go d
     where
-      go : StepTaken N fs us (length xs) ws r → Advanced N ks s ws r
+      go : StepTaken N fs us (length xs) ws (Some x) → Advanced N ks s ws (Some x)
       go (stepped-at l g z f c) =
-          let below : r < length N.reaches = omega (arith, many, v.ends-a) in
-          moved (parted p t.tries below g z c) (plan-next n ks xs ys p e t d l ∙ ap plan (bytes ws)) (subst (λ p. is_plan N p ≡ true) (bytes ws) c.least.is-plan)
+          let below : x < length N.reaches = omega (arith, many, v.ends-a) in
+          moved (parted p t.tries below g z c) (plan-next n ks xs ys p e t d ∙ ap plan (bytes ws)) (subst (λ p. is_plan N p ≡ true) (bytes ws) c.least.is-plan)
           (c.oriented ∙ ap (ways N.reaches) (bytes ws) ∙ row-ways ks xs ys v.ends-a v.ends-b (bytes_row ks ws))
-      go (no_step m f) = at_last (m ∙ many) (plan-last n ks xs ys p e t d (λ l. omega (arith, many, v.ends-a)))

@@ -9,18 +9,10 @@ ghost use Rattle.tables.specs.Rows.{gates_in, bytes_row};
 ghost use Rattle.orienting.specs.Ready.{Ready};
 ghost use Rattle.stepping.specs.Advances.{gates_before, AdvancedFrom};
 
-// Copies a row over one of the same length.
-pub fn copy_row(from: &[u8], to: &mut [u8])
-    requires { length to.old ≡ length from.now }
-    ensures { to.new ≡ from.now }
-{
-    to.copy_from_slice(from);
-}
-
 // From a plan, whose ways stand in `ways`, to the next: its ways stand there then. A gate that has one way in all plans is not tried if `tried` has another
 // kind in its place; one that another reach guides, as the row has it, takes its way from that.
-// Returns the number of the gate at which the next parts from the plan, or the number of reaches if no plan is later: the ways are then free. What it
-// leaves in `under`, in seen and in the queue is free.
+// Returns the number of the gate at which the next parts from the plan; if no plan is later, the ways are free. What it leaves in `under`, in seen and in the
+// queue is free.
 pub fn advance(
     n: usize,
     guide: &[u16],
@@ -33,13 +25,13 @@ pub fn advance(
     next: &[u16],
     seen: &mut [u16],
     queue: &mut [u16],
-) -> usize
+) -> Option<usize>
     requires ready { Ready n a.now b.now ways.old head.now next.now seen.old queue.old }
     requires tried_len { length tried.now ≡ length a.now }
     requires under_len { length under.old ≡ length ways.old }
     ensures { AdvancedFrom n guide.now tried.now a.now b.now ways.old ways.new result }
 {
-    copy_row(ways, under);
+    under.copy_from_slice(ways);
     let m = a.len();
     seeking::step_from(
         n, guide, tried, a, b, under, ways, head, next, m, seen, queue,

@@ -3,13 +3,12 @@
 use Prim.Native.Nat.{◌-◌}
 use native.Mathlib.Omega.{arith}
 use mathlib.Core.Path.{sym, ◌∙◌}
-use lib.ListN.{length}
 use Rattle.branching.proofs.Follows.{turn_on, turn-found, back_done}
 use Rattle.orienting.proofs.Readies.{ready-ways, ready-notes}
 use Rattle.branching.proofs.turn_back.Goals as goal
 
-pub returns-then-part_at : goal.returns-then-part_at
-returns-then-part_at c =
+pub returns-then-part_at-clause-turned_back : goal.returns-then-part_at-clause-turned_back
+returns-then-part_at-clause-turned_back c =
     record {
       from = λ ks p all d.
           turn-found p c.requires.ready.table.paired all c.args.guide.now d (c.loop-i.i - 1) (omega (arith, c.loop-i-test.true)) (omega (arith, c.loop-i-test.true, c.loop-i.invariant.0)) (c.loop-i.invariant.2 ks p all d) c.part_at.ensures c.if-part_at.true;
@@ -26,6 +25,6 @@ loop-i-preserved c = (
   c.part_at.auto.queue ∙ c.loop-i.invariant.5,
 )
 
-pub returns : goal.returns
-returns c =
-    record { from = λ ks p all d. back_done c.args.n ks c.args.a.now c.args.b.now (sym p.kinds-full) (c.requires.ready.table.paired ∙ sym p.kinds-full) c.args.under.now p.under c.args.tried.now p.tries c.args.to c.loop-i.ways c.loop-i.i (length c.args.a.now) (omega (arith, c.loop-i-test.false)) (sym p.kinds-full) (c.loop-i.invariant.2 ks p all d) }
+pub returns-clause-turned_back : goal.returns-clause-turned_back
+returns-clause-turned_back c =
+    record { from = λ ks p all d. back_done c.args.n ks c.args.a.now c.args.b.now (sym p.kinds-full) (c.requires.ready.table.paired ∙ sym p.kinds-full) c.args.under.now p.under c.args.tried.now p.tries c.args.to c.loop-i.ways c.loop-i.i (omega (arith, c.loop-i-test.false)) (c.loop-i.invariant.2 ks p all d) }

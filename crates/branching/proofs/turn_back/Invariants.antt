@@ -17,6 +17,3 @@ invariant-loop-i l =
     (l.i ≤ l.to) × Ready l.n l.a l.b l.ways l.head l.next l.seen l.queue
     × ((ks : List ℕ) → Following l.n ks l.tried l.a l.b l.under l.initial.ways l.to → StronglyConnectedBelow (net_of l.n ks l.a l.b) l.tried l.under l.to → Guides (net_of l.n ks l.a l.b) l.guide → Back (net_of l.n ks l.a l.b) l.tried l.under l.to l.ways l.i)
     × (length l.ways ≡ length l.initial.ways) × (length l.seen ≡ length l.initial.seen) × (length l.queue ≡ length l.initial.queue)
-
-abbrev pub decreases-loop-i : goal.decreases-loop-i
-decreases-loop-i l = l.i

@@ -1,6 +1,6 @@
 -- `completing::complete` meets its contract: as for `greedy`, and no gate is stuck, since none is a bridge.
 -- Assumes nothing.
-use Prim.Native.Nat.{ℕ, ◌≤◌, ◌-◌}
+use Prim.Native.Nat.{ℕ, ◌≤◌}
 use mathlib.Core.Path.{◌≡◌}
 use mathlib.Core.List.{List}
 use lib.ListN.{length}
@@ -17,6 +17,3 @@ invariant-loop-i l =
     (l.i ≤ length l.a) × Ready l.n l.a l.b l.ways l.head l.next l.seen l.queue
     × ((ks : List ℕ) → Completable l.n ks l.tried l.a l.b l.initial.ways l.from → Bridgeless (net_of l.n ks l.a l.b) → Guides (net_of l.n ks l.a l.b) l.guide → Going (net_of l.n ks l.a l.b) l.tried l.initial.ways l.from l.ways l.i)
     × (length l.ways ≡ length l.initial.ways) × (length l.seen ≡ length l.initial.seen) × (length l.queue ≡ length l.initial.queue)
-
-abbrev pub decreases-loop-i : goal.decreases-loop-i
-decreases-loop-i l = length l.a - l.i

@@ -1,6 +1,6 @@
 -- `completing::greedy` meets its contract: the gates passed are decided, and what is least for them is least for the ways at the start.
 -- Assumes nothing.
-use Prim.Native.Nat.{◌≤◌, ◌-◌}
+use Prim.Native.Nat.{◌≤◌}
 use mathlib.Core.Path.{◌≡◌}
 use lib.ListN.{length}
 use Rattle.tables.specs.Rows.{net_of}
@@ -12,6 +12,3 @@ abbrev pub invariant-loop-i : goal.invariant-loop-i
 invariant-loop-i l =
     (l.i ≤ length l.a) × Ready l.n l.a l.b l.ways l.head l.next l.seen l.queue × Going (net_of l.n l.kinds l.a l.b) l.kinds l.initial.ways l.from l.ways l.i
     × (length l.ways ≡ length l.initial.ways) × (length l.seen ≡ length l.initial.seen) × (length l.queue ≡ length l.initial.queue)
-
-abbrev pub decreases-loop-i : goal.decreases-loop-i
-decreases-loop-i l = length l.a - l.i

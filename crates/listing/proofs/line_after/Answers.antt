@@ -7,31 +7,45 @@ use Rattle.listing.specs.Keeping.{unknown, kept}
 use Rattle.listing.proofs.Steps.{kept-known, gates-held, step-front, step_line, step-stands}
 use Rattle.listing.proofs.line_after.Goals as goal
 
-pub advance-r-requires-clause-ready : goal.advance-r-requires-clause-ready
-advance-r-requires-clause-ready c = let k = kept-known c.requires.kept c.if-standing.true in k.ready
+pub advance-parted-requires-clause-ready : goal.advance-parted-requires-clause-ready
+advance-parted-requires-clause-ready c = let k = kept-known c.requires.kept c.if-standing.true in k.ready
 
-pub note_bound-noted-requires-clause-ready : goal.note_bound-noted-requires-clause-ready
-note_bound-noted-requires-clause-ready c =
-    let k = kept-known c.requires.kept c.if-standing.true in ready-notes _ _ (ready-ways _ k.ready c.advance-r.auto.ways) c.advance-r.auto.seen c.advance-r.auto.queue
+pub note_bound-known-requires-clause-ready : goal.note_bound-known-requires-clause-ready
+note_bound-known-requires-clause-ready c =
+    let k = kept-known c.requires.kept c.if-standing.true in ready-notes _ _ (ready-ways _ k.ready c.advance-parted.auto.ways) c.advance-parted.auto.seen c.advance-parted.auto.queue
 
 pub after_step-line-requires-clause-g_value : goal.after_step-line-requires-clause-g_value
 after_step-line-requires-clause-g_value c =
     let l = holding c.args.l c.args.setting.now in
     let k = kept-known c.requires.kept c.if-standing.true in gates-held l c.args.kinds.now c.args.a.now c.args.b.now c.args.ways.now c.args.left c.args.g c.requires.g_value k.stands.at-plan
 
-pub returns-then-standing-clause-line_after : goal.returns-then-standing-clause-line_after
-returns-then-standing-clause-line_after c =
+pub returns-in-Some-clause-line_after : goal.returns-in-Some-clause-line_after
+returns-in-Some-clause-line_after c =
     let l = holding c.args.l c.args.setting.now in
     let k = kept-known c.requires.kept c.if-standing.true in
-    let went = c.advance-r.ensures.from _ _ k.stands.at-plan k.stands.binds (c.requires.guiding _) in step_line l c.args.kinds.now c.args.a.now c.args.b.now c.args.ways.now c.args.left c.args.g c.requires.g_value k.stands.at-plan went c.after_step-line.ensures
+    let went = c.advance-parted.ensures.from _ _ k.stands.at-plan k.stands.binds (c.requires.guiding _) in step_line l c.args.kinds.now c.args.a.now c.args.b.now c.args.ways.now c.args.left c.args.g c.requires.g_value k.stands.at-plan went c.after_step-line.ensures
 
-pub returns-then-standing-clause-kept_2 : goal.returns-then-standing-clause-kept_2
-returns-then-standing-clause-kept_2 c =
+pub returns-in-Some-clause-kept_2 : goal.returns-in-Some-clause-kept_2
+returns-in-Some-clause-kept_2 c =
     let l = holding c.args.l c.args.setting.now in
     let k = kept-known c.requires.kept c.if-standing.true in
-    let went = c.advance-r.ensures.from _ _ k.stands.at-plan k.stands.binds (c.requires.guiding _) in kept c.if-standing.true (ready-notes _ _ (ready-ways _ k.ready c.advance-r.auto.ways) (c.note_bound-noted.auto.seen ∙ c.advance-r.auto.seen) (c.note_bound-noted.auto.queue ∙ c.advance-r.auto.queue))
-    (c.note_bound-noted.auto.tried ∙ k.tried-row) (c.note_bound-noted.auto.loose ∙ c.advance-r.auto.under ∙ k.spare ∙ sym c.advance-r.auto.ways)
-    (step-stands l c.args.kinds.now c.args.a.now c.args.b.now c.args.ways.now c.args.left c.args.g c.requires.g_value k.stands.at-plan went c.after_step-line.ensures k.stands.binds c.note_bound-noted.ensures)
+    let went = c.advance-parted.ensures.from _ _ k.stands.at-plan k.stands.binds (c.requires.guiding _) in kept c.if-standing.true (ready-notes _ _ (ready-ways _ k.ready c.advance-parted.auto.ways) (c.note_bound-known.auto.seen ∙ c.advance-parted.auto.seen) (c.note_bound-known.auto.queue ∙ c.advance-parted.auto.queue))
+    (c.note_bound-known.auto.tried ∙ k.tried-row) (c.note_bound-known.auto.loose ∙ c.advance-parted.auto.under ∙ k.spare ∙ sym c.advance-parted.auto.ways)
+    (step-stands l c.args.kinds.now c.args.a.now c.args.b.now c.args.ways.now c.args.left c.args.g c.requires.g_value k.stands.at-plan went c.after_step-line.ensures k.stands.binds c.note_bound-known.ensures)
+
+pub returns-in-None-clause-line_after : goal.returns-in-None-clause-line_after
+returns-in-None-clause-line_after c =
+    let l = holding c.args.l c.args.setting.now in
+    let k = kept-known c.requires.kept c.if-standing.true in
+    let went = c.advance-parted.ensures.from _ _ k.stands.at-plan k.stands.binds (c.requires.guiding _) in step_line l c.args.kinds.now c.args.a.now c.args.b.now c.args.ways.now c.args.left c.args.g c.requires.g_value k.stands.at-plan went c.after_step-line.ensures
+
+pub returns-in-None-clause-kept_2 : goal.returns-in-None-clause-kept_2
+returns-in-None-clause-kept_2 c =
+    let l = holding c.args.l c.args.setting.now in
+    let k = kept-known c.requires.kept c.if-standing.true in
+    let went = c.advance-parted.ensures.from _ _ k.stands.at-plan k.stands.binds (c.requires.guiding _) in kept c.if-standing.true (ready-notes _ _ (ready-ways _ k.ready c.advance-parted.auto.ways) c.advance-parted.auto.seen c.advance-parted.auto.queue)
+    k.tried-row (c.advance-parted.auto.under ∙ k.spare ∙ sym c.advance-parted.auto.ways)
+    (step-stands l c.args.kinds.now c.args.a.now c.args.b.now c.args.ways.now c.args.left c.args.g c.requires.g_value k.stands.at-plan went c.after_step-line.ensures k.stands.binds (record { still = λ p at b. b }))
 
 pub returns-clause-kept_2 : goal.returns-clause-kept_2
 returns-clause-kept_2 c = unknown c.if-standing.false
@@ -39,4 +53,4 @@ returns-clause-kept_2 c = unknown c.if-standing.false
 pub after_step-line-requires-clause-front_stands : goal.after_step-line-requires-clause-front_stands
 after_step-line-requires-clause-front_stands c =
     let l = holding c.args.l c.args.setting.now in
-    let k = kept-known c.requires.kept c.if-standing.true in step-front l c.args.kinds.now c.args.a.now c.args.b.now c.args.ways.now c.args.left c.args.g c.requires.g_value k.stands.at-plan (c.advance-r.ensures.from _ _ k.stands.at-plan k.stands.binds (c.requires.guiding _))
+    let k = kept-known c.requires.kept c.if-standing.true in step-front l c.args.kinds.now c.args.a.now c.args.b.now c.args.ways.now c.args.left c.args.g c.requires.g_value k.stands.at-plan (c.advance-parted.ensures.from _ _ k.stands.at-plan k.stands.binds (c.requires.guiding _))

@@ -35,8 +35,8 @@ report-requires c = let facts = accepted (net_of c.args.n c.args.kinds.now c.arg
       seen-room = omega (arith, facts.few-basins);
       plan-room = c.requires.lent.plan-room;
       marks-room = c.requires.lent.marks-room;
-      reach-fits = (next-at c.in-CameTo.is c.find_next-sought.ensures).fits;
+      reach-fits = (next-at c.in-Some.is c.find_next-sought.ensures).fits;
     }
 
-pub returns-in-CameTo : goal.returns-in-CameTo
-returns-in-CameTo c = next-written c.requires.lent.level (c.find_next-sought.auto.ways ∙ (level-room c.requires.lent.level c.requires.space).ways-room) (next-at c.in-CameTo.is c.find_next-sought.ensures) c.report.ensures
+pub returns-in-Some : goal.returns-in-Some
+returns-in-Some c = next-written c.requires.lent.level (c.find_next-sought.auto.ways ∙ (level-room c.requires.lent.level c.requires.space).ways-room) (next-at c.in-Some.is c.find_next-sought.ensures) c.report.ensures

@@ -1,22 +1,26 @@
 -- `series_way::taken` meets its contract.
 -- Assumes nothing.
 use native.Mathlib.Omega.{arith}
-use mathlib.Core.Path.{refl}
+use mathlib.Core.Path.{◌≡◌}
+use lib.ListN.{get_or}
 use Rattle.series_way.specs.Guided.{taken, not_taken}
-use Rattle.series_way.proofs.Guided.{way-even, way-odd}
 use Rattle.series_way.proofs.taken.Goals as goal
 
-pub returns-then-i-guide : goal.returns-then-i-guide
-returns-then-i-guide c = not_taken refl
+pub returns-in_err-h : goal.returns-in_err-h
+returns-in_err-h c = rw c.from_residual.ensures not_taken
 
 pub returns-then-h-ge-UNGUIDED : goal.returns-then-h-ge-UNGUIDED
-returns-then-h-ge-UNGUIDED c = not_taken refl
+returns-then-h-ge-UNGUIDED c = not_taken
 
 pub returns-then-w-gt1 : goal.returns-then-w-gt1
-returns-then-w-gt1 c = not_taken refl
+returns-then-w-gt1 c = not_taken
 
 pub returns-then-h-eq0 : goal.returns-then-h-eq0
-returns-then-h-eq0 c = taken (omega arith) (omega arith) c.way_at-w.ensures (omega arith) (omega arith) (way-even _ _ c.if-h-eq0.true (omega arith))
+returns-then-h-eq0 c =
+    let e : c.in_ok-h.field-0.now ≡ get_or c.args.guide.now c.args.i 0 = c.in_ok-h.ensures.lookup.3.1 0 in
+    taken c.in_ok-h.ensures.lookup.3.0 (omega (arith, e)) c.way_at-w.ensures (omega (arith, e)) (omega arith) (omega (arith, e, c.if-h-eq0.true))
 
 pub returns : goal.returns
-returns c = taken (omega arith) (omega arith) c.way_at-w.ensures (omega arith) (omega arith) (way-odd _ _ c.if-h-eq0.false (omega arith))
+returns c =
+    let e : c.in_ok-h.field-0.now ≡ get_or c.args.guide.now c.args.i 0 = c.in_ok-h.ensures.lookup.3.1 0 in
+    taken c.in_ok-h.ensures.lookup.3.0 (omega (arith, e)) c.way_at-w.ensures (omega (arith, e)) (omega arith) (omega (arith, e, c.if-h-eq0.false))

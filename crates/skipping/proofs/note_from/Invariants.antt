@@ -1,6 +1,6 @@
 -- `skipping::note_from` meets its contract: what is not tried stays bound, reach by reach.
 -- Assumes nothing.
-use Prim.Native.Nat.{ℕ, ◌-◌}
+use Prim.Native.Nat.{ℕ}
 use mathlib.Core.Path.{◌≡◌}
 use mathlib.Core.List.{List, []}
 use lib.ListN.{length}
@@ -16,6 +16,3 @@ invariant-loop-i l =
     Ready l.n l.a l.b l.loose l.head l.next l.seen l.queue
     × ((ks s : List ℕ) → l.initial.loose ≡ ways_row ks [] → AtPlan l.n ks l.a l.b s l.ways → Binds (net_of l.n ks l.a l.b) l.initial.tried l.ways → BoundNoted l.n ks l.a l.b l.ways l.tried l.loose)
     × (length l.tried ≡ length l.initial.tried) × (length l.loose ≡ length l.initial.loose) × (length l.seen ≡ length l.initial.seen) × (length l.queue ≡ length l.initial.queue)
-
-abbrev pub decreases-loop-i : goal.decreases-loop-i
-decreases-loop-i l = l.to - l.i
