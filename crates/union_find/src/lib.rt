@@ -11,7 +11,7 @@ ghost use Rattle.components.specs.Components.{is_two_way};
 ghost use Rattle.components.specs.Labels.{Joinable, Labelled};
 ghost use Rattle.union_find.specs.Forests.{Separate, Rising, RootFound, Joined, Forest, Numbered};
 
-const TWO_WAY: u8 = 2;
+use tables::TWO_WAY;
 
 // What is noted of a component: it has one member, or several.
 const ONE: u8 = 0;
@@ -24,10 +24,8 @@ fn separate(n: usize, parents: &mut [u16])
     requires n_in_bounds { n ≤ length parents.old }
     ensures { Separate n parents.new }
 {
-    let mut v = 0;
-    while v < n {
+    for v in 0..n {
         parents[v] = v as u16;
-        v += 1;
     }
 }
 
@@ -76,12 +74,10 @@ fn join_all(n: usize, kinds: &[u8], a: &[u16], b: &[u16], parents: &mut [u16])
     requires separate { Separate n parents.old }
     ensures { Forest (net_of n kinds.now a.now b.now) parents.new }
 {
-    let mut i = 0;
-    while i < kinds.len() {
-        if joins(kinds[i]) {
+    for (i, &kind) in kinds.iter().enumerate() {
+        if joins(kind) {
             join(n, parents, a[i], b[i]);
         }
-        i += 1;
     }
 }
 
@@ -94,20 +90,17 @@ fn number(n: usize, parents: &mut [u16], notes: &mut [u8]) -> u16
     ensures { Numbered n parents.old result parents.new notes.new }
 {
     let mut count: u16 = 0;
-    let mut v = 0;
-    while v < n {
+    for v in 0..n {
         let up = parents[v] as usize;
         if up < v {
             let c = parents[up];
             parents[v] = c;
             notes[c as usize] = SEVERAL;
-            v += 1;
             continue;
         }
         parents[v] = count;
         notes[count as usize] = ONE;
         count += 1;
-        v += 1;
     }
     count
 }
