@@ -7,11 +7,7 @@ ghost use Rattle.std.specs.Prelude.{◌≡◌};
 ghost use Rattle.network.specs.Tables.{state_of};
 ghost use Rattle.contracting.specs.Filling.{stays_by, note_after, Fillable, KeptFilled};
 
-const GATED: u8 = 0;
-
-const FLAP: u8 = 1;
-
-const TWO_WAY: u8 = 2;
+use tables::{FLAP, GATED, TWO_WAY};
 
 // What is noted of a component: it has one member; it has several, and none of its two-way reaches has come yet; the first of them has come.
 const ONE: u8 = 0;
@@ -59,23 +55,20 @@ pub fn fill_kept(
         kinds2.old a2.old b2.old result kinds2.new a2.new b2.new }
 {
     let mut k = 0;
-    let mut i = 0;
-    while i < kinds.len() {
+    for (i, &kind) in kinds.iter().enumerate() {
         let x = a[i];
         let y = b[i];
         let c = labels[x as usize];
         let d = labels[y as usize];
         let note = notes[c as usize];
-        notes[c as usize] = note_after(kinds[i], note);
-        if !stays(kinds[i], c, d, note) {
-            i += 1;
+        notes[c as usize] = note_after(kind, note);
+        if !stays(kind, c, d, note) {
             continue;
         }
-        kinds2[k] = kinds[i];
+        kinds2[k] = kind;
         a2[k] = c;
         b2[k] = d;
         k += 1;
-        i += 1;
     }
     k
 }

@@ -1,4 +1,4 @@
--- `fill_kept` meets its contract. The loop's invariant, for every basin count that fits: `KeptFilling`. The measure is how many reaches are left.
+-- `fill_kept` meets its contract. The loop's invariant, for every basin count that fits: `KeptFilling`.
 -- Assumes nothing.
 use mathlib.Core.Path.{sym, ap, ◌∙◌}
 use native.Mathlib.Omega.{arith}
