@@ -7,34 +7,28 @@ ghost use Rattle.std.specs.Prelude.{◌≡◌};
 ghost use Rattle.network.specs.Tables.{state_of};
 ghost use Rattle.contracting.specs.Filling.{stays_by, note_after, Fillable, KeptFilled};
 
+use components::Note;
 use tables::{FLAP, GATED, TWO_WAY};
 
-// What is noted of a component: it has one member; it has several, and none of its two-way reaches has come yet; the first of them has come.
-const ONE: u8 = 0;
-
-const SEVERAL: u8 = 1;
-
-const LOOPED: u8 = 2;
-
 // Whether a reach of the kind stays. Its ends are in the components c and d; c has the note.
-fn stays(kind: u8, c: u16, d: u16, note: u8) -> bool
+fn stays(kind: u8, c: u16, d: u16, note: Note) -> bool
     ensures { result ≡ stays_by (state_of kind) c d note }
 {
     if kind == GATED {
         return true;
     }
     if kind == FLAP {
-        return c != d || note == ONE;
+        return c != d || note == Note::One;
     }
-    kind == TWO_WAY && note != LOOPED
+    kind == TWO_WAY && note != Note::Looped
 }
 
 // The note of a component after a reach of the kind with its end A there.
-fn note_after(kind: u8, note: u8) -> u8
+fn note_after(kind: u8, note: Note) -> Note
     ensures { result ≡ note_after (state_of kind) note }
 {
-    if kind == TWO_WAY && note == SEVERAL {
-        return LOOPED;
+    if kind == TWO_WAY && note == Note::Several {
+        return Note::Looped;
     }
     note
 }
@@ -45,7 +39,7 @@ pub fn fill_kept(
     a: &[u16],
     b: &[u16],
     labels: &[u16],
-    notes: &mut [u8],
+    notes: &mut [Note],
     kinds2: &mut [u8],
     a2: &mut [u16],
     b2: &mut [u16],
