@@ -2,3 +2,11 @@
 // What they are is in specs/; the laws about those definitions are in proofs/. The functions stand in the crates above.
 
 #![tactic(auto)]
+
+// What is noted of a component: it has one member; it has several, and none of its two-way reaches has come yet; the first of them has come.
+#[derive(Clone, Copy, PartialEq, Eq)]
+pub enum Note {
+    One,
+    Several,
+    Looped,
+}

@@ -6,7 +6,6 @@ use mathlib.Core.Bool.{Bool, true, false, cond, not, ◌&&◌, ◌||◌}
 use mathlib.Core.List.{List, [], ◌∷◌, ◌++◌}
 use lib.ListN.{length, take}
 use lib.Seq.{take-suc}
-use lib.Dec.{eqb}
 use Rattle.lists.specs.Lists.{some?}
 use Rattle.lists.proofs.Bools.{same_test}
 use Rattle.network.specs.declared.Kind.TheVariants.{Gated, Flap, TwoWay}
@@ -18,7 +17,8 @@ use Rattle.network.specs.Bridges.{no_reach, reach_at}
 use Rattle.components.specs.Components.{is_two_way, connected, is_singleton, component_number}
 use Rattle.components.specs.Contracted.{none_before, stays}
 use Rattle.components.specs.Labels.{note_at}
-use Rattle.contracting.specs.Filling.{stays_by, note_after}
+use Rattle.components.specs.declared.Note.TheVariants.{One, Several, Looped}
+use Rattle.contracting.specs.Filling.{is_one, is_several, is_looped, stays_by, note_after}
 use Rattle.components.proofs.Components.{connected-refl, connected-sym, connected-trans, connected-eqb, singleton-same}
 
 -- a search that has one member more
@@ -49,7 +49,7 @@ module _ (N : Network) (i : ℕ) (l : i < length N.reaches) where
       let a = (reach_at N i).a in
       rw (none-next a, connected-refl N a) (by_tests (is_singleton N a) (none_before N i a) (is_two_way (reach_at N i).state))
     where
-      by_tests : (one none two : Bool) → cond one 0 (cond (none && not (two && true)) 1 2) ≡ cond {A = ℕ} (two && eqb (cond one 0 (cond none 1 2)) 1) 2 (cond one 0 (cond none 1 2))
+      by_tests : (one none two : Bool) → cond one One (cond (none && not (two && true)) Several Looped) ≡ cond (two && is_several (cond one One (cond none Several Looped))) Looped (cond one One (cond none Several Looped))
       by_tests true none true = refl
       by_tests true none false = refl
       by_tests false true true = refl
@@ -61,7 +61,7 @@ module _ (N : Network) (i : ℕ) (l : i < length N.reaches) where
   pub note-there : (v : ℕ) → connected N (reach_at N i).a v ≡ false → note_at N (suc i) v ≡ note_at N i v
   note-there v e = rw (none-next v, e) (by_tests (is_singleton N v) (none_before N i v) (is_two_way (reach_at N i).state))
     where
-      by_tests : (one none two : Bool) → cond one 0 (cond (none && not (two && false)) 1 2) ≡ cond {A = ℕ} one 0 (cond none 1 2)
+      by_tests : (one none two : Bool) → cond one One (cond (none && not (two && false)) Several Looped) ≡ cond one One (cond none Several Looped)
       by_tests true none two = refl
       by_tests false true true = refl
       by_tests false true false = refl
@@ -81,12 +81,12 @@ note-alike N i u v l m h = rw (singleton-same N u v l m h, none_alike N i u v h)
 
 -- ---- what stays, by the note
 
-note-one : (one none : Bool) → eqb (cond one 0 (cond none 1 2)) 0 ≡ one
+note-one : (one none : Bool) → is_one (cond one One (cond none Several Looped)) ≡ one
 note-one true none = refl
 note-one false true = refl
 note-one false false = refl
 
-note-due : (one none : Bool) → not (eqb (cond one 0 (cond none 1 2)) 2) ≡ one || none
+note-due : (one none : Bool) → not (is_looped (cond one One (cond none Several Looped))) ≡ one || none
 note-due true none = refl
 note-due false true = refl
 note-due false false = refl

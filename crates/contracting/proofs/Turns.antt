@@ -19,6 +19,8 @@ use Rattle.tables.proofs.Filling.{RowFilled, row-none, row_more, row-all}
 use Rattle.components.specs.Components.{connected, component_number}
 use Rattle.components.specs.Contracted.{contracted, contracted_reach}
 use Rattle.components.specs.Labels.{note_at}
+use Rattle.components.specs.declared.Note.{Note}
+use Rattle.components.specs.declared.Note.TheVariants.{One}
 use Rattle.contracting.specs.Filling.{stays_by, note_after, FillableOf, KeptFilledOf}
 use Rattle.components.proofs.Components.{number_same, same_number, number-below, count-few}
 use Rattle.contracting.proofs.Numbers.{number-kept}
@@ -26,17 +28,17 @@ use Rattle.contracting.proofs.Notes.{note-here, note-there, note-alike, stays_by
 use Rattle.contracting.proofs.Parts.{kept_to, kept-none, few-kept, kept-all, staying, kept-drops, kept-stays, staying-below, staying-at}
 
 -- After i reaches: k of them stay, and stand in the new rows; the notes are those after these reaches.
-pub record KeptFilling (n : ℕ) (ks xs ys notes₀ ks₀ xs₀ ys₀ notes ks₂ xs₂ ys₂ : List ℕ) (k i : ℕ) : Type 0 where
+pub record KeptFilling (n : ℕ) (ks xs ys : List ℕ) (notes₀ : List Note) (ks₀ xs₀ ys₀ : List ℕ) (notes : List Note) (ks₂ xs₂ ys₂ : List ℕ) (k i : ℕ) : Type 0 where
   pub below : i ≤ length ks
   pub kept : k ≡ length (kept_to (net_of n ks xs ys) i)
-  pub note : (v : ℕ) → v < n → get_or notes (component_number (net_of n ks xs ys) v) 0 ≡ note_at (net_of n ks xs ys) i v
+  pub note : (v : ℕ) → v < n → get_or notes (component_number (net_of n ks xs ys) v) One ≡ note_at (net_of n ks xs ys) i v
   pub long : length notes ≡ length notes₀
   pub kind_row : RowFilled (λ r. state_number r.state) (contracted (net_of n ks xs ys)).reaches ks₀ ks₂ k
   pub a-row : RowFilled (λ r. r.a) (contracted (net_of n ks xs ys)).reaches xs₀ xs₂ k
   pub b-row : RowFilled (λ r. r.b) (contracted (net_of n ks xs ys)).reaches ys₀ ys₂ k
 
 -- What a turn reads and writes has its place: the ends, their labels, the note of the first, and the next entries of the new rows. The numbers are small.
-pub record Places (xs ys labels notes ks₂ xs₂ ys₂ : List ℕ) (k i : ℕ) : Type 0 where
+pub record Places (xs ys labels : List ℕ) (notes : List Note) (ks₂ xs₂ ys₂ : List ℕ) (k i : ℕ) : Type 0 where
   pub a-here : i < length xs
   pub b_here : i < length ys
   pub a_small : get_or xs i 0 < max_basins
@@ -50,7 +52,7 @@ pub record Places (xs ys labels notes ks₂ xs₂ ys₂ : List ℕ) (k i : ℕ) 
   pub a-room : k < length xs₂
   pub b-room : k < length ys₂
 
-module _ (n : ℕ) (ks xs ys labels notes₀ ks₀ xs₀ ys₀ : List ℕ) (p : FillableOf n ks xs ys labels notes₀ ks₀ xs₀ ys₀) where
+module _ (n : ℕ) (ks xs ys labels : List ℕ) (notes₀ : List Note) (ks₀ xs₀ ys₀ : List ℕ) (p : FillableOf n ks xs ys labels notes₀ ks₀ xs₀ ys₀) where
   abbrev N : Network
   N = net_of n ks xs ys
 
@@ -69,7 +71,7 @@ module _ (n : ℕ) (ks xs ys labels notes₀ ks₀ xs₀ ys₀ : List ℕ) (p : 
         b-row = row-none _ _ _ ys₀;
       }
 
-  module _ {notes ks₂ xs₂ ys₂ : List ℕ} {k i : ℕ} (f : KeptFilling n ks xs ys notes₀ ks₀ xs₀ ys₀ notes ks₂ xs₂ ys₂ k i) where
+  module _ {notes : List Note} {ks₂ xs₂ ys₂ : List ℕ} {k i : ℕ} (f : KeptFilling n ks xs ys notes₀ ks₀ xs₀ ys₀ notes ks₂ xs₂ ys₂ k i) where
     pub kept-filling-all : length ks ≤ i → KeptFilledOf n ks xs ys ks₀ xs₀ ys₀ k ks₂ xs₂ ys₂
     kept-filling-all l =
         record {
@@ -140,11 +142,11 @@ module _ (n : ℕ) (ks xs ys labels notes₀ ks₀ xs₀ ys₀ : List ℕ) (p : 
           }
 
       -- the note, what it decides, and what it becomes
-      abbrev note : ℕ
-      note = get_or notes c 0
+      abbrev note : Note
+      note = get_or notes c One
 
       note-is : note ≡ note_at N i a
-      note-is = ap (λ j. get_or notes j 0) c-is ∙ f.note a a-below
+      note-is = ap (λ j. get_or notes j One) c-is ∙ f.note a a-below
 
       stay-is : staying N i ≡ stays_by (state_of kind) c d note
       stay-is = rw (state-is, a-is, b-is, c-is, d-is, f.note a a-below) (sym (stays_by-noted N i (state_of kind) a b a-below b-below))
@@ -153,26 +155,26 @@ module _ (n : ℕ) (ks xs ys labels notes₀ ks₀ xs₀ ys₀ : List ℕ) (p : 
       note-next = rw (note-is, add-one) (sym (rw (state-is, a-is) at (note-here N i (rw long l))))
 
       -- in the component where it has its end A, and in another
-      noted_here : (x : ℕ) → x ≡ note_after (state_of kind) note → (v : ℕ) → v < n → connected N a v ≡ true → get_or (set notes c x) (component_number N v) 0 ≡ note_at N (i + 1) v
+      noted_here : (x : Note) → x ≡ note_after (state_of kind) note → (v : ℕ) → v < n → connected N a v ≡ true → get_or (set notes c x) (component_number N v) One ≡ note_at N (i + 1) v
       noted_here x e v m h =
-          ap (λ j. get_or (set notes c x) j 0) (sym (c-is ∙ number_same N a v h))
-          ∙ get_or-set_same notes c x 0 places.c-noted
+          ap (λ j. get_or (set notes c x) j One) (sym (c-is ∙ number_same N a v h))
+          ∙ get_or-set_same notes c x One places.c-noted
           ∙ e
           ∙ note-next
           ∙ note-alike N (i + 1) a v a-below m h
 
-      noted-there : (x v : ℕ) → v < n → connected N a v ≡ false → get_or (set notes c x) (component_number N v) 0 ≡ note_at N (i + 1) v
+      noted-there : (x : Note) (v : ℕ) → v < n → connected N a v ≡ false → get_or (set notes c x) (component_number N v) One ≡ note_at N (i + 1) v
       noted-there x v m h =
-          get_or-set_other notes c (component_number N v) x 0 (λ q. clash (same_number N a v a-below m (sym (q ∙ c-is))) h)
+          get_or-set_other notes c (component_number N v) x One (λ q. clash (same_number N a v a-below m (sym (q ∙ c-is))) h)
           ∙ f.note v m
           ∙ rw add-one (sym (note-there N i (rw long l) v (rw a-is h)))
 
-      noted-next : (x : ℕ) → x ≡ note_after (state_of kind) note → (v : ℕ) → v < n → get_or (set notes c x) (component_number N v) 0 ≡ note_at N (i + 1) v
+      noted-next : (x : Note) → x ≡ note_after (state_of kind) note → (v : ℕ) → v < n → get_or (set notes c x) (component_number N v) One ≡ note_at N (i + 1) v
       noted-next x e v m = ⊎_elim (noted_here x e v m) (noted-there x v m) (decide (connected N a v))
 
       -- the reach drops, or goes to the rows
       pub kept-filling-drop :
-          (x : ℕ) → x ≡ note_after (state_of kind) note → false ≡ stays_by (state_of kind) c d note
+          (x : Note) → x ≡ note_after (state_of kind) note → false ≡ stays_by (state_of kind) c d note
           → KeptFilling n ks xs ys notes₀ ks₀ xs₀ ys₀ (set notes c x) ks₂ xs₂ ys₂ k (i + 1)
       kept-filling-drop x e drops =
           record {
@@ -196,7 +198,7 @@ module _ (n : ℕ) (ks xs ys labels notes₀ ks₀ xs₀ ys₀ : List ℕ) (p : 
         kind-there = number-kept kind c d note (sym stayed) ∙ sym (ap (λ r. state_number r.state) there ∙ ap state_number state-is)
 
         pub kept-filling-stay :
-            (x : ℕ) → x ≡ note_after (state_of kind) note → {xs' ys' : List ℕ} → xs' ≡ set xs₂ k c → ys' ≡ set ys₂ k d
+            (x : Note) → x ≡ note_after (state_of kind) note → {xs' ys' : List ℕ} → xs' ≡ set xs₂ k c → ys' ≡ set ys₂ k d
             → KeptFilling n ks xs ys notes₀ ks₀ xs₀ ys₀ (set notes c x) (set ks₂ k kind) xs' ys' (k + 1) (i + 1)
         kept-filling-stay x e a-stored b-stored =
             rw (a-stored, b-stored)

@@ -7,38 +7,28 @@ ghost use Rattle.std.specs.Prelude.{◌≡◌};
 ghost use Rattle.network.specs.Tables.{state_of};
 ghost use Rattle.contracting.specs.Filling.{stays_by, note_after, Fillable, KeptFilled};
 
-const GATED: u8 = 0;
-
-const FLAP: u8 = 1;
-
-const TWO_WAY: u8 = 2;
-
-// What is noted of a component: it has one member; it has several, and none of its two-way reaches has come yet; the first of them has come.
-const ONE: u8 = 0;
-
-const SEVERAL: u8 = 1;
-
-const LOOPED: u8 = 2;
+use components::Note;
+use tables::{FLAP, GATED, TWO_WAY};
 
 // Whether a reach of the kind stays. Its ends are in the components c and d; c has the note.
-fn stays(kind: u8, c: u16, d: u16, note: u8) -> bool
+fn stays(kind: u8, c: u16, d: u16, note: Note) -> bool
     ensures { result ≡ stays_by (state_of kind) c d note }
 {
     if kind == GATED {
         return true;
     }
     if kind == FLAP {
-        return c != d || note == ONE;
+        return c != d || note == Note::One;
     }
-    kind == TWO_WAY && note != LOOPED
+    kind == TWO_WAY && note != Note::Looped
 }
 
 // The note of a component after a reach of the kind with its end A there.
-fn note_after(kind: u8, note: u8) -> u8
+fn note_after(kind: u8, note: Note) -> Note
     ensures { result ≡ note_after (state_of kind) note }
 {
-    if kind == TWO_WAY && note == SEVERAL {
-        return LOOPED;
+    if kind == TWO_WAY && note == Note::Several {
+        return Note::Looped;
     }
     note
 }
@@ -49,7 +39,7 @@ pub fn fill_kept(
     a: &[u16],
     b: &[u16],
     labels: &[u16],
-    notes: &mut [u8],
+    notes: &mut [Note],
     kinds2: &mut [u8],
     a2: &mut [u16],
     b2: &mut [u16],
@@ -59,23 +49,20 @@ pub fn fill_kept(
         kinds2.old a2.old b2.old result kinds2.new a2.new b2.new }
 {
     let mut k = 0;
-    let mut i = 0;
-    while i < kinds.len() {
+    for (i, &kind) in kinds.iter().enumerate() {
         let x = a[i];
         let y = b[i];
         let c = labels[x as usize];
         let d = labels[y as usize];
         let note = notes[c as usize];
-        notes[c as usize] = note_after(kinds[i], note);
-        if !stays(kinds[i], c, d, note) {
-            i += 1;
+        notes[c as usize] = note_after(kind, note);
+        if !stays(kind, c, d, note) {
             continue;
         }
-        kinds2[k] = kinds[i];
+        kinds2[k] = kind;
         a2[k] = c;
         b2[k] = d;
         k += 1;
-        i += 1;
     }
     k
 }

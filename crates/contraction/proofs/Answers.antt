@@ -19,6 +19,7 @@ use Rattle.tables.proofs.Cuts.{cut-ends-a, cut-ends-b, cut-net}
 use Rattle.components.specs.Contracted.{contracted}
 use Rattle.components.specs.Components.{component_count}
 use Rattle.components.specs.Labels.{Joinable, Labelled}
+use Rattle.components.specs.declared.Note.{Note}
 use Rattle.contracting.specs.Filling.{Contractible, FillableOf, KeptFilledOf}
 use Rattle.contraction.specs.declared.ContractAnswer.{ContractAnswer}
 use Rattle.contraction.specs.declared.ContractAnswer.TheVariants.{Refused, Contracted}
@@ -109,7 +110,7 @@ contracted-basins : (N : Network) → (contracted N).basins ≡ component_count 
 unfolding contracted
 contracted-basins N = refl
 
-module _ {n : ℕ} {ks xs ys ks₂ xs₂ ys₂ labels notes : List ℕ} {count : ℕ} (p : Contractible n ks xs ys ks₂ xs₂ ys₂) (c : Labelled (net_of n ks xs ys) count labels notes) where
+module _ {n : ℕ} {ks xs ys ks₂ xs₂ ys₂ labels : List ℕ} {notes : List Note} {count : ℕ} (p : Contractible n ks xs ys ks₂ xs₂ ys₂) (c : Labelled (net_of n ks xs ys) count labels notes) where
   pub fillable : n ≤ length labels → n ≤ length notes → FillableOf n ks xs ys labels notes ks₂ xs₂ ys₂
   fillable l m = record { table = p; count = count; labelled = c; labels-room = l; notes-room = m }
 

@@ -1,16 +1,15 @@
 -- The record at the front of a file's bytes: what it is known by, and what stands at a position, case by case.
 -- Assumes nothing.
 use Prim.Native.Nat.{ℕ, suc, ◌+◌, ◌-◌, ◌≤◌, ◌<◌}
-use native.Mathlib.Numerals.{add-one}
 use native.Mathlib.Omega.{arith}
-use mathlib.Core.Path.{◌≡◌, refl, sym, ap, ◌∙◌}
+use mathlib.Core.Path.{◌≡◌, refl, ap}
 use mathlib.Core.Bool.{Bool, true, false, cond, true≢false}
 use mathlib.Core.List.{List, [], ◌∷◌, ◌++◌}
 use mathlib.Core.Option.{Option, none, some}
 use lib.ListN.{length, get_or, take, drop, length-drop, drop_of_length-le}
 use lib.Dec.{leb}
 use lib.Seq.{drop-cons}
-use borrow.Author.Tests.{leb-true, le-leb, lt-leb, eq-eqb, ne_eqb}
+use borrow.Author.Tests.{leb-true, le-leb, lt-leb}
 use Rattle.network.specs.declared.Refusal.{Refusal}
 use Rattle.network.specs.declared.Refusal.TheVariants.{Truncated, UnknownKind}
 use Rattle.lists.specs.Lists.{elem}
@@ -69,20 +68,6 @@ pub value_taken :
     (kinds : List ℕ) (k n : ℕ) (rest : List ℕ) → elem k kinds ≡ true → body_of k ≡ some 2
     → take_record kinds (k ∷ (two_bytes n ++ rest)) ≡ whole k (two_bytes n) rest
 value_taken kinds k n rest m h = rw (m, h, le-leb 2 (suc (suc (length rest))) (omega arith))
-
--- the search for a kind among those that may come: it is one of all if it is one of those from i on
-abbrev pub SoughtFrom : ℕ → List ℕ → ℕ → Type 0
-SoughtFrom k kinds i = elem k kinds ≡ elem k (drop i kinds)
-
-module _ (k : ℕ) (kinds : List ℕ) (i : ℕ) (s : SoughtFrom k kinds i) where
-  pub sought-here : i < length kinds → k ≡ get_or kinds i 0 → true ≡ elem k kinds
-  sought-here l e = sym (s ∙ rw (drop-cons kinds i 0 l, eq-eqb k (get_or kinds i 0) e))
-
-  pub sought-more : i < length kinds → (k ≡ get_or kinds i 0 → ⊥) → SoughtFrom k kinds (i + 1)
-  sought-more l n = s ∙ rw (drop-cons kinds i 0 l, ne_eqb k (get_or kinds i 0) n, add-one)
-
-  pub sought-none : length kinds ≤ i → false ≡ elem k kinds
-  sought-none l = sym (s ∙ rw (drop_of_length-le kinds l))
 
 no_body : (o : Option ℕ) → body_answer o ≡ Unknown → o ≡ none
 no_body none e = refl

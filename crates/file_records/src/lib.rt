@@ -46,14 +46,7 @@ pub fn body_length(kind: u8) -> Body
 fn one_of(kind: u8, kinds: &[u8]) -> bool
     ensures { result ≡ elem kind kinds.now }
 {
-    let mut i: usize = 0;
-    while i < kinds.len() {
-        if kind == kinds[i] {
-            return true;
-        }
-        i += 1;
-    }
-    false
+    kinds.contains(&kind)
 }
 
 // What stands at a position: a refusal, or a whole record of a kind.

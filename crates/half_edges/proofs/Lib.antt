@@ -1,6 +1,5 @@
 -- The laws of half-edges and of their index.
 pub mod Laws
-pub mod Fills
 pub mod Halves
 pub mod Links
 pub mod Hands

@@ -20,11 +20,7 @@ pub fn fill_row(n: usize, x: u16, row: &mut [u16])
     requires { n ≤ length row.old }
     ensures { row.new ≡ replicate n x ++ drop n row.old }
 {
-    let mut i = 0;
-    while i < n {
-        row[i] = x;
-        i += 1;
-    }
+    row[..n].fill(x);
 }
 
 // Puts half-edge h before the others at basin v.
@@ -44,10 +40,8 @@ pub fn index(n: usize, a: &[u16], b: &[u16], head: &mut [u16], next: &mut [u16])
     ensures { Index n a.now b.now head.new next.new }
 {
     fill_row(n, NO_HALF, head);
-    let mut i = 0;
-    while i < a.len() {
-        link(head, next, a[i], (2 * i) as u16);
+    for (i, &x) in a.iter().enumerate() {
+        link(head, next, x, (2 * i) as u16);
         link(head, next, b[i], (2 * i + 1) as u16);
-        i += 1;
     }
 }

@@ -1,8 +1,7 @@
 -- Writing marks: the bit of a basin, and the byte of eight basins.
 -- Assumes nothing.
-use Prim.Native.Nat.{ℕ, zero, suc, ◌+◌, ◌-◌, ◌*◌, ◌^◌, ◌≤◌, ◌<◌, zero-le}
+use Prim.Native.Nat.{ℕ, zero, suc, ◌+◌, ◌*◌, ◌^◌, ◌≤◌, ◌<◌, zero-le}
 use native.Mathlib.Nat.{pow-suc}
-use native.Mathlib.Numerals.{add-one}
 use native.Mathlib.Omega.{arith}
 use mathlib.Core.Path.{◌≡◌}
 use mathlib.Core.Bool.{Bool, false}
@@ -42,9 +41,5 @@ module _ (p : ℕ → Bool) where
   digits-room i j h = omega (arith, digits-below i j, pow_mono {i = j} {j = 7} (omega arith))
 
   -- one more digit, below those that are taken
-  pub digits_more : (first j : ℕ) → j < 8
-      → 2 * binary_of (map p (range (first + 8 - j) j)) + bit (p (first + 7 - j)) ≡ binary_of (map p (range (first + 8 - (j + 1)) (j + 1)))
-  digits_more first j h =
-      let this : first + 8 - (j + 1) ≡ first + 7 - j = omega arith in
-      let next : first + 8 - j ≡ suc (first + 7 - j) = omega arith in
-      rw (this, next, add-one j) (omega arith)
+  pub digits_more : (i j n m : ℕ) → j ≡ suc i → m ≡ suc n → 2 * binary_of (map p (range j n)) + bit (p i) ≡ binary_of (map p (range i m))
+  digits_more i j n m e f = rw (e, f) (omega arith)

@@ -33,10 +33,8 @@ fn mark_byte(n: usize, seen: &[u16], k: usize) -> u8
     ensures { result ≡ mark_byte (marked_set n seen.now) k }
 {
     let mut byte = 0;
-    let mut j = 0;
-    while j < 8 {
-        byte = 2 * byte + mark_bit(n, seen, 8 * k + 7 - j);
-        j += 1;
+    for b in (8 * k..8 * k + 8).rev() {
+        byte = 2 * byte + mark_bit(n, seen, b);
     }
     byte
 }
@@ -47,10 +45,8 @@ pub fn put_marks(n: usize, seen: &[u16], marks: &mut [u8])
     requires mark_bytes_in_bounds { mark_bytes ≤ length marks.old }
     ensures { marks.new ≡ marks_of (marked_set n seen.now) ++ drop mark_bytes marks.old }
 {
-    let mut k = 0;
-    while k < MARK_BYTES {
-        marks[k] = mark_byte(n, seen, k);
-        k += 1;
+    for (k, byte) in marks[..MARK_BYTES].iter_mut().enumerate() {
+        *byte = mark_byte(n, seen, k);
     }
 }
 
@@ -59,14 +55,16 @@ fn word_at(marks: &[u8], at: usize) -> u64
     requires { at + 8 ≤ length marks.now }
     ensures { result ≡ word_of (take 8 (drop at marks.now)) }
 {
-    let mut word = 0;
-    let mut j = 0;
-    while j < 8 {
-        let byte = marks[at + 7 - j] as u64;
-        word = 256 * word + byte;
-        j += 1;
-    }
-    word
+    u64::from_le_bytes([
+        marks[at],
+        marks[at + 1],
+        marks[at + 2],
+        marks[at + 3],
+        marks[at + 4],
+        marks[at + 5],
+        marks[at + 6],
+        marks[at + 7],
+    ])
 }
 
 // The count of marked basins: the ones in the bytes of marks, taken as 64-bit words.
@@ -75,10 +73,8 @@ pub fn count_marks(marks: &[u8]) -> u16
     ensures { result ≡ mark_count (take mark_bytes marks.now) }
 {
     let mut total = 0;
-    let mut at = 0;
-    while at < MARK_BYTES {
-        total += u64::count_ones(word_at(marks, at)) as u16;
-        at += 8;
+    for at in (0..MARK_BYTES).step_by(8) {
+        total += word_at(marks, at).count_ones() as u16;
     }
     total
 }

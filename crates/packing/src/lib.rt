@@ -16,13 +16,11 @@ pub fn pack_into(t: &[Reach], kinds: &mut [u8], a: &mut [u16], b: &mut [u16]) ->
     ensures { PackedInto t.now kinds.old a.old b.old result kinds.new a.new b.new }
 {
     let n = fitting(t.len(), kinds.len(), a.len(), b.len());
-    let mut i = 0;
-    while i < n {
+    for i in 0..n {
         let x = numbers_of(t[i]);
         kinds[i] = x.kind;
         a[i] = x.a;
         b[i] = x.b;
-        i = i + 1;
     }
     n
 }
@@ -32,9 +30,7 @@ pub fn unpack_from(n: usize, kinds: &[u8], a: &[u16], b: &[u16], t: &mut [Reach]
     ensures { UnpackedFrom n kinds.now a.now b.now t.old t.new }
 {
     let end = filling(n, kinds.len(), a.len(), b.len(), t.len());
-    let mut i = 0;
-    while i < end {
+    for i in 0..end {
         t[i] = reach_of(kinds[i], a[i], b[i]);
-        i = i + 1;
     }
 }

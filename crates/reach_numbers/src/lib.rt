@@ -12,21 +12,17 @@ use tables::least;
 // How many reaches the rows have room for: one more than a network may have, so that rows show that a table is over-full.
 pub const MAX_ROWS: usize = MAX_REACHES + 1;
 
-// The number of a state in a row.
+// The number of a state in a row. It and `state_of` are no `From`: an impl of std's trait between `State` and `u8` can stand only in the crate that has `State`.
 fn number(s: State) -> u8
     ensures { result ≡ state_number s }
 {
     match s {
-        State::InService(k) => match k {
-            Kind::Gated => 0,
-            Kind::Flap => 1,
-            Kind::TwoWay => 2,
-        },
-        State::Shut(k) => match k {
-            Kind::Gated => 3,
-            Kind::Flap => 4,
-            Kind::TwoWay => 5,
-        },
+        State::InService(Kind::Gated) => 0,
+        State::InService(Kind::Flap) => 1,
+        State::InService(Kind::TwoWay) => 2,
+        State::Shut(Kind::Gated) => 3,
+        State::Shut(Kind::Flap) => 4,
+        State::Shut(Kind::TwoWay) => 5,
     }
 }
 
@@ -68,22 +64,14 @@ pub fn fitting(n: usize, x: usize, y: usize, z: usize) -> usize
 fn state_of(k: u8) -> State
     ensures { result ≡ state_of k }
 {
-    if k == 0 {
-        return State::InService(Kind::Gated);
+    match k {
+        0 => State::InService(Kind::Gated),
+        1 => State::InService(Kind::Flap),
+        2 => State::InService(Kind::TwoWay),
+        3 => State::Shut(Kind::Gated),
+        4 => State::Shut(Kind::Flap),
+        _ => State::Shut(Kind::TwoWay),
     }
-    if k == 1 {
-        return State::InService(Kind::Flap);
-    }
-    if k == 2 {
-        return State::InService(Kind::TwoWay);
-    }
-    if k == 3 {
-        return State::Shut(Kind::Gated);
-    }
-    if k == 4 {
-        return State::Shut(Kind::Flap);
-    }
-    State::Shut(Kind::TwoWay)
 }
 
 // A record put together.

@@ -4,11 +4,13 @@
 
 #![tactic(auto)]
 
-ghost use Rattle.std.specs.Prelude.{◌≤◌, length};
+ghost use Rattle.std.specs.Prelude.{◌≡◌, ◌≤◌, length, not, eqb};
+ghost use Rattle.std.specs.List.{prefix_len};
 ghost use Rattle.sheet_format.specs.Rows.{NextGate};
 
 use file_records::END;
 use network::Refusal;
+use tables::GATED;
 
 // The kinds of a plan sheet's records; the end is that of a network file.
 pub const PLAN: u8 = 16;
@@ -27,9 +29,6 @@ pub const PLAN_HEAD_DUE: [u8; 1] = [PLAN];
 
 pub const GATE_DUE: [u8; 3] = [AS_DRAWN, TURNED, END];
 
-// The number of the gated kind in a row of kinds.
-const GATED: u8 = 0;
-
 // What the reader answers: a refusal, or the number of gated reaches read.
 #[derive(Clone, Copy)]
 pub enum SheetAnswer {
@@ -37,17 +36,17 @@ pub enum SheetAnswer {
     Read(usize),
 }
 
+// How many reaches stand before the first gated one: all, if there is none.
+fn before_gate(kinds: &[u8]) -> usize
+    ensures { result ≡ prefix_len (λ k. not (eqb k 0)) kinds.now }
+{
+    kinds.iter().take_while(|&&kind| kind != GATED).count()
+}
+
 // The number of the next gated reach from a reach on, or the number of all reaches if there is none.
 pub fn next_gate(kinds: &[u8], from: usize) -> usize
     requires { from ≤ length kinds.now }
     ensures { NextGate kinds.now from result }
 {
-    let mut i = from;
-    while i < kinds.len() {
-        if kinds[i] == GATED {
-            return i;
-        }
-        i += 1;
-    }
-    i
+    from + before_gate(&kinds[from..])
 }

@@ -52,12 +52,10 @@ fn stray_end(basins: u16, kinds: &[u8], a: &[u16], b: &[u16]) -> usize
     ensures { StrayEnd (net_of basins kinds.now a.now b.now) result }
 {
     let n = row_count(kinds, a, b);
-    let mut i = 0;
-    while i < n {
+    for i in 0..n {
         if a[i] >= basins || b[i] >= basins {
             return i;
         }
-        i += 1;
     }
     n
 }
@@ -84,29 +82,14 @@ pub fn table_check(basins: u16, kinds: &[u8], a: &[u16], b: &[u16]) -> TableAnsw
 pub fn count_gates(kinds: &[u8]) -> usize
     ensures { result ≡ gates_in kinds.now }
 {
-    let mut n = 0;
-    let mut i = 0;
-    while i < kinds.len() {
-        if kinds[i] == GATED {
-            n += 1;
-        }
-        i += 1;
-    }
-    n
+    kinds.iter().filter(|&&kind| kind == GATED).count()
 }
 
 // Whether every byte is 0 or 1.
 fn bits(setting: &[u8]) -> bool
     ensures { result ≡ every (λ x. leb x 1) setting.now }
 {
-    let mut i = 0;
-    while i < setting.len() {
-        if setting[i] > 1 {
-            return false;
-        }
-        i += 1;
-    }
-    true
+    setting.iter().all(|&byte| byte <= 1)
 }
 
 // Whether the bytes are a setting of the reaches of these kinds: one byte for each gated reach, and each 0 or 1.
@@ -137,13 +120,11 @@ pub fn orient(kinds: &[u8], setting: &[u8], ways: &mut [u8])
     ensures { ways.new ≡ ways_row kinds.now setting.now }
 {
     let mut k = 0;
-    let mut i = 0;
-    while i < kinds.len() {
-        ways[i] = way_of(kinds[i], setting, k);
-        if kinds[i] == GATED {
+    for (i, &kind) in kinds.iter().enumerate() {
+        ways[i] = way_of(kind, setting, k);
+        if kind == GATED {
             k += 1;
         }
-        i += 1;
     }
 }
 
@@ -154,13 +135,11 @@ pub fn gather(kinds: &[u8], ways: &[u8], plan: &mut [u8])
     ensures { plan.new ≡ bytes_row kinds.now ways.now ++ drop (gates_in kinds.now) plan.old }
 {
     let mut k = 0;
-    let mut i = 0;
-    while i < kinds.len() {
-        if kinds[i] == GATED {
+    for (i, &kind) in kinds.iter().enumerate() {
+        if kind == GATED {
             plan[k] = ways[i];
             k += 1;
         }
-        i += 1;
     }
 }
 

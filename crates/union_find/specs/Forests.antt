@@ -5,6 +5,7 @@ use Rattle.std.specs.Prelude.{ℕ, ◌≤◌, ◌<◌, min, ◌≡◌, cond, ◌
 use Rattle.network.specs.Networks.{Network}
 use Rattle.components.specs.Components.{representative}
 use Rattle.components.specs.Labels.{Labelled}
+use Rattle.components.specs.declared.Note.{Note}
 
 -- No basin's parent is higher than the basin.
 pub record Rising (n : ℕ) (p : List ℕ) : Type 0 where
@@ -46,5 +47,5 @@ pub record Forest (N : Network) (p : List ℕ) : Type 0 where
   pub roots : (v : ℕ) → v < N.basins → Root p v (representative N v)
 
 -- So it is with every network of n basins whose components have these parents.
-pub record Numbered (n : ℕ) (p : List ℕ) (count : ℕ) (labels notes : List ℕ) : Type 0 where
+pub record Numbered (n : ℕ) (p : List ℕ) (count : ℕ) (labels : List ℕ) (notes : List Note) : Type 0 where
   pub of : (N : Network) → N.basins ≡ n → Forest N p → Labelled N count labels notes

@@ -11,12 +11,8 @@ ghost use Rattle.components.specs.Components.{is_two_way};
 ghost use Rattle.components.specs.Labels.{Joinable, Labelled};
 ghost use Rattle.union_find.specs.Forests.{Separate, Rising, RootFound, Joined, Forest, Numbered};
 
-const TWO_WAY: u8 = 2;
-
-// What is noted of a component: it has one member, or several.
-const ONE: u8 = 0;
-
-const SEVERAL: u8 = 1;
+use components::Note;
+use tables::TWO_WAY;
 
 // Each basin stands alone: it is its own parent.
 fn separate(n: usize, parents: &mut [u16])
@@ -24,10 +20,8 @@ fn separate(n: usize, parents: &mut [u16])
     requires n_in_bounds { n ≤ length parents.old }
     ensures { Separate n parents.new }
 {
-    let mut v = 0;
-    while v < n {
+    for v in 0..n {
         parents[v] = v as u16;
-        v += 1;
     }
 }
 
@@ -76,38 +70,33 @@ fn join_all(n: usize, kinds: &[u8], a: &[u16], b: &[u16], parents: &mut [u16])
     requires separate { Separate n parents.old }
     ensures { Forest (net_of n kinds.now a.now b.now) parents.new }
 {
-    let mut i = 0;
-    while i < kinds.len() {
-        if joins(kinds[i]) {
+    for (i, &kind) in kinds.iter().enumerate() {
+        if joins(kind) {
             join(n, parents, a[i], b[i]);
         }
-        i += 1;
     }
 }
 
 // Numbers the components in the order of their lowest members: a basin's number takes the place of its parent; a parent other than itself is lower and has its own
 // number already. Notes of each component whether it has one member or several, and returns how many components there are.
-fn number(n: usize, parents: &mut [u16], notes: &mut [u8]) -> u16
+fn number(n: usize, parents: &mut [u16], notes: &mut [Note]) -> u16
     requires n_le_max_basins { n ≤ max_basins }
     requires rising { Rising n parents.old }
     requires n_in_bounds { n ≤ length notes.old }
     ensures { Numbered n parents.old result parents.new notes.new }
 {
     let mut count: u16 = 0;
-    let mut v = 0;
-    while v < n {
+    for v in 0..n {
         let up = parents[v] as usize;
         if up < v {
             let c = parents[up];
             parents[v] = c;
-            notes[c as usize] = SEVERAL;
-            v += 1;
+            notes[c as usize] = Note::Several;
             continue;
         }
         parents[v] = count;
-        notes[count as usize] = ONE;
+        notes[count as usize] = Note::One;
         count += 1;
-        v += 1;
     }
     count
 }
@@ -119,7 +108,7 @@ pub fn components(
     a: &[u16],
     b: &[u16],
     labels: &mut [u16],
-    notes: &mut [u8],
+    notes: &mut [Note],
 ) -> u16
     requires joinable { Joinable n kinds.now a.now b.now }
     requires n_in_bounds { n ≤ length labels.old }

@@ -1,4 +1,4 @@
--- `fill_kept` meets its contract. The loop's invariant, for every basin count that fits: `KeptFilling`. The measure is how many reaches are left.
+-- `fill_kept` meets its contract. The loop's invariant, for every basin count that fits: `KeptFilling`.
 -- Assumes nothing.
 use mathlib.Core.Path.{sym, ap, ◌∙◌}
 use native.Mathlib.Omega.{arith}
@@ -16,8 +16,8 @@ bounds-notes-c c =
     (c.loop-i.invariant c.requires.n c.requires.fits) c.loop-i-test.true in
     omega (arith, turn)
 
-pub bounds-notes-c-in-loop-i : goal.bounds-notes-c-in-loop-i
-bounds-notes-c-in-loop-i c =
+pub slice_copy_out-note : goal.slice_copy_out-note
+slice_copy_out-note c =
     let turn : Places c.args.a.now c.args.b.now c.args.labels.now c.loop-i.notes c.loop-i.kinds2 c.loop-i.a2 c.loop-i.b2 c.loop-i.k c.loop-i.i = places c.requires.n c.args.kinds.now c.args.a.now c.args.b.now c.args.labels.now c.args.notes.now c.args.kinds2.now c.args.a2.now c.args.b2.now c.requires.fits
     (c.loop-i.invariant c.requires.n c.requires.fits) c.loop-i-test.true in
     omega (arith, turn)

@@ -1,4 +1,4 @@
--- `index` meets its contract. The loop's invariant: the half-edges of the first i reaches are linked, and both slices keep their lengths. The measure is what is left of the reaches.
+-- `index` meets its contract. The loop's invariant: the half-edges of the first i reaches are linked, and both slices keep their lengths.
 -- Assumes nothing.
 use mathlib.Core.Path.{◌∙◌}
 use native.Mathlib.Omega.{arith}

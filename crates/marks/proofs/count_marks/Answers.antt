@@ -1,4 +1,4 @@
--- `count_marks` meets its contract. The loop's invariant: the total is that of the ones in the bytes before `at`, which are whole words. The measure is the bytes that are left.
+-- `count_marks` meets its contract: one more word at each turn.
 -- Assumes nothing.
 use Prim.Native.Nat.{◌≤◌}
 use native.Mathlib.Omega.{arith}
@@ -12,5 +12,5 @@ loop-at-preserved c =
       omega arith,
       omega arith,
       omega (arith, few),
-      rw (c.loop-at.invariant.3, c.word_at.ensures) (count-more c.loop-at.at c.args.marks.now (λ i. (c.shared_slice_known-1.given i).fits)),
+      rw (c.loop-at.invariant.3, c.word_at.ensures) (count-more c.loop-at.at c.args.marks.now (λ i. (c.type_inv.marks i).fits)),
     )

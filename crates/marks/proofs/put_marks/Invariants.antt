@@ -1,6 +1,5 @@
--- `put_marks` meets its contract. The loop's invariant: the first k bytes are those of the marks, and the others as they were. The measure is the bytes that are left.
+-- `put_marks` meets its contract. The loop's invariant: the first k bytes are those of the marks, and the others as they were.
 -- Assumes nothing.
-use Prim.Native.Nat.{◌-◌, ◌≤◌}
 use mathlib.Core.Path.{◌≡◌}
 use mathlib.Core.List.{◌++◌, map}
 use lib.ListN.{length, drop}
@@ -11,7 +10,4 @@ use Rattle.marks.proofs.put_marks.Given as goal
 
 abbrev pub invariant-loop-k : goal.invariant-loop-k
 invariant-loop-k l =
-    (l.k ≤ mark_bytes) × (l.marks ≡ map (mark_byte (marked_set l.n l.seen)) (range 0 l.k) ++ drop l.k l.initial.marks) × (length l.marks ≡ length l.initial.marks)
-
-abbrev pub decreases-loop-k : goal.decreases-loop-k
-decreases-loop-k l = mark_bytes - l.k
+    (l.byte-items ≡ map (mark_byte (marked_set l.n l.seen)) (range 0 l.k) ++ drop l.k l.initial.byte-items) × (length l.byte-items ≡ mark_bytes)

@@ -1,4 +1,4 @@
--- `pack_into` meets its contract. The loop's invariant: the first i numbers of each row are those of the table's reaches, and the others as they were. The measure is n less i.
+-- `pack_into` meets its contract. The loop's invariant: the first i numbers of each row are those of the table's reaches, and the others as they were.
 -- Assumes nothing.
 use Rattle.std.proofs.Common.{◌<◌, length, ap, arith}
 use Rattle.packing.specs.Rows.{reach_state_number}

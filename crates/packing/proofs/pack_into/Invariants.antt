@@ -1,6 +1,6 @@
--- `pack_into` meets its contract. The loop's invariant: the first i numbers of each row are those of the table's reaches, and the others as they were. The measure is n less i.
+-- `pack_into` meets its contract. The loop's invariant: the first i numbers of each row are those of the table's reaches, and the others as they were.
 -- Assumes nothing.
-use Rattle.std.proofs.Common.{◌-◌, ◌≡◌, ◌≤◌}
+use Rattle.std.proofs.Common.{◌≡◌, ◌≤◌}
 use Rattle.packing.specs.Rows.{reach_state_number, row_into}
 use Rattle.packing.proofs.pack_into.Given as goal
 
@@ -11,6 +11,3 @@ invariant-loop-i l = record {
   a : l.a ≡ row_into (λ x. x.a) l.t l.initial.a l.i;
   b : l.b ≡ row_into (λ x. x.b) l.t l.initial.b l.i;
 }
-
-abbrev pub decreases-loop-i : goal.decreases-loop-i
-decreases-loop-i l = l.n - l.i

@@ -1,4 +1,4 @@
--- `unpack_from` meets its contract. The loop's invariant: the first i records of the table are the reaches of the rows, and the others as they were. The measure is the end less i.
+-- `unpack_from` meets its contract. The loop's invariant: the first i records of the table are the reaches of the rows, and the others as they were.
 -- Assumes nothing.
 use Rattle.std.proofs.Common.{arith, length-set}
 use Rattle.packing.proofs.Rows.{table_put}

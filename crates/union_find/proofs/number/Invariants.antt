@@ -1,6 +1,5 @@
 -- `number` meets its contract: the basins passed have the numbers of their components, for every network whose components have these parents.
 -- Assumes nothing.
-use Prim.Native.Nat.{◌-◌}
 use mathlib.Core.Path.{◌≡◌}
 use Rattle.network.specs.Networks.{Network}
 use Rattle.union_find.specs.Forests.{Forest}
@@ -9,6 +8,3 @@ use Rattle.union_find.proofs.number.Given as goal
 
 abbrev pub invariant-loop-v : goal.invariant-loop-v
 invariant-loop-v l = Numbering l.n l.initial.parents l.initial.notes l.parents l.notes l.count l.v × ((N : Network) → N.basins ≡ l.n → Forest N l.initial.parents → Labelling N l.parents l.notes l.count l.v)
-
-abbrev pub decreases-loop-v : goal.decreases-loop-v
-decreases-loop-v l = l.n - l.v
