@@ -8,9 +8,3 @@ use network::Refusal;
 // What is noted for a basin that is not reached.
 pub const UNREACHED: u16 = 65535;
 
-// What the call for the longest of the fewest counts returns.
-#[derive(Clone, Copy)]
-pub enum DiameterAnswer {
-    Refused(Refusal),
-    Longest(u16),
-}

@@ -14,7 +14,7 @@ ghost use Rattle.replies.specs.Reports.{Lent};
 
 use half_edges::HALF_EDGES;
 use network::{MAX_BASINS, MAX_REACHES, Refusal};
-use replies::{Answer, report};
+use replies::{Reply, report};
 use seeking::Sought;
 
 // The next plan of a setting of an accepted table whose rows are of one length, or its finding, or that no plan is later, in lent working memory.
@@ -33,7 +33,7 @@ fn next_in(
     next: &mut [u16; HALF_EDGES],
     seen: &mut [u16; MAX_BASINS],
     queue: &mut [u16; MAX_BASINS],
-) -> Answer
+) -> Result<Reply, Refusal>
     requires lent { Lent n kinds.now a.now b.now plan.old marks.old }
     requires setting_value { is_setting (net_of n kinds.now a.now b.now) setting.now ≡ true }
     requires space { Space ways.old head.old next.old seen.old queue.old }
@@ -57,8 +57,8 @@ fn next_in(
         queue,
     );
     match sought {
-        Sought::NoneLater => Answer::Refused(Refusal::LastPlan),
-        Sought::CameTo(found) => Answer::Given(report(
+        Sought::NoneLater => Err(Refusal::LastPlan),
+        Sought::CameTo(found) => Ok(report(
             found, n, kinds, oriented, seen, plan, marks,
         )),
     }
@@ -73,7 +73,7 @@ pub fn next_accepted(
     setting: &[u8],
     plan: &mut [u8],
     marks: &mut [u8],
-) -> Answer
+) -> Result<Reply, Refusal>
     requires lent { Lent n kinds.now a.now b.now plan.old marks.old }
     requires setting_value { is_setting (net_of n kinds.now a.now b.now) setting.now ≡ true }
     ensures { Replied (next_answer (net_of n kinds.now a.now b.now) setting.now)

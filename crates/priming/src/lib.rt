@@ -5,7 +5,6 @@
 
 ghost use Rattle.priming.specs.Priming.{Spare, Primed};
 
-use replies::CheckAnswer;
 
 // Prepares the ways of a setting and the index of the half-edges, if the setting is a plan of an accepted table. Says whether it is.
 pub fn prime(
@@ -29,9 +28,9 @@ pub fn prime(
         return false;
     }
     match planner_rows::check(basins, kinds, a, b, setting) {
-        CheckAnswer::Refused(_) => false,
-        CheckAnswer::No => false,
-        CheckAnswer::Yes => {
+        Err(_) => false,
+        Ok(false) => false,
+        Ok(true) => {
             tables::orient(kinds, setting, ways);
             half_edges::index(basins as usize, a, b, head, next);
             true

@@ -33,29 +33,14 @@ pub struct Reply {
     pub verdict: Verdict,
 }
 
-// What first and next plan return.
-#[derive(Clone, Copy)]
-pub enum Answer {
-    Refused(Refusal),
-    Given(Reply),
-}
-
-// What the check of a setting returns.
-#[derive(Clone, Copy)]
-pub enum CheckAnswer {
-    Refused(Refusal),
-    Yes,
-    No,
-}
-
 // Yes or no.
-pub fn yes_or(yes: bool) -> CheckAnswer
+pub fn yes_or(yes: bool) -> Result<bool, Refusal>
     ensures { result ≡ yes_or yes }
 {
     if yes {
-        CheckAnswer::Yes
+        Ok(true)
     } else {
-        CheckAnswer::No
+        Ok(false)
     }
 }
 

@@ -30,13 +30,6 @@ pub const GATE_DUE: [u8; 3] = [AS_DRAWN, TURNED, END];
 // The number of the gated kind in a row of kinds.
 const GATED: u8 = 0;
 
-// What the reader answers: a refusal, or the number of gated reaches read.
-#[derive(Clone, Copy)]
-pub enum SheetAnswer {
-    Refused(Refusal),
-    Read(usize),
-}
-
 // The number of the next gated reach from a reach on, or the number of all reaches if there is none.
 pub fn next_gate(kinds: &[u8], from: usize) -> usize
     requires { from ≤ length kinds.now }

@@ -1,15 +1,14 @@
 // The call that contracts a network.
+use network::{Counts, Refusal};
 use crate::bounds::{OLD, OLD_WORD, within, within_words};
 use crate::files::{Lengths, Reading};
 use crate::table_rows::ROOM;
-use contraction::ContractAnswer;
-use netfile_format::ReadAnswer;
 
 // The same as a reader's answer, which is printed so.
-fn counts(answer: ContractAnswer) -> ReadAnswer {
+fn counts(answer: Result<Counts, Refusal>) -> ReadAnswer {
     match answer {
-        ContractAnswer::Refused(r) => ReadAnswer::Refused(r),
-        ContractAnswer::Contracted { basins, reaches } => ReadAnswer::Read { basins, reaches },
+        Err(r) => Err(r),
+        Ok(Counts { basins, reaches }) => Ok(Counts { basins, reaches }),
     }
 }
 

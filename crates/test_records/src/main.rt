@@ -10,8 +10,7 @@ mod table;
 ghost use Rattle.std.specs.Prelude.{◌≤◌};
 ghost use Rattle.test_records.specs.Rooms.{table_room};
 
-use contraction::ContractAnswer;
-use network::{MAX_BASINS, MAX_REACHES, Reach};
+use network::{MAX_BASINS, MAX_REACHES, Counts, Reach, Refusal};
 use relays::ROOM;
 use std::io;
 use sums::{BYTES, MARKS, mix, sum};
@@ -243,7 +242,7 @@ fn reread(n: usize, t: Twice, s: &[u8]) -> Pair
 // What contracting answers over rows, and the rows afterwards.
 #[derive(Drop)]
 struct Contracted {
-    answer: ContractAnswer,
+    answer: Result<Counts, Refusal>,
     kinds: [u8; ROOM],
     a: [u16; ROOM],
     b: [u16; ROOM],
