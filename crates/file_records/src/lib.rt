@@ -7,7 +7,7 @@ ghost use Rattle.std.specs.Prelude.{◌≡◌, ◌+◌, ◌<◌, ◌≤◌, leng
 ghost use Rattle.std.proofs.lemmas.List.Edits.{sets};
 ghost use Rattle.lists.specs.Lists.{elem};
 ghost use Rattle.lists.specs.Words.{word_of};
-ghost use Rattle.file_records.specs.Records.{body_of, body_answer, two_bytes, take_record, taken_answer};
+ghost use Rattle.file_records.specs.Records.{body_of, two_bytes, take_record, taken_answer};
 
 use network::Refusal;
 
@@ -22,7 +22,7 @@ const BODY: [u8; 32] = [
 
 // The body of a kind, by the table.
 pub fn body_length(kind: u8) -> Option<u8>
-    ensures { result ≡ body_answer (body_of kind) }
+    ensures { result ≡ body_of kind }
 {
     if 31 < kind {
         return None;

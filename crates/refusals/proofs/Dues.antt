@@ -1,5 +1,6 @@
 -- What is due by each test: 8 by the setting, 7 by the buffers, and the first of two.
 -- Assumes nothing.
+use Rattle.std.specs.Prelude.{Result}
 use Prim.Native.Nat.{ℕ, ◌≤◌, ◌<◌}
 use mathlib.Core.Path.{◌≡◌, refl, ap, ◌∙◌}
 use mathlib.Core.Bool.{Bool, true, false, cond, ◌&&◌}
@@ -14,7 +15,6 @@ use Rattle.network.specs.Settings.{gate_count, is_setting, setting_fault}
 use Rattle.network.specs.Marks.{mark_bytes}
 use Rattle.network.specs.Replies.{first_of, check_fault, room_fault}
 use Rattle.network.proofs.Replies.{first-of-none}
-use Rattle.tables.specs.declared.TableAnswer.{TableAnswer}
 use Rattle.tables.specs.Rows.{net_of}
 use Rattle.tables.specs.Answers.{table_answer}
 use Rattle.refusals.specs.Firsts.{first_told}
@@ -25,8 +25,8 @@ told-first : (f g : Option Refusal) → first_told (table_answer f) (table_answe
 told-first none g = refl
 told-first (some r) g = refl
 
-pub first-due : (f g : Option Refusal) {x y z : TableAnswer} → x ≡ table_answer f → y ≡ table_answer g → z ≡ first_told x y → z ≡ table_answer (first_of f g)
-first-due f g {y = y} p q e = e ∙ ap (λ (u : TableAnswer). first_told u y) p ∙ ap (λ (u : TableAnswer). first_told (table_answer f) u) q ∙ told-first f g
+pub first-due : (f g : Option Refusal) {x y z : Result (Unit {0}) Refusal} → x ≡ table_answer f → y ≡ table_answer g → z ≡ first_told x y → z ≡ table_answer (first_of f g)
+first-due f g {y = y} p q e = e ∙ ap (λ (u : Result (Unit {0}) Refusal). first_told u y) p ∙ ap (λ (u : Result (Unit {0}) Refusal). first_told (table_answer f) u) q ∙ told-first f g
 
 -- ---- 8, by the setting
 

@@ -1,5 +1,6 @@
 -- The making of a walker, and how many bytes of it a table uses.
 -- Assumes nothing.
+use Rattle.std.specs.Prelude.{Result}
 use Prim.Native.Nat.{ℕ, ◌≤◌}
 use native.Mathlib.Omega.{arith}
 use mathlib.Core.Path.{◌≡◌, refl, ap, ◌∙◌}
@@ -14,7 +15,6 @@ use Rattle.network.proofs.Networks.{gates-fit}
 use Rattle.network.proofs.Order.{setting-length}
 use Rattle.packing.proofs.Packings.{ByTable}
 use Rattle.refusals.proofs.Dues.{unrefused-fits}
-use Rattle.walker.specs.declared.MakeAnswer.{MakeAnswer}
 use Rattle.walker.specs.declared.Walker.{Walker}
 use Rattle.walker.specs.declared.Made.{Made}
 use Rattle.walker.specs.Walkers.{walker_of, make_of, make_number, walker_made, kept_of, Making}
@@ -46,9 +46,9 @@ kept-walker : (f : Option Refusal) (s : List ℕ) → walker_of (take (kept_of (
 kept-walker none s = ap walker_of (take-length s)
 kept-walker (some r) s = refl
 
-module _ (N : Network) (s : List ℕ) {r : MakeAnswer} {n : ℕ} (e : r ≡ make_of (check_fault N s)) (k : n ≡ kept_of r (length s)) where
+module _ (N : Network) (s : List ℕ) {r : Result (Unit {0}) Refusal} {n : ℕ} (e : r ≡ make_of (check_fault N s)) (k : n ≡ kept_of r (length s)) where
   kept-is : n ≡ kept_of (make_of (check_fault N s)) (length s)
-  kept-is = k ∙ ap (λ (x : MakeAnswer). kept_of x (length s)) e
+  kept-is = k ∙ ap (λ (x : Result (Unit {0}) Refusal). kept_of x (length s)) e
 
   -- they are bytes of the setting, and no more than a walker holds
   pub kept-few : n ≤ length s

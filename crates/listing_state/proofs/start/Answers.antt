@@ -1,9 +1,11 @@
 -- `listing_state::start` meets its contract, by what the reader promises.
 -- Assumes nothing.
+use Rattle.network.specs.Networks.{counts}
+use Rattle.network.specs.declared.Counts.{Counts}
+use Rattle.network.specs.declared.Refusal.{Refusal}
+use Rattle.std.specs.Prelude.{Ok, Result}
 use mathlib.Core.Path.{subst}
 use lib.ListN.{take}
-use Rattle.netfile_format.specs.declared.ReadAnswer.{ReadAnswer}
-use Rattle.netfile_format.specs.declared.ReadAnswer.TheVariants.{Read}
 use Rattle.netfile_format.specs.Answers.{NetworkRead}
 use Rattle.file_records.proofs.Records.{bytes-make}
 use Rattle.lines.specs.Listings.{max_bytes}
@@ -12,11 +14,11 @@ use Rattle.listing_state.proofs.start.Goals as goal
 
 pub returns-in-Refused : goal.returns-in-Refused
 returns-in-Refused c =
-    let Got : ReadAnswer → Type 0 = λ r. NetworkRead (take c.least-n.result c.args.file.now) c.args.kinds.now c.args.a.now c.args.b.now r c.read_network.new.kinds c.read_network.new.a c.read_network.new.b in
+    let Got : Result Counts Refusal → Type 0 = λ r. NetworkRead (take c.least-n.result c.args.file.now) c.args.kinds.now c.args.a.now c.args.b.now r c.read_network.new.kinds c.read_network.new.a c.read_network.new.b in
     start-refused c.args.file.now c.args.kinds.now c.args.a.now c.args.b.now c.read_network.new.kinds c.read_network.new.a c.read_network.new.b _ c.refusal_line-lister.result (front_read c.args.file.now c.least-n.ensures (subst (Got) c.in-Refused.is c.read_network.ensures)) c.refusal_line-lister.ensures
 
 pub returns-in-Read : goal.returns-in-Read
 returns-in-Read c =
-    let Got : ReadAnswer → Type 0 = λ r. NetworkRead (take c.least-n.result c.args.file.now) c.args.kinds.now c.args.a.now c.args.b.now r c.read_network.new.kinds c.read_network.new.a c.read_network.new.b in
-    let was_read : Got (Read c.in-Read.basins c.in-Read.reaches) = subst (Got) c.in-Read.is c.read_network.ensures in
+    let Got : Result Counts Refusal → Type 0 = λ r. NetworkRead (take c.least-n.result c.args.file.now) c.args.kinds.now c.args.a.now c.args.b.now r c.read_network.new.kinds c.read_network.new.a c.read_network.new.b in
+    let was_read : Got (Ok (counts c.in-Read.basins c.in-Read.reaches)) = subst (Got) c.in-Read.is c.read_network.ensures in
     start-read c.args.file.now c.args.kinds.now c.args.a.now c.args.b.now c.read_network.new.kinds c.read_network.new.a c.read_network.new.b _ _ (front_read c.args.file.now c.least-n.ensures (was_read)) c.first_line-lister.result (bytes-first max_bytes c.args.file.now (bytes-make c.args.file.now (λ i. (c.shared_slice_known-1.given i).fits))) c.first_line-lister.ensures

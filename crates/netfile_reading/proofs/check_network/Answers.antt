@@ -1,8 +1,8 @@
 -- `netfile_reading::check_network` meets its contract: the head, its value, and then the reaches.
 -- Assumes nothing.
+use Rattle.std.specs.Prelude.{Ok}
 use native.Mathlib.Omega.{arith}
 use mathlib.Core.Path.{◌≡◌, sym, ap, ◌∙◌}
-use Rattle.file_records.specs.declared.Taken.TheVariants.{Whole}
 use Rattle.file_records.specs.Records.{take_record, taken_answer}
 use Rattle.netfile_format.specs.Files.{head_due}
 use Rattle.netfile_format.specs.Answers.{read_answer}
@@ -11,12 +11,12 @@ use Rattle.netfile_reading.proofs.check_network.Goals as goal
 
 pub word_at-basins-requires : goal.word_at-basins-requires
 word_at-basins-requires c =
-    let head : taken_answer (take_record head_due c.args.file.now) ≡ Whole c.in-Whole.field-0 = sym c.take_record.ensures ∙ c.in-Whole.is in
+    let head : taken_answer (take_record head_due c.args.file.now) ≡ Ok c.in-Whole.field-0 = sym c.take_record.ensures ∙ c.in-Whole.is in
     omega (arith, (head_at c.args.file.now _ (head)).fits)
 
 pub returns-then-basins-eq0 : goal.returns-then-basins-eq0
 returns-then-basins-eq0 c =
-    let head : taken_answer (take_record head_due c.args.file.now) ≡ Whole c.in-Whole.field-0 = sym c.take_record.ensures ∙ c.in-Whole.is in
+    let head : taken_answer (take_record head_due c.args.file.now) ≡ Ok c.in-Whole.field-0 = sym c.take_record.ensures ∙ c.in-Whole.is in
     sym
     (ap read_answer
     (head-bad c.args.file.now _ (head) c.word_at-basins.result c.word_at-basins.ensures
@@ -24,7 +24,7 @@ returns-then-basins-eq0 c =
 
 pub returns-then-basins-gt-MAX_BASINS : goal.returns-then-basins-gt-MAX_BASINS
 returns-then-basins-gt-MAX_BASINS c =
-    let head : taken_answer (take_record head_due c.args.file.now) ≡ Whole c.in-Whole.field-0 = sym c.take_record.ensures ∙ c.in-Whole.is in
+    let head : taken_answer (take_record head_due c.args.file.now) ≡ Ok c.in-Whole.field-0 = sym c.take_record.ensures ∙ c.in-Whole.is in
     sym
     (ap read_answer
     (head-bad c.args.file.now _ (head) c.word_at-basins.result
@@ -32,7 +32,7 @@ returns-then-basins-gt-MAX_BASINS c =
 
 pub check_reaches-requires : goal.check_reaches-requires
 check_reaches-requires c =
-    let head : taken_answer (take_record head_due c.args.file.now) ≡ Whole c.in-Whole.field-0 = sym c.take_record.ensures ∙ c.in-Whole.is in
+    let head : taken_answer (take_record head_due c.args.file.now) ≡ Ok c.in-Whole.field-0 = sym c.take_record.ensures ∙ c.in-Whole.is in
     omega (arith, (head_at c.args.file.now _ (head)).fits)
 
 pub returns-in-Broken : goal.returns-in-Broken
@@ -43,7 +43,7 @@ returns-in-Broken c =
 
 pub returns-else-basins-gt-MAX_BASINS : goal.returns-else-basins-gt-MAX_BASINS
 returns-else-basins-gt-MAX_BASINS c =
-    let head : taken_answer (take_record head_due c.args.file.now) ≡ Whole c.in-Whole.field-0 = sym c.take_record.ensures ∙ c.in-Whole.is in
+    let head : taken_answer (take_record head_due c.args.file.now) ≡ Ok c.in-Whole.field-0 = sym c.take_record.ensures ∙ c.in-Whole.is in
     c.check_reaches.ensures
     ∙ sym
     (ap read_answer

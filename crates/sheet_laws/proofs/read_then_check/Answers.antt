@@ -1,10 +1,10 @@
 -- `sheet_laws::read_then_check` meets its contract, by what the reader and the check promise.
 -- Assumes nothing.
+use Rattle.network.specs.declared.Refusal.{Refusal}
+use Rattle.std.specs.Prelude.{Ok, Result, ℕ}
 use mathlib.Core.Path.{subst}
 use Rattle.network.specs.Networks.{Network}
 use Rattle.tables.specs.Rows.{net_of}
-use Rattle.sheet_format.specs.declared.SheetAnswer.{SheetAnswer}
-use Rattle.sheet_format.specs.declared.SheetAnswer.TheVariants.{Read}
 use Rattle.sheet_format.specs.Answers.{SheetRead}
 use Rattle.sheet_laws.proofs.RoundTrips.{sheet-unchecked, sheet-checked}
 use Rattle.sheet_laws.proofs.read_then_check.Goals as goal
@@ -15,6 +15,6 @@ returns-in-Refused c = sheet-unchecked (net_of c.args.basins c.args.kinds.now c.
 pub returns-in-Read : goal.returns-in-Read
 returns-in-Read c =
     let net : Network = net_of c.args.basins c.args.kinds.now c.args.a.now c.args.b.now in
-    let GotAs : SheetAnswer → Type 0 = λ r. SheetRead (net) c.args.sheet.now c.args.setting.now r c.read_sheet.new.setting in
-    let was_read : GotAs (Read c.in-Read.n) = subst (GotAs) c.in-Read.is c.read_sheet.ensures in
+    let GotAs : Result ℕ Refusal → Type 0 = λ r. SheetRead (net) c.args.sheet.now c.args.setting.now r c.read_sheet.new.setting in
+    let was_read : GotAs (Ok c.in-Read.n) = subst (GotAs) c.in-Read.is c.read_sheet.ensures in
     sheet-checked (net) c.args.sheet.now (was_read) c.check.ensures

@@ -1,11 +1,11 @@
 -- `sheet_laws::read_then_write_sheet` meets its contract, by what the reader and the writer promise.
 -- Assumes nothing.
+use Rattle.network.specs.declared.Refusal.{Refusal}
+use Rattle.std.specs.Prelude.{Ok, Result, ℕ}
 use mathlib.Core.Path.{subst}
 use Rattle.network.specs.Networks.{Network}
 use Rattle.tables.specs.Rows.{net_of}
 use Rattle.file_records.proofs.Records.{bytes-make}
-use Rattle.sheet_format.specs.declared.SheetAnswer.{SheetAnswer}
-use Rattle.sheet_format.specs.declared.SheetAnswer.TheVariants.{Read}
 use Rattle.sheet_format.specs.Answers.{SheetRead}
 use Rattle.sheet_laws.proofs.RoundTrips.{sheet-unread, sheet-written-again}
 use Rattle.sheet_laws.proofs.read_then_write_sheet.Goals as goal
@@ -16,7 +16,7 @@ returns-in-Refused c = sheet-unread (net_of c.args.basins c.args.kinds.now c.arg
 pub returns-in-Read : goal.returns-in-Read
 returns-in-Read c =
     let net : Network = net_of c.args.basins c.args.kinds.now c.args.a.now c.args.b.now in
-    let GotAs : SheetAnswer → Type 0 = λ r. SheetRead (net) c.args.sheet.now c.args.setting.now r c.read_sheet.new.setting in
-    let was_read : GotAs (Read c.in-Read.n) = subst (GotAs) c.in-Read.is c.read_sheet.ensures in
+    let GotAs : Result ℕ Refusal → Type 0 = λ r. SheetRead (net) c.args.sheet.now c.args.setting.now r c.read_sheet.new.setting in
+    let was_read : GotAs (Ok c.in-Read.n) = subst (GotAs) c.in-Read.is c.read_sheet.ensures in
     sheet-written-again (net) c.args.sheet.now (was_read)
     (bytes-make c.args.sheet.now (λ i. (c.type_inv.sheet i).fits)) c.write_sheet.ensures
