@@ -1,6 +1,6 @@
 -- The order of two sheets and then the part, by what the two calls promise.
 -- Assumes nothing.
-use Rattle.core.specs.declared.cmp.Ordering.{Ordering}
+use Rattle.std.specs.declared.cmp.Ordering.{Ordering}
 use Rattle.network.specs.declared.Refusal.{Refusal}
 use Rattle.std.specs.Prelude.{Result}
 use Prim.Native.Nat.{ℕ}

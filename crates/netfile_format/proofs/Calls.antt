@@ -13,7 +13,7 @@ use lib.Dec.{leb}
 use borrow.Author.Tests.{le-leb, lt-leb}
 use Rattle.network.specs.declared.Refusal.{Refusal}
 use Rattle.network.specs.declared.Refusal.TheVariants.{ShortBuffer}
-use Rattle.network.specs.Networks.{Network, table_fault, counts}
+use Rattle.network.specs.Networks.{Network, table_fault, counts, counts_of}
 use Rattle.tables.specs.Rows.{net_of, room_of, RowsFilled}
 use Rattle.tables.proofs.Filling.{filled-long, filled-table}
 use lib.Pow.{are_bytes}
@@ -39,7 +39,9 @@ pub record Counted (x : Reading) (n m : ℕ) : Type 0 where
 
 pub answer-read : (x : Reading) (n m : ℕ) → read_answer x ≡ Ok (counts n m) → Counted x n m
 answer-read (refused e) n m h = absurd (true≢false (cc))
-answer-read (read N) n m h = record { network = N; is = refl; basins = cc; reaches = cc }
+answer-read (read N) n m h =
+    let e : counts_of N ≡ counts n m = cc in
+    record { network = N; is = refl; basins = ap (λ c. c.basins) e; reaches = ap (λ c. c.reaches) e }
 
 number_read : (x : Reading) → read_number (read_answer x) ≡ reading_number x
 number_read (refused r) = refl

@@ -38,9 +38,9 @@ of-reach P p q r s k h = of-elem (λ k. (k ≡ 9 → ⊥) → P k) reach_due (λ
 pub comes-first : (k : ℕ) → elem k head_due ≡ true → k ≡ 1
 comes-first k h = eqb-true k 1 (rw or-false at h)
 
-pub body-reach : (k : ℕ) → Reaching k → body_of k ≡ some (record_length k - 1)
+pub body-reach : (k : ℕ) → Reaching k → body_of k ≡ Some (record_length k - 1)
 unfolding body_of
-body-reach = of-reach (λ k. body_of k ≡ some (record_length k - 1)) refl refl refl refl
+body-reach = of-reach (λ k. body_of k ≡ Some (record_length k - 1)) refl refl refl refl
 
 pub body-head : body_of 1 ≡ Some 2
 unfolding body_of

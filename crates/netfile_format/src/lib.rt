@@ -25,4 +25,3 @@ pub const SHUT_OFFSET: u8 = 3;
 pub const HEAD_DUE: [u8; 1] = [HEAD];
 
 pub const REACH_DUE: [u8; 5] = [GATED, FLAP, TWO_WAY, SHUT, END];
-

@@ -14,7 +14,7 @@ ghost use Rattle.netfile_format.specs.Answers.{read_answer, record_length, reach
 
 use file_records::{END, take_record, word_at};
 use netfile_format::{FLAP, GATED, HEAD_DUE, REACH_DUE, SHUT, SHUT_OFFSET, TWO_WAY};
-use network::{MAX_BASINS, MAX_REACHES, Counts, Refusal};
+use network::{Counts, MAX_BASINS, MAX_REACHES, Refusal};
 
 // The record at a position after the head, a reach or the end.
 fn reach_or_end(file: &[u8], at: usize) -> Result<u8, Refusal>

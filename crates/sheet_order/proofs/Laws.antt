@@ -1,8 +1,8 @@
 -- The laws of the order of two plan sheets and of the part, from what is told of them: so they hold of the calls on rows and on records alike.
 -- Assumes nothing.
-use Rattle.core.specs.declared.cmp.Ordering.{Ordering}
+use Rattle.std.specs.declared.cmp.Ordering.{Ordering}
 use Rattle.network.specs.declared.Refusal.{Refusal}
-use Rattle.core.specs.declared.cmp.Ordering.TheVariants.{Equal, Greater, Less}
+use Rattle.std.specs.declared.cmp.Ordering.TheVariants.{Equal, Greater, Less}
 use Rattle.std.specs.Prelude.{Ok, Err, Result}
 use Prim.Native.Nat.{ℕ, ◌-◌}
 use native.Mathlib.Omega.{arith}
@@ -43,14 +43,15 @@ exchange N f g p q =
 
 -- ---- equal
 
-equal-same : (N : Network) (f g : List ℕ) → are_bytes f ≡ true → are_bytes g ≡ true → {o : Result Ordering Refusal} → Told N f g o → o ≡ (Ok Equal) → f ≡ g
+equal-same : (N : Network) (f g : List ℕ) → are_bytes f ≡ true → are_bytes g ≡ true → {o : Result Ordering Refusal} → Told N f g o → o ≡ Ok Equal → f ≡ g
 equal-same N f g bf bg (told-refused r) e = absurd (true≢false (cc))
 equal-same N f g bf bg (told-read s t b) e =
-    first-sheet N f g b bf bg ∙ ap (sheet_of N) (equal-settings (both-alongside N f g b) e) ∙ sym (second-sheet N f g b bf bg)
+    let same : setting_order s t ≡ Equal = cc in
+    first-sheet N f g b bf bg ∙ ap (sheet_of N) (equal-settings (both-alongside N f g b) same) ∙ sym (second-sheet N f g b bf bg)
 
-same-equal : (N : Network) (f : List ℕ) {o : Result Ordering Refusal} → Told N f f o → order_number o ≡ 0 → o ≡ (Ok Equal)
+same-equal : (N : Network) (f : List ℕ) {o : Result Ordering Refusal} → Told N f f o → order_number o ≡ 0 → o ≡ Ok Equal
 same-equal N f (told-refused r) z = no_number r z
-same-equal N f (told-read s t b) z = ap (setting_order s) (read-inj s t (sym b.first_says ∙ b.second-says)) ∙ order-refl s
+same-equal N f (told-read s t b) z = ap Ok (ap (setting_order s) (read-inj s t (sym b.first_says ∙ b.second-says)) ∙ order-refl s)
 
 -- Two sheets that are read are equal exactly if they are the same bytes.
 pub equal-exactly : (N : Network) (f g : List ℕ) → are_bytes f ≡ true → are_bytes g ≡ true → {o : Result Ordering Refusal} → Ordered N f g o → EqualExactly f g o
@@ -64,7 +65,7 @@ equal-exactly N f g bf bg {o} p =
 
 -- the earlier sheet first, and the bytes from record k to its end
 shown :
-    (N : Network) (f g : List ℕ) → are_bytes f ≡ true → are_bytes g ≡ true → {s t : List ℕ} → BothRead N f g s t → setting_order s t ≡ (Ok Less)
+    (N : Network) (f g : List ℕ) → are_bytes f ≡ true → are_bytes g ≡ true → {s t : List ℕ} → BothRead N f g s t → setting_order s t ≡ Less
     → {k : ℕ} → k ≡ common_prefix s t → {part : List ℕ} → part ≡ drop (record_place k) f → Shown N f g part k
 shown N f g bf bg {s} {t} b e {k} q {part} h =
     let a = sheets-apart (both-alongside N f g b) e in
@@ -84,11 +85,10 @@ module _ (N : Network) (first second r : Bor (List ℕ)) (bf : are_bytes first.n
   abbrev Stands : Result Ordering Refusal → Type 0
   Stands o = PartFrom (differing_record N first.now second.now) o first second r → PartShown N first.now second.now o r.now
 
-  part-read : {s t : List ℕ} → BothRead N first.now second.now s t → (o : Result Ordering Refusal) → setting_order s t ≡ o → Stands o
-  part-read b (Err x) e p = p.bytes
-  part-read b (Ok Equal) e p = to_end p (omega arith) ∙ drop_of_length-le first.now {i = length first.now} (omega arith)
-  part-read b (Ok Less) e p = shown N first.now second.now bf bg b e (gate-said b) (to_end p (omega arith))
-  part-read {s} {t} b (Ok Greater) e p = shown N second.now first.now bg bf (reads-swapped b) (exchanged-first s t e) (gate-said b ∙ prefix-sym s t) (to_end p (omega arith))
+  part-read : {s t : List ℕ} → BothRead N first.now second.now s t → (o : Ordering) → setting_order s t ≡ o → Stands (Ok o)
+  part-read b Equal e p = to_end p (omega arith) ∙ drop_of_length-le first.now {i = length first.now} (omega arith)
+  part-read b Less e p = shown N first.now second.now bf bg b e (gate-said b) (to_end p (omega arith))
+  part-read {s} {t} b Greater e p = shown N second.now first.now bg bf (reads-swapped b) (exchanged-first s t e) (gate-said b ∙ prefix-sym s t) (to_end p (omega arith))
 
   part-told : {o : Result Ordering Refusal} → Told N first.now second.now o → Stands o
   part-told (told-refused x) p = p.bytes

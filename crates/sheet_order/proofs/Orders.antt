@@ -1,7 +1,7 @@
 -- What two sheets are read as, and so their order: a refusal, or the order of two settings of one network; and where the part begins.
 -- Assumes nothing.
-use Rattle.core.specs.declared.cmp.Ordering.{Ordering}
-use Rattle.core.specs.declared.cmp.Ordering.TheVariants.{Equal, Greater, Less}
+use Rattle.std.specs.declared.cmp.Ordering.{Ordering}
+use Rattle.std.specs.declared.cmp.Ordering.TheVariants.{Equal, Greater, Less}
 use Rattle.std.specs.Prelude.{Ok, Err, Result}
 use Prim.Native.Nat.{ℕ, zero, suc}
 use mathlib.Core.Path.{◌≡◌, refl, sym, ap, subst, ◌∙◌}
@@ -26,10 +26,10 @@ use Rattle.sheet_order.specs.Calls.{Ordered, OrderedAt, Compared}
 use Rattle.sheet_order.proofs.Prefixes.{prefix-sym}
 use Rattle.sheet_order.proofs.Sheets.{order-exchanged, Alongside, alongside, order-sheets, sheets-apart}
 
-settings-number : (s t : List ℕ) → order_number (setting_order s t) ≡ 0
+settings-number : (s t : List ℕ) → order_number (Ok (setting_order s t)) ≡ 0
 settings-number s t = go (before s t) (before t s)
   where
-    go : (a b : Bool) → order_number (cond a (Ok Less) (cond b (Ok Greater) (Ok Equal))) ≡ 0
+    go : (a b : Bool) → order_number (Ok (cond a Less (cond b Greater Equal))) ≡ 0
     go true b = refl
     go false true = refl
     go false false = refl
@@ -67,7 +67,7 @@ module _ (N : Network) (f g : List ℕ) where
 
   -- what two sheets that are read come to
   module _ {s t : List ℕ} (b : BothRead N f g s t) where
-    pub read-order : sheet_order N f g ≡ setting_order s t
+    pub read-order : sheet_order N f g ≡ Ok (setting_order s t)
     unfolding sheet_order
     read-order = rw (b.first_says, b.second-says)
 
@@ -87,14 +87,14 @@ module _ (N : Network) (f g : List ℕ) where
       bytes-order : setting_order f g ≡ setting_order s t
       bytes-order = rw (first-sheet, second-sheet) (order-sheets both-alongside)
 
-  pub both_read : are_bytes f ≡ true → are_bytes g ≡ true → {s t : List ℕ} → BothRead N f g s t → {r : Result Ordering Refusal} → r ≡ setting_order f g → Ordered N f g r
-  both_read bf bg b q = ordered (q ∙ bytes-order b bf bg ∙ sym (read-order b))
+  pub both_read : are_bytes f ≡ true → are_bytes g ≡ true → {s t : List ℕ} → BothRead N f g s t → {r : Result Ordering Refusal} → r ≡ Ok (setting_order f g) → Ordered N f g r
+  both_read bf bg b q = ordered (q ∙ ap Ok (bytes-order b bf bg) ∙ sym (read-order b))
 
 -- ---- an order that was told: a refusal, or that of two sheets that are read
 
 pub data Told (N : Network) (f g : List ℕ) : Result Ordering Refusal → Type 0 where
   told-refused : (r : Refusal) → Told N f g (Err r)
-  told-read : (s t : List ℕ) → BothRead N f g s t → Told N f g (setting_order s t)
+  told-read : (s t : List ℕ) → BothRead N f g s t → Told N f g (Ok (setting_order s t))
 
 told : (N : Network) (f g : List ℕ) → Told N f g (sheet_order N f g)
 unfolding sheet_order
@@ -113,32 +113,33 @@ told_of {N} {f} {g} p = subst (Told N f g) (sym p.order) (told N f g)
 pub reads-swapped : {N : Network} {f g s t : List ℕ} → BothRead N f g s t → BothRead N g f t s
 reads-swapped b = record { first_says = b.second-says; second-says = b.first_says }
 
-pub exchanged-first : (s t : List ℕ) → setting_order s t ≡ (Ok Greater) → setting_order t s ≡ (Ok Less)
-exchanged-first s t e = order-exchanged s t ∙ ap exchanged e
+pub exchanged-first : (s t : List ℕ) → setting_order s t ≡ Greater → setting_order t s ≡ Less
+exchanged-first s t e =
+    let back : Ok (setting_order t s) ≡ Ok Less = order-exchanged s t ∙ ap (λ o. exchanged (Ok o)) e in
+    cc
 
 pub gate-said : {N : Network} {f g s t : List ℕ} → BothRead N f g s t → differing_gate N f g ≡ common_prefix s t
 gate-said b = rw (b.first_says, b.second-says)
 
 -- the earlier sheet first
-pub record-place : (N : Network) (f g : List ℕ) → are_bytes f ≡ true → are_bytes g ≡ true → {s t : List ℕ} → BothRead N f g s t → setting_order s t ≡ (Ok Less) → common_prefix f g ≡ record_place (common_prefix s t)
+pub record-place : (N : Network) (f g : List ℕ) → are_bytes f ≡ true → are_bytes g ≡ true → {s t : List ℕ} → BothRead N f g s t → setting_order s t ≡ Less → common_prefix f g ≡ record_place (common_prefix s t)
 record-place N f g bf bg {s} {t} b e =
     ap (λ x. common_prefix x g) (first-sheet N f g b bf bg) ∙ ap (common_prefix (sheet_of N s)) (second-sheet N f g b bf bg) ∙ (sheets-apart (both-alongside N f g b) e).place
 
 module _ (N : Network) (f g : List ℕ) (bf : are_bytes f ≡ true) (bg : are_bytes g ≡ true) where
   -- Where two sheets that are read differ, the first byte that differs is the first of the first differing record.
   module _ {s t : List ℕ} (b : BothRead N f g s t) where
-    place-first : setting_order s t ≡ (Ok Less) → common_prefix f g ≡ differing_record N f g
+    place-first : setting_order s t ≡ Less → common_prefix f g ≡ differing_record N f g
     place-first e = record-place N f g bf bg b e ∙ ap record_place (sym (gate-said b))
 
-    place-second : setting_order s t ≡ (Ok Greater) → common_prefix f g ≡ differing_record N f g
+    place-second : setting_order s t ≡ Greater → common_prefix f g ≡ differing_record N f g
     place-second e =
         prefix-sym f g ∙ record-place N g f bg bf (reads-swapped b) (exchanged-first s t e) ∙ ap record_place (prefix-sym t s ∙ sym (gate-said b))
 
-    place_read : (o : Result Ordering Refusal) → setting_order s t ≡ o → differ o ≡ true → common_prefix f g ≡ differing_record N f g
-    place_read (Err x) e d = absurd (true≢false (sym d))
-    place_read (Ok Equal) e d = absurd (true≢false (sym d))
-    place_read (Ok Less) e d = place-first e
-    place_read (Ok Greater) e d = place-second e
+    place_read : (o : Ordering) → setting_order s t ≡ o → differ (Ok o) ≡ true → common_prefix f g ≡ differing_record N f g
+    place_read Equal e d = absurd (true≢false (sym d))
+    place_read Less e d = place-first e
+    place_read Greater e d = place-second e
 
   place-told : {o : Result Ordering Refusal} → Told N f g o → differ o ≡ true → common_prefix f g ≡ differing_record N f g
   place-told (told-refused r) d = absurd (true≢false (sym d))

@@ -1,9 +1,7 @@
 -- Laws of the longest common prefix of two rows: it is no longer than either, a scan finds it, and the entries behind it decide the order.
 -- Assumes nothing.
-use Rattle.core.specs.declared.cmp.Ordering.{Ordering}
-use Rattle.network.specs.declared.Refusal.{Refusal}
-use Rattle.core.specs.declared.cmp.Ordering.TheVariants.{Equal, Greater, Less}
-use Rattle.std.specs.Prelude.{Ok, Result}
+use Rattle.std.specs.declared.cmp.Ordering.{Ordering}
+use Rattle.std.specs.declared.cmp.Ordering.TheVariants.{Equal, Greater, Less}
 use Prim.Native.Nat.{ℕ, suc, ◌+◌, ◌≤◌, ◌<◌}
 use native.Mathlib.Omega.{arith}
 use native.Mathlib.Numerals.{add-one}
@@ -97,10 +95,10 @@ module _ (x y : ℕ) (xs ys : List ℕ) where
   prefix-apart : (x ≡ y → ⊥) → common_prefix (x ∷ xs) (y ∷ ys) ≡ 0
   prefix-apart h = rw (ne_eqb x y h)
 
-  order-lower : x < y → setting_order (x ∷ xs) (y ∷ ys) ≡ (Ok Less)
+  order-lower : x < y → setting_order (x ∷ xs) (y ∷ ys) ≡ Less
   order-lower l = rw (lt-ltb x y l)
 
-  order-higher : y < x → setting_order (x ∷ xs) (y ∷ ys) ≡ (Ok Greater)
+  order-higher : y < x → setting_order (x ∷ xs) (y ∷ ys) ≡ Greater
   order-higher l = rw (le-ltb x y (omega (arith, l)), ne_eqb x y (λ e. omega (arith, l, e)), lt-ltb y x l)
 
 -- ---- what is shared is the same, and as long from either row
@@ -127,7 +125,7 @@ prefix-shared (x ∷ xs) (y ∷ ys) = go (eqb x y) refl (prefix-shared xs ys)
 -- ---- the order by the first entries that differ
 
 -- where one row is the start of the other, none is earlier
-pub order-ended : (xs ys : List ℕ) → (length xs ≤ common_prefix xs ys) ⊎ (length ys ≤ common_prefix xs ys) → setting_order xs ys ≡ (Ok Equal)
+pub order-ended : (xs ys : List ℕ) → (length xs ≤ common_prefix xs ys) ⊎ (length ys ≤ common_prefix xs ys) → setting_order xs ys ≡ Equal
 order-ended [] [] h = refl
 order-ended [] (y ∷ ys) h = refl
 order-ended (x ∷ xs) [] h = refl
@@ -136,7 +134,7 @@ order-ended (x ∷ xs) (y ∷ ys) h = go (heads x y) (order-ended xs ys)
     some_left : (x ≡ y → ⊥) → ⊥
     some_left n = let p = prefix-apart x y xs ys n in ⊎_elim (λ l. omega (arith, l, p)) (λ l. omega (arith, l, p)) h
 
-    go : Heads x y → ((length xs ≤ common_prefix xs ys) ⊎ (length ys ≤ common_prefix xs ys) → setting_order xs ys ≡ (Ok Equal)) → setting_order (x ∷ xs) (y ∷ ys) ≡ (Ok Equal)
+    go : Heads x y → ((length xs ≤ common_prefix xs ys) ⊎ (length ys ≤ common_prefix xs ys) → setting_order xs ys ≡ Equal) → setting_order (x ∷ xs) (y ∷ ys) ≡ Equal
     go (same e) rest =
         let p : common_prefix (x ∷ xs) (y ∷ ys) ≡ suc (common_prefix xs ys) = rw (eq-eqb x y e) in
         rw (sym e) (order_same x xs ys ∙ rest (⊎_elim (λ l. inl (omega (arith, l, p))) (λ l. inr (omega (arith, l, p))) h))
@@ -144,8 +142,8 @@ order-ended (x ∷ xs) (y ∷ ys) h = go (heads x y) (order-ended xs ys)
     go (higher l) rest = absurd (some_left (λ e. omega (arith, l, e)))
 
 -- otherwise the entries behind the prefix decide
-abbrev by_entries : ℕ → List ℕ → List ℕ → Result Ordering Refusal
-by_entries k xs ys = cond (ltb (get_or xs k 0) (get_or ys k 0)) (Ok Less) (Ok Greater)
+abbrev by_entries : ℕ → List ℕ → List ℕ → Ordering
+by_entries k xs ys = cond (ltb (get_or xs k 0) (get_or ys k 0)) Less Greater
 
 order-apart : (xs ys : List ℕ) → common_prefix xs ys < length xs → common_prefix xs ys < length ys → setting_order xs ys ≡ by_entries (common_prefix xs ys) xs ys
 order-apart [] ys l m = absurd (omega (arith, l))
@@ -164,8 +162,8 @@ module _ (xs ys : List ℕ) {k : ℕ} (e : k ≡ common_prefix xs ys) (l : k < l
   decided : setting_order xs ys ≡ by_entries k xs ys
   decided = order-apart xs ys (omega (arith, e, l)) (omega (arith, e, m)) ∙ ap (λ k. by_entries k xs ys) (sym e)
 
-  pub order-first : get_or xs k 0 < get_or ys k 0 → setting_order xs ys ≡ (Ok Less)
+  pub order-first : get_or xs k 0 < get_or ys k 0 → setting_order xs ys ≡ Less
   order-first h = decided ∙ rw (lt-ltb _ _ h)
 
-  pub order-second : get_or ys k 0 ≤ get_or xs k 0 → setting_order xs ys ≡ (Ok Greater)
+  pub order-second : get_or ys k 0 ≤ get_or xs k 0 → setting_order xs ys ≡ Greater
   order-second h = decided ∙ rw (le-ltb _ _ h)

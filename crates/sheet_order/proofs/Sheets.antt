@@ -1,7 +1,7 @@
 -- Two plan sheets of one network whose settings differ part at the record of the first gate at which these differ: the sheets' order is that of the
 -- settings, and the first byte that differs is the first of that record.
 -- Assumes nothing.
-use Rattle.core.specs.declared.cmp.Ordering.TheVariants.{Equal, Less}
+use Rattle.std.specs.declared.cmp.Ordering.TheVariants.{Equal, Less}
 use Rattle.std.specs.Prelude.{Ok}
 use Prim.Native.Nat.{ℕ, zero, suc, ◌*◌, ◌<◌}
 use native.Mathlib.Omega.{arith}
@@ -23,14 +23,14 @@ use Rattle.sheet_order.proofs.Prefixes.{prefix_same, order_same, prefix-both, or
 
 -- ---- the order of two settings
 
-pub order-refl : (s : List ℕ) → setting_order s s ≡ (Ok Equal)
+pub order-refl : (s : List ℕ) → setting_order s s ≡ Equal
 order-refl s = rw (before-irrefl s)
 
 -- Exchanging two settings exchanges their order.
-pub order-exchanged : (s t : List ℕ) → setting_order t s ≡ exchanged (setting_order s t)
+pub order-exchanged : (s t : List ℕ) → Ok (setting_order t s) ≡ exchanged (Ok (setting_order s t))
 order-exchanged s t = go (before s t) refl (before t s) refl
   where
-    go : (a : Bool) → before s t ≡ a → (b : Bool) → before t s ≡ b → setting_order t s ≡ exchanged (setting_order s t)
+    go : (a : Bool) → before s t ≡ a → (b : Bool) → before t s ≡ b → Ok (setting_order t s) ≡ exchanged (Ok (setting_order s t))
     go true e true f = absurd (false≢true (sym (before-asym s t e) ∙ f))
     go true e false f = rw (e, f)
     go false e true f = rw (e, f)
@@ -71,7 +71,7 @@ alongside (i ∷ gs) (x ∷ s) (y ∷ t) ls lt bs bt =
     (alongside gs s t (omega (arith, ls)) (omega (arith, lt)) (and_elim_right (leb x 1) _ bs) (and_elim_right (leb y 1) _ bt))
 
 -- settings none of which is earlier are the same
-pub equal-settings : {gs s t : List ℕ} → Alongside gs s t → setting_order s t ≡ (Ok Equal) → s ≡ t
+pub equal-settings : {gs s t : List ℕ} → Alongside gs s t → setting_order s t ≡ Equal → s ≡ t
 equal-settings ended e = refl
 equal-settings (alike i x {gs} {s} {t} l) e = ap (λ u. x ∷ u) (equal-settings l (sym (order_same x s t) ∙ e))
 equal-settings (drawn-first i gs s t) e = absurd (true≢false (cc))
@@ -105,7 +105,7 @@ module _ (tail : List ℕ) where
         late = rw (n, p) a.late;
       }
 
-  apart : {gs s t : List ℕ} → Alongside gs s t → setting_order s t ≡ (Ok Less) → Apart gs s t
+  apart : {gs s t : List ℕ} → Alongside gs s t → setting_order s t ≡ Less → Apart gs s t
   apart ended e = absurd (true≢false (cc))
   apart (alike i x {gs} {s} {t} l) e = apart_more i x (apart l (sym (order_same x s t) ∙ e))
   apart (drawn-first i gs s t) e = record { gate = omega arith; place = refl; early = refl; late = refl }
@@ -126,7 +126,7 @@ pub record SheetsApart (gs s t : List ℕ) : Type 0 where
   pub early : take 3 (drop (record_place (common_prefix s t)) (plan_sheet gs s)) ≡ gate_record (get_or gs (common_prefix s t) 0) 0
   pub late : take 3 (drop (record_place (common_prefix s t)) (plan_sheet gs t)) ≡ gate_record (get_or gs (common_prefix s t) 0) 1
 
-pub sheets-apart : {gs s t : List ℕ} → Alongside gs s t → setting_order s t ≡ (Ok Less) → SheetsApart gs s t
+pub sheets-apart : {gs s t : List ℕ} → Alongside gs s t → setting_order s t ≡ Less → SheetsApart gs s t
 sheets-apart {gs} {s} {t} l e =
     let a = apart (end_kind ∷ []) l e in
     let n : record_place (common_prefix s t) ≡ suc (suc (suc (3 * common_prefix s t))) = omega arith in

@@ -1,6 +1,6 @@
 -- What the calls that compare two sheets answer.
 -- Assumes nothing.
-use Rattle.core.specs.declared.cmp.Ordering.{Ordering}
+use Rattle.std.specs.declared.cmp.Ordering.{Ordering}
 use Rattle.network.specs.declared.Refusal.{Refusal}
 use Rattle.std.specs.Prelude.{ℕ, ◌≡◌, true, List, Result}
 use Rattle.std.specs.Borrow.{Bor}

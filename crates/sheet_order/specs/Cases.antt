@@ -1,9 +1,9 @@
 -- Two sheets of a network, their order and the part that is handed back: the marked cases, and one for each sentence of document 02, item 5.
 -- proofs/Cases.antt computes them from the definitions.
 -- Assumes nothing.
-use Rattle.core.specs.declared.cmp.Ordering.{Ordering}
+use Rattle.std.specs.declared.cmp.Ordering.{Ordering}
 use Rattle.network.specs.declared.Refusal.{Refusal}
-use Rattle.core.specs.declared.cmp.Ordering.TheVariants.{Greater, Equal, Less}
+use Rattle.std.specs.declared.cmp.Ordering.TheVariants.{Greater, Equal, Less}
 use Rattle.std.specs.Prelude.{ℕ, ◌≡◌, List, [], ◌∷◌, drop, Err, Ok, Result}
 use Rattle.network.specs.declared.Refusal.TheVariants.{BasinCount, EndOutOfRange, Truncated, UnknownKind, TrailingBytes, BadSetting}
 use Rattle.network.specs.Networks.{Network, net}

@@ -1,8 +1,8 @@
 -- What holds of the order of two plan sheets and of the part that is handed back. proofs/Laws.antt shows it of every two sheets.
 -- Assumes nothing.
-use Rattle.core.specs.declared.cmp.Ordering.{Ordering}
+use Rattle.std.specs.declared.cmp.Ordering.{Ordering}
 use Rattle.network.specs.declared.Refusal.{Refusal}
-use Rattle.core.specs.declared.cmp.Ordering.TheVariants.{Equal, Greater, Less}
+use Rattle.std.specs.declared.cmp.Ordering.TheVariants.{Equal, Greater, Less}
 use Rattle.std.specs.Prelude.{ℕ, ◌<◌, ◌≡◌, List, [], ◌++◌, get_or, take, drop, Ok, Err, Result}
 use Rattle.std.specs.Borrow.{Bor}
 use Rattle.network.specs.Networks.{Network}
@@ -18,8 +18,8 @@ pub record Exchanged (o o' : Result Ordering Refusal) : Type 0 where
 
 -- Sheets that are read are equal exactly if they are the same bytes.
 pub record EqualExactly (f g : List ℕ) (o : Result Ordering Refusal) : Type 0 where
-  pub same : o ≡ (Ok Equal) → f ≡ g
-  pub equal : order_number o ≡ 0 → f ≡ g → o ≡ (Ok Equal)
+  pub same : o ≡ Ok Equal → f ≡ g
+  pub equal : order_number o ≡ 0 → f ≡ g → o ≡ Ok Equal
 
 -- The same part: the same place in memory, and the same bytes.
 pub record SamePart (r r' : Bor (List ℕ)) : Type 0 where

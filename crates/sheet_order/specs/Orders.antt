@@ -1,24 +1,24 @@
 -- The order of two plan sheets of one network. Document 02, item 5, its first half.
 -- Assumes nothing.
-use Rattle.core.specs.declared.cmp.Ordering.{Ordering}
+use Rattle.std.specs.declared.cmp.Ordering.{Ordering}
 use Rattle.network.specs.declared.Refusal.{Refusal}
-use Rattle.core.specs.declared.cmp.Ordering.TheVariants.{Equal, Greater, Less}
+use Rattle.std.specs.declared.cmp.Ordering.TheVariants.{Equal, Greater, Less}
 use Rattle.std.specs.Prelude.{ℕ, zero, suc, Bool, true, false, cond, List, Ok, Err, Result}
 use Rattle.network.specs.Networks.{Network}
 use Rattle.network.specs.Settings.{before}
 use Rattle.network.specs.Replies.{refusal_number}
 use Rattle.sheet_format.specs.Readings.{SheetReading, sheet_refused, sheet_says, read_sheet}
 
--- Which of two settings is earlier, or that they are equal: 01's order of settings.
-abbrev pub setting_order : List ℕ → List ℕ → Result Ordering Refusal
-setting_order s t = cond (before s t) (Ok Less) (cond (before t s) (Ok Greater) (Ok Equal))
+-- Which of two settings is earlier, the first (`Less`) or the second (`Greater`), or that they are equal: 01's order of settings.
+abbrev pub setting_order : List ℕ → List ℕ → Ordering
+setting_order s t = cond (before s t) Less (cond (before t s) Greater Equal)
 
 -- "Both sheets are read in full, the first sheet's refusal before the second's. The reply says which is earlier, or that they are equal": the order of
 -- two plan sheets is that of the settings that they say.
 abbrev pub reading_order : SheetReading → SheetReading → Result Ordering Refusal
 reading_order (sheet_refused r) y = Err r
 reading_order (sheet_says s) (sheet_refused r) = Err r
-reading_order (sheet_says s) (sheet_says t) = setting_order s t
+reading_order (sheet_says s) (sheet_says t) = Ok (setting_order s t)
 
 -- The same of their bytes; 1, 2 and 3 of the table come before the sheets.
 unfoldable pub sheet_order : Network → List ℕ → List ℕ → Result Ordering Refusal
@@ -46,6 +46,6 @@ differ (Ok Greater) = true
 -- The order of the two sheets exchanged, where both are read.
 abbrev pub exchanged : Result Ordering Refusal → Result Ordering Refusal
 exchanged (Err r) = Err r
-exchanged (Ok Equal) = (Ok Equal)
-exchanged (Ok Less) = (Ok Greater)
-exchanged (Ok Greater) = (Ok Less)
+exchanged (Ok Equal) = Ok Equal
+exchanged (Ok Less) = Ok Greater
+exchanged (Ok Greater) = Ok Less

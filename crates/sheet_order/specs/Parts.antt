@@ -1,8 +1,8 @@
 -- The part of the earlier sheet, by its place in the lent sheet. Document 02, item 5, its second half.
 -- Assumes nothing.
-use Rattle.core.specs.declared.cmp.Ordering.{Ordering}
+use Rattle.std.specs.declared.cmp.Ordering.{Ordering}
 use Rattle.network.specs.declared.Refusal.{Refusal}
-use Rattle.core.specs.declared.cmp.Ordering.TheVariants.{Greater, Equal, Less}
+use Rattle.std.specs.declared.cmp.Ordering.TheVariants.{Greater, Equal, Less}
 use Rattle.std.specs.Prelude.{ℕ, suc, ◌+◌, ◌-◌, ◌*◌, ◌≡◌, cond, List, [], ◌∷◌, eqb, length, take, drop, Err, Ok, Result}
 use Rattle.std.specs.Borrow.{Bor}
 use Rattle.network.specs.Networks.{Network}

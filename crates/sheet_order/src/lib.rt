@@ -7,10 +7,11 @@ ghost use Rattle.std.specs.Prelude.{◌≡◌};
 ghost use Rattle.sheet_order.specs.Orders.{setting_order};
 ghost use Rattle.sheet_order.specs.Parts.{common_prefix, PartFrom};
 
-use std::cmp::Ordering;
 use network::Refusal;
+use std::cmp::Ordering;
 
-// The reply: the order, and a part of one of the two sheets that were lent.
+// The reply: which of two sheets is earlier (`Less` the first, `Greater` the second), that they are equal, or why they are refused; and a part of one of
+// the two sheets that were lent.
 #[derive(Clone, Copy)]
 pub struct Parting<'a> {
     pub order: Result<Ordering, Refusal>,
@@ -34,22 +35,22 @@ fn common_prefix(first: &[u8], second: &[u8]) -> usize
     i
 }
 
-// The order of two sheets by their bytes: the first byte that differs decides, and where one is the start of the other none does.
-pub fn order_of(first: &[u8], second: &[u8]) -> Result<Ordering, Refusal>
+// The order of two sheets by their bytes: the first byte that differs decides, and where one is the start of the other they are equal.
+pub fn order_of(first: &[u8], second: &[u8]) -> Ordering
     ensures { result ≡ setting_order first.now second.now }
 {
     let at = common_prefix(first, second);
     let left = first.len() - at;
     if left == 0 {
-        return Ok(Ordering::Equal);
+        return Ordering::Equal;
     }
     if second.len() <= at {
-        return Ok(Ordering::Equal);
+        return Ordering::Equal;
     }
     if first[at] < second[at] {
-        Ok(Ordering::Less)
+        Ordering::Less
     } else {
-        Ok(Ordering::Greater)
+        Ordering::Greater
     }
 }
 
