@@ -9,7 +9,6 @@ ghost use Rattle.network.specs.Settings.{setting_fault};
 ghost use Rattle.network.specs.Replies.{first_of, check_fault, room_fault};
 ghost use Rattle.tables.specs.Rows.{net_of};
 ghost use Rattle.tables.specs.Answers.{table_answer};
-ghost use Rattle.refusals.specs.Firsts.{first_told};
 
 use marks::MARK_BYTES;
 use network::Refusal;
@@ -41,7 +40,13 @@ fn room_check(kinds: &[u8], a: &[u16], b: &[u16], plan: usize, marks: usize) -> 
 }
 
 // Of the check of a setting, and of the making of a walker: 1, 2, 3, 8.
-pub fn check_refusal(basins: u16, kinds: &[u8], a: &[u16], b: &[u16], setting: &[u8]) -> Result<(), Refusal>
+pub fn check_refusal(
+    basins: u16,
+    kinds: &[u8],
+    a: &[u16],
+    b: &[u16],
+    setting: &[u8],
+) -> Result<(), Refusal>
     ensures { result ≡ table_answer (check_fault (net_of basins kinds.now a.now b.now) setting.now) }
 {
     tables::table_check(basins, kinds, a, b)?;

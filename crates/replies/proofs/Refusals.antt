@@ -1,6 +1,6 @@
 -- The replies to bad input, and to good input with room enough.
 -- Assumes nothing.
-use Rattle.std.specs.Prelude.{Err}
+use Rattle.std.specs.Prelude.{Ok, Err}
 use Prim.Native.Nat.{ℕ}
 use mathlib.Core.Path.{◌≡◌, refl, ap, subst⁻¹, ◌∙◌}
 use mathlib.Core.Bool.{Bool, true}
@@ -11,7 +11,7 @@ use Rattle.network.specs.Networks.{Network, table_fault}
 use Rattle.network.specs.Settings.{is_setting, setting_fault}
 use Rattle.network.specs.Plans.{strongly_connected_under, is_plan}
 use Rattle.network.specs.Replies.{Outcome, refused, first_of, unless, first_answer, next_answer, check_fault, room_fault, first_reply, next_reply}
-use Rattle.replies.specs.Answers.{Replied, yes_or, check_of, CheckCall}
+use Rattle.replies.specs.Answers.{Replied, check_of, CheckCall}
 use Rattle.replies.proofs.Answers.{replied, check-called}
 
 -- a refusal by number writes nothing
@@ -46,7 +46,7 @@ pub check-refused : (N : Network) (s : List ℕ) (r : Refusal) → check_fault N
 unfolding check_of
 check-refused N s r e = check-called (rw e)
 
-pub check-fitting : (N : Network) (s : List ℕ) (b : Bool) → check_fault N s ≡ none → is_setting N s ≡ true → b ≡ strongly_connected_under N s → CheckCall N s (yes_or b)
+pub check-fitting : (N : Network) (s : List ℕ) (b : Bool) → check_fault N s ≡ none → is_setting N s ≡ true → b ≡ strongly_connected_under N s → CheckCall N s (Ok b)
 unfolding check_of is_plan
 check-fitting N s b ok e f = check-called (rw (ok, e, f))
 

@@ -1,7 +1,7 @@
--- The planner's answers: the code's enums as document 01's replies, with its numbers and values.
+-- The planner's answers: the code's results as document 01's replies, with its numbers and values.
 -- Assumes nothing.
 use Rattle.replies.specs.declared.Reply.{Reply}
-use Rattle.std.specs.Prelude.{ℕ, ◌≡◌, Bool, true, false, List, length, Err, Ok, Result}
+use Rattle.std.specs.Prelude.{ℕ, ◌≡◌, Bool, false, List, length, Err, Ok, Result}
 use Rattle.std.proofs.Math.Option.{Option, none, some}
 use Rattle.network.specs.declared.Refusal.{Refusal}
 use Rattle.network.specs.Networks.{Network}
@@ -60,27 +60,21 @@ pub record Replied (o : Outcome) (plan marks plan' marks' : List ℕ) (r : Resul
   pub marks-left : marks' ≡ marks_after o marks
 
 -- The check of a setting "answers yes or no after 1, 2, 3, 8".
-abbrev pub yes_or : Bool → Result Bool Refusal
-yes_or true = (Ok true)
-yes_or false = (Ok false)
-
 abbrev pub unless_refused : Option Refusal → Result Bool Refusal → Result Bool Refusal
 unless_refused (some r) a = Err r
 unless_refused none a = a
 
 unfoldable pub check_of : Network → List ℕ → Result Bool Refusal
-check_of N s = unless_refused (check_fault N s) (yes_or (is_plan N s))
+check_of N s = unless_refused (check_fault N s) (Ok (is_plan N s))
 
 -- Document 01's number of the check's answer, 0 for yes and no; and whether it is yes.
 abbrev pub check_number : Result Bool Refusal → ℕ
 check_number (Err r) = refusal_number r
-check_number (Ok true) = 0
-check_number (Ok false) = 0
+check_number (Ok b) = 0
 
 abbrev pub says_yes : Result Bool Refusal → Bool
 says_yes (Err r) = false
-says_yes (Ok true) = true
-says_yes (Ok false) = false
+says_yes (Ok b) = b
 
 -- What the calls leave: the answer to a setting's check, and its number; the answer of first and of next plan with the lent buffers, the plan's p and the
 -- marks' m, before and after.
