@@ -5,9 +5,9 @@
 ghost use Rattle.tables.specs.Rows.{net_of};
 ghost use Rattle.comparison_laws.specs.Laws.{BothWays, PartOfTwo, PartOfExchanged};
 
-use std::cmp::Ordering;
 use network::Refusal;
 use sheet_order::part;
+use std::cmp::Ordering;
 
 // The orders of two sheets as they were lent, and exchanged.
 #[derive(Clone, Copy)]

@@ -175,13 +175,10 @@ pub fn due_of(answer: Result<Reply, Refusal>, left: usize) -> Due
 {
     match answer {
         Err(r) => due_refused(r),
-        Ok(reply) => {
-            let verdict = reply.verdict;
-            match verdict {
-                Verdict::Plan => due_plan(left),
-                Verdict::ShutIn(_) => Due::Refused(9),
-                Verdict::Lone(_) => Due::Refused(10),
-            }
-        }
+        Ok(reply) => match reply.verdict {
+            Verdict::Plan => due_plan(left),
+            Verdict::ShutIn(_) => Due::Refused(9),
+            Verdict::Lone(_) => Due::Refused(10),
+        },
     }
 }

@@ -9,7 +9,7 @@ ghost use Rattle.listing_state.specs.Parts.{FirstLine, RefusalLine};
 
 use lines::{Due, due_of, due_refused};
 use marks::MARK_BYTES;
-use network::{MAX_REACHES, Counts, Refusal};
+use network::{Counts, MAX_REACHES, Refusal};
 use tables::least;
 
 // The most bytes of a file that are read, and the most plans that are printed.

@@ -15,7 +15,7 @@ use Rattle.network.specs.Plans.{strongly_connected_under, is_plan}
 use Rattle.network.proofs.Networks.{accepted}
 use Rattle.file_records.specs.Puts.{Wrote, room_for, WroteWhole}
 use Rattle.network.specs.Replies.{first_of, check_fault, plan_fault}
-use Rattle.replies.specs.Answers.{yes_or, unless_refused, check_of}
+use Rattle.replies.specs.Answers.{unless_refused, check_of}
 use Rattle.replies.proofs.Answers.{yes-plan}
 use Rattle.sheet_format.specs.Sheets.{sheet_of}
 use Rattle.sheet_format.specs.Readings.{sheet_refused, sheet_says, unless_fault}
@@ -33,7 +33,7 @@ fault_said (Ok false) = some BadSetting
 
 check-cases :
     (o : Option Refusal) (b c : Bool)
-    → fault_said (unless_refused (first_of o (cond b none (some BadSetting))) (yes_or (b && c))) ≡ first_of o (cond (b && c) none (some BadSetting))
+    → fault_said (unless_refused (first_of o (cond b none (some BadSetting))) (Ok (b && c))) ≡ first_of o (cond (b && c) none (some BadSetting))
 check-cases (some r) b c = refl
 check-cases none true true = refl
 check-cases none true false = refl
@@ -73,7 +73,7 @@ no-fault N s none true t p e = record { accepted-net = t; is-plan = p }
 no-fault N s none false t p e = absurd (true≢false (cc))
 no-fault N s (some r) b t p e = absurd (true≢false (cc))
 
-pub yes-fits : (N : Network) (s : List ℕ) → check_of N s ≡ (Ok true) → Fitting N.reaches s
+pub yes-fits : (N : Network) (s : List ℕ) → check_of N s ≡ Ok true → Fitting N.reaches s
 yes-fits N s e = record { few = (accepted N (yes-plan N s e).0).few-reaches; full = plan-long N s (yes-plan N s e).1 }
 
 -- the writer, by what the check said
@@ -83,6 +83,6 @@ module _ (N : Network) (s out : List ℕ) where
       put_refused (sheet_of N s) out r (judged-sheet N s v e (length out) ∙ ap (λ o. first_of o (room_for (sheet_of N s) (length out))) f)
 
   pub wrote-plan :
-      (r : Result ℕ Refusal) (out' : List ℕ) → check_of N s ≡ (Ok true) → WroteWhole (sheet_of N s) out r out'
+      (r : Result ℕ Refusal) (out' : List ℕ) → check_of N s ≡ Ok true → WroteWhole (sheet_of N s) out r out'
       → SheetWritten N s out r out'
   wrote-plan r out' e = subst (λ o. Wrote o (sheet_of N s) out r out') (sym (judged-sheet N s (Ok true) e (length out)))

@@ -49,7 +49,7 @@ given-inj : {u v : Verdict} → given u ≡ given v → u ≡ v
 unfolding verdict_of
 given-inj e = ap verdict_of e
 
-refused-inj : {r s : Refusal} → Err r ≡ Err s → r ≡ s
+refused-inj : {r s : Refusal} → ◌≡◌ {A = Result Reply Refusal} (Err r) (Err s) → r ≡ s
 refused-inj e = cc
 
 -- ---- what the call of first plan leaves, with buffers of the largest lengths
