@@ -11,7 +11,7 @@ use network::{MAX_BASINS, MAX_REACHES, Refusal};
 use planning::{check_accepted, first_plan_in};
 use planning_next::next_accepted;
 use refusals::{check_refusal, next_refusal};
-use replies::{Reply, yes_or};
+use replies::Reply;
 
 // The first plan of a network, or the finding that shows why there is none. Refuses: 1, 2, 3, 7.
 pub fn first_plan(
@@ -41,7 +41,7 @@ pub fn check(basins: u16, kinds: &[u8], a: &[u16], b: &[u16], setting: &[u8]) ->
 {
     check_refusal(basins, kinds, a, b, setting)?;
     let m = tables::row_count(kinds, a, b);
-    yes_or(check_accepted(basins as usize, &kinds[..m], &a[..m], &b[..m], setting))
+    Ok(check_accepted(basins as usize, &kinds[..m], &a[..m], &b[..m], setting))
 }
 
 // The next plan of a setting of the network, itself a plan or not; or the finding that shows why there is none, or that no plan is later.
