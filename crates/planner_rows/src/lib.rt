@@ -36,7 +36,13 @@ pub fn first_plan(
 }
 
 // Whether a setting is a plan of the network. Refuses: 1, 2, 3, 8. Writes nothing.
-pub fn check(basins: u16, kinds: &[u8], a: &[u16], b: &[u16], setting: &[u8]) -> Result<bool, Refusal>
+pub fn check(
+    basins: u16,
+    kinds: &[u8],
+    a: &[u16],
+    b: &[u16],
+    setting: &[u8],
+) -> Result<bool, Refusal>
     ensures { CheckCall (net_of basins kinds.now a.now b.now) setting.now result }
 {
     check_refusal(basins, kinds, a, b, setting)?;
@@ -58,15 +64,7 @@ pub fn next_plan(
     ensures { NextCall (net_of basins kinds.now a.now b.now) setting.now plan.old
         marks.old result plan.new marks.new }
 {
-    next_refusal(
-        basins,
-        kinds,
-        a,
-        b,
-        setting,
-        plan.len(),
-        marks.len(),
-    )?;
+    next_refusal(basins, kinds, a, b, setting, plan.len(), marks.len())?;
     let n = basins as usize;
     let m = tables::row_count(kinds, a, b);
     next_accepted(n, &kinds[..m], &a[..m], &b[..m], setting, plan, marks)
