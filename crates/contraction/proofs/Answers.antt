@@ -114,4 +114,4 @@ module _ {n : ℕ} {ks xs ys ks₂ xs₂ ys₂ labels notes : List ℕ} {count :
   fillable l m = record { table = p; count = count; labelled = c; labels-room = l; notes-room = m }
 
   pub given-filled : {k : ℕ} {ks' xs' ys' : List ℕ} → KeptFilledOf n ks xs ys ks₂ xs₂ ys₂ k ks' xs' ys' → ContractGiven (net_of n ks xs ys) ks₂ xs₂ ys₂ (Ok (counts count k)) ks' xs' ys'
-  given-filled f = record { answer = ap₂ {C = Result Counts Refusal} Ok (c.counted ∙ sym (contracted-basins (net_of n ks xs ys))) f.counted; rows = f.rows }
+  given-filled f = record { answer = ap₂ {C = Result Counts Refusal} (λ (k m : ℕ). Ok (counts k m)) (c.counted ∙ sym (contracted-basins (net_of n ks xs ys))) f.counted; rows = f.rows }

@@ -11,7 +11,7 @@ use network::{MAX_BASINS, MAX_REACHES, Refusal};
 use planning::{check_accepted, first_plan_in};
 use planning_next::next_accepted;
 use refusals::{check_refusal, next_refusal};
-use replies::{Reply, yes_or};
+use replies::Reply;
 
 // The first plan of a network, or the finding that shows why there is none. Refuses: 1, 2, 3, 7.
 pub fn first_plan(
@@ -36,12 +36,18 @@ pub fn first_plan(
 }
 
 // Whether a setting is a plan of the network. Refuses: 1, 2, 3, 8. Writes nothing.
-pub fn check(basins: u16, kinds: &[u8], a: &[u16], b: &[u16], setting: &[u8]) -> Result<bool, Refusal>
+pub fn check(
+    basins: u16,
+    kinds: &[u8],
+    a: &[u16],
+    b: &[u16],
+    setting: &[u8],
+) -> Result<bool, Refusal>
     ensures { CheckCall (net_of basins kinds.now a.now b.now) setting.now result }
 {
     check_refusal(basins, kinds, a, b, setting)?;
     let m = tables::row_count(kinds, a, b);
-    yes_or(check_accepted(basins as usize, &kinds[..m], &a[..m], &b[..m], setting))
+    Ok(check_accepted(basins as usize, &kinds[..m], &a[..m], &b[..m], setting))
 }
 
 // The next plan of a setting of the network, itself a plan or not; or the finding that shows why there is none, or that no plan is later.
@@ -58,15 +64,7 @@ pub fn next_plan(
     ensures { NextCall (net_of basins kinds.now a.now b.now) setting.now plan.old
         marks.old result plan.new marks.new }
 {
-    next_refusal(
-        basins,
-        kinds,
-        a,
-        b,
-        setting,
-        plan.len(),
-        marks.len(),
-    )?;
+    next_refusal(basins, kinds, a, b, setting, plan.len(), marks.len())?;
     let n = basins as usize;
     let m = tables::row_count(kinds, a, b);
     next_accepted(n, &kinds[..m], &a[..m], &b[..m], setting, plan, marks)

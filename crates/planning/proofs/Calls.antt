@@ -2,7 +2,7 @@
 -- Assumes nothing.
 use Rattle.replies.specs.declared.Reply.{Reply}
 use Rattle.network.specs.declared.Refusal.{Refusal}
-use Rattle.std.specs.Prelude.{Result}
+use Rattle.std.specs.Prelude.{Result, Ok}
 use Prim.Native.Nat.{ℕ}
 use native.Mathlib.Omega.{arith}
 use mathlib.Core.Path.{◌≡◌, ap, subst, subst⁻¹, ◌∙◌}
@@ -19,7 +19,7 @@ use Rattle.tables.specs.Rows.{net_of}
 use Rattle.tables.proofs.Cuts.{cut-net, cut-gates}
 use Rattle.refusals.proofs.Dues.{room-left, unrefused-fits}
 use Rattle.seeking.proofs.Levels.{cut_level}
-use Rattle.replies.specs.Answers.{Replied, yes_or, CheckCall}
+use Rattle.replies.specs.Answers.{Replied, CheckCall}
 use Rattle.replies.proofs.Refusals.{check-fitting, first_by, next-by}
 use Rattle.replies.specs.Reports.{Lent}
 
@@ -49,5 +49,5 @@ module _ {N N' : Network} (same : N' ≡ N) where
       subst⁻¹ (λ (o : Outcome). Replied o plan marks plan' marks' r) (next-by N s p q ok)
       (subst (λ (M : Network). Replied (next_answer M s) plan marks plan' marks' r) same w)
 
-  pub check-given : (s : List ℕ) {b : Bool} {v : Result Bool Refusal} → check_fault N s ≡ none → b ≡ strongly_connected_under N' s → v ≡ yes_or b → CheckCall N s v
-  check-given s {b} ok e f = subst⁻¹ (CheckCall N s) f (check-fitting N s b ok (unrefused-fits N s ok).1 (e ∙ ap (λ (M : Network). strongly_connected_under M s) same))
+  pub check-given : (s : List ℕ) {b : Bool} → check_fault N s ≡ none → b ≡ strongly_connected_under N' s → CheckCall N s (Ok b)
+  check-given s {b} ok e = check-fitting N s b ok (unrefused-fits N s ok).1 (e ∙ ap (λ (M : Network). strongly_connected_under M s) same)

@@ -3,7 +3,7 @@
 
 #![tactic(auto)]
 
-ghost use Rattle.std.specs.Prelude.{◌≡◌};
+ghost use Rattle.std.specs.Prelude.{◌≡◌, Ok};
 ghost use Rattle.network.specs.Plans.{strongly_connected_under};
 ghost use Rattle.network.specs.Replies.{first_answer};
 ghost use Rattle.tables.specs.Rows.{net_of};
@@ -34,7 +34,7 @@ pub fn first_in(
     requires lent { Lent n kinds.now a.now b.now plan.old marks.old }
     requires space { Space ways.old head.old next.old seen.old queue.old }
     ensures { Replied (first_answer (net_of n kinds.now a.now b.now)) plan.old
-        marks.old plan.new marks.new (Answer.Given result) }
+        marks.old plan.new marks.new (Ok result) }
 {
     let m = kinds.len();
     let oriented = &mut ways[..m];

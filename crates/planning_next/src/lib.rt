@@ -58,9 +58,7 @@ fn next_in(
     );
     match sought {
         Sought::NoneLater => Err(Refusal::LastPlan),
-        Sought::CameTo(found) => Ok(report(
-            found, n, kinds, oriented, seen, plan, marks,
-        )),
+        Sought::CameTo(found) => Ok(report(found, n, kinds, oriented, seen, plan, marks)),
     }
 }
 
