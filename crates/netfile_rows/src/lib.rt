@@ -10,7 +10,12 @@ use netfile_format::HEAD;
 use network::{Counts, Refusal};
 
 // The network of a file, its reaches into the rows. Refuses: 5, 4, 1, 2, 3, 6, 7. The whole file is judged before anything is written.
-pub fn read_network(file: &[u8], kinds: &mut [u8], a: &mut [u16], b: &mut [u16]) -> Result<Counts, Refusal>
+pub fn read_network(
+    file: &[u8],
+    kinds: &mut [u8],
+    a: &mut [u16],
+    b: &mut [u16],
+) -> Result<Counts, Refusal>
     ensures { NetworkRead file.now kinds.old a.old b.old
         result kinds.new a.new b.new }
 {
@@ -23,7 +28,13 @@ pub fn read_network(file: &[u8], kinds: &mut [u8], a: &mut [u16], b: &mut [u16])
 }
 
 // The file of a network goes to the first bytes of the buffer. Refuses: 1, 2, 3, 7.
-pub fn write_network(basins: u16, kinds: &[u8], a: &[u16], b: &[u16], out: &mut [u8]) -> Result<usize, Refusal>
+pub fn write_network(
+    basins: u16,
+    kinds: &[u8],
+    a: &[u16],
+    b: &[u16],
+    out: &mut [u8],
+) -> Result<usize, Refusal>
     ensures { NetworkWritten (net_of basins kinds.now a.now b.now) out.old result out.new }
 {
     tables::table_check(basins, kinds, a, b)?;

@@ -81,7 +81,13 @@ pub fn write_fitting(
 }
 
 // The sheet of the plan that stands in the first bytes of its buffer, one for each gated reach.
-pub fn write_first(kinds: &[u8], a: &[u16], b: &[u16], plan: &[u8], out: &mut [u8]) -> Result<usize, Refusal>
+pub fn write_first(
+    kinds: &[u8],
+    a: &[u16],
+    b: &[u16],
+    plan: &[u8],
+    out: &mut [u8],
+) -> Result<usize, Refusal>
     requires { Roomy (table_of kinds.now a.now b.now) plan.now }
     ensures { WroteWhole (first_bytes_sheet (table_of kinds.now a.now b.now) plan.now) out.old
         result out.new }
