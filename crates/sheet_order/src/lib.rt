@@ -61,12 +61,12 @@ pub fn part<'a>(order: Result<Ordering, Refusal>, first: &'a [u8], second: &'a [
 {
     let at = common_prefix(first, second);
     match order {
-        Err(_) => &first[..0],
+        Ok(Ordering::Less) => &first[at..],
+        Ok(Ordering::Greater) => &second[at..],
         Ok(Ordering::Equal) => {
             let end = first.len();
             &first[end..]
         }
-        Ok(Ordering::Less) => &first[at..],
-        Ok(Ordering::Greater) => &second[at..],
+        Err(_) => &first[..0],
     }
 }

@@ -8,14 +8,14 @@ use borrow.Author.Rules.{rules}
 use Rattle.sheet_order.proofs.Prefixes.{prefix-left, prefix-right}
 use Rattle.sheet_order.proofs.part.Goals as goal
 
-pub slice_bounds-result-count-in-Ok-Less : goal.slice_bounds-result-count-in-Ok-Less
-slice_bounds-result-count-in-Ok-Less c =
+pub slice_bounds-result-count : goal.slice_bounds-result-count
+slice_bounds-result-count c =
     let in_first : c.common_prefix-at.result ≤ length c.args.first.now = omega (arith, prefix-left c.args.first.now c.args.second.now) in
     let in_second : c.common_prefix-at.result ≤ length c.args.second.now = omega (arith, prefix-right c.args.first.now c.args.second.now) in
     omega arith
 
-pub slice_bounds-result-start-in-Ok-Less : goal.slice_bounds-result-start-in-Ok-Less
-slice_bounds-result-start-in-Ok-Less c =
+pub slice_bounds-result-start : goal.slice_bounds-result-start
+slice_bounds-result-start c =
     let in_first : c.common_prefix-at.result ≤ length c.args.first.now = omega (arith, prefix-left c.args.first.now c.args.second.now) in
     let in_second : c.common_prefix-at.result ≤ length c.args.second.now = omega (arith, prefix-right c.args.first.now c.args.second.now) in
     search rules
