@@ -45,13 +45,11 @@ fn put_line(l: Line, setting: &[u8], g: usize, out: &mut [u8]) -> usize
     requires { g ≤ length setting.now }
     ensures { Put (drop l.at (line_of l.due (take g setting.now))) out.old out.new result }
 {
-    let at = l.at;
-    let due = l.due;
-    match due {
-        Due::Plan(_) => put_plan(&setting[..g], at, out),
-        Due::More => put_more(at, out),
-        Due::End => put_end(at, out),
-        Due::Refused(n) => put_refused(n, at, out),
+    match l.due {
+        Due::Plan(_) => put_plan(&setting[..g], l.at, out),
+        Due::More => put_more(l.at, out),
+        Due::End => put_end(l.at, out),
+        Due::Refused(n) => put_refused(n, l.at, out),
     }
 }
 
@@ -130,8 +128,7 @@ fn turned(
     ensures kept_2 { Kept l.basins kinds.now tried.new a.now b.now result.line.due (take g setting.new)
         under.new ways.new head.now next.now seen.new queue.new standing }
 {
-    let due = l.due;
-    match due {
+    match l.due {
         Due::Plan(left) => if l.at < plan_length(g) {
             Turn { line: l, known }
         } else {
@@ -277,20 +274,17 @@ fn fill_lines(
 pub fn fill(l: Lister, kinds: &[u8], a: &[u16], b: &[u16], out: &mut [u8]) -> Filled
     ensures { Filling l kinds.now a.now b.now out.old out.new result }
 {
-    let due = l.due;
     let line = Line {
         basins: l.basins,
-        due,
+        due: l.due,
         at: l.at,
     };
     let mut setting = l.setting;
     let laid = fill_lines(line, &mut setting, kinds, a, b, out);
-    let after = laid.line;
-    let due = after.due;
     let lister = Lister {
-        basins: after.basins,
-        due,
-        at: after.at,
+        basins: laid.line.basins,
+        due: laid.line.due,
+        at: laid.line.at,
         setting,
     };
     Filled {
