@@ -53,11 +53,6 @@ pub record Stepping (N : Network) (w plan marks plan' marks' : List ℕ) (r : St
 
 -- ---- the parts of a making and of a step
 
--- How many of a setting's n bytes a walker gets.
-abbrev pub kept_of : Result (Unit {0}) Refusal → ℕ → ℕ
-kept_of (Err r) n = 0
-kept_of (Ok tt) n = n
-
 -- The walker's bytes after an answer: where it gives a plan, the first g bytes of the plan buffer for its own.
 abbrev pub moved_by : Verdict → ℕ → List ℕ → List ℕ → List ℕ
 moved_by Plan g plan w = cond (leb g (length plan)) (take g plan ++ drop g w) w
