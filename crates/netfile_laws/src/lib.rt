@@ -7,7 +7,6 @@ ghost use Rattle.netfile_laws.specs.Laws.{NetworkWriteRead, NetworkReadWrite};
 
 use network::{Counts, Refusal};
 
-
 // A network that is written is read again as it was.
 pub fn write_then_read_network(
     basins: u16,
@@ -39,11 +38,5 @@ pub fn read_then_write_network(
         result kinds.new a.new b.new out.new }
 {
     let Counts { basins, reaches } = netfile_rows::read_network(file, kinds, a, b)?;
-    netfile_rows::write_network(
-        basins,
-        &kinds[..reaches],
-        &a[..reaches],
-        &b[..reaches],
-        out,
-    )
+    netfile_rows::write_network(basins, &kinds[..reaches], &a[..reaches], &b[..reaches], out)
 }

@@ -35,7 +35,7 @@ pub record SheetReadWrite (N : Network) (f setting out : List ℕ) (r : Result �
 -- "Its setting is a plan": what the check says of a setting that was read.
 abbrev pub checked_back : SheetReading → Result Bool Refusal
 checked_back (sheet_refused r) = Err r
-checked_back (sheet_says s) = (Ok true)
+checked_back (sheet_says s) = Ok true
 
 pub record SheetReadCheck (N : Network) (f setting : List ℕ) (r : Result Bool Refusal) (setting' : List ℕ) : Type 0 where
   pub answer : r ≡ checked_back (sheet_with_room (length setting) (read_sheet N f))

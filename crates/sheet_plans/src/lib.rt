@@ -14,7 +14,13 @@ use network::Refusal;
 use replies::Verdict;
 
 // Whether the bytes that a sheet says are a plan of the network. Refuses: 1, 2, 3, 8.
-pub fn judge_plan(basins: u16, kinds: &[u8], a: &[u16], b: &[u16], bytes: &[u8]) -> Result<usize, Refusal>
+pub fn judge_plan(
+    basins: u16,
+    kinds: &[u8],
+    a: &[u16],
+    b: &[u16],
+    bytes: &[u8],
+) -> Result<usize, Refusal>
     ensures { PlanJudged (net_of basins kinds.now a.now b.now) bytes.now result }
 {
     if planner_rows::check(basins, kinds, a, b, bytes)? {

@@ -33,7 +33,13 @@ pub fn write_sheet(
 }
 
 // The network's first plan, or the finding that shows why there is none, goes to the first bytes of the buffer as a sheet. Refuses: 1, 2, 3, 7.
-pub fn write_reply(basins: u16, kinds: &[u8], a: &[u16], b: &[u16], out: &mut [u8]) -> Result<usize, Refusal>
+pub fn write_reply(
+    basins: u16,
+    kinds: &[u8],
+    a: &[u16],
+    b: &[u16],
+    out: &mut [u8],
+) -> Result<usize, Refusal>
     ensures { ReplyWritten (net_of basins kinds.now a.now b.now) out.old result out.new }
 {
     let mut plan = [0u8; MAX_REACHES];

@@ -1,10 +1,10 @@
 // The call that lays two plan sheets side by side.
-use std::cmp::Ordering;
-use network::Refusal;
 use crate::bounds::{front, rest, word_at};
 use crate::plans::number;
 use crate::show;
 use crate::show::Out;
+use network::Refusal;
+use std::cmp::Ordering;
 use std::io;
 use std::io::Write;
 

@@ -1,16 +1,7 @@
 // The call that contracts a network.
-use network::{Counts, Refusal};
 use crate::bounds::{OLD, OLD_WORD, within, within_words};
 use crate::files::{Lengths, Reading};
 use crate::table_rows::ROOM;
-
-// The same as a reader's answer, which is printed so.
-fn counts(answer: Result<Counts, Refusal>) -> ReadAnswer {
-    match answer {
-        Err(r) => Err(r),
-        Ok(Counts { basins, reaches }) => Ok(Counts { basins, reaches }),
-    }
-}
 
 // The answer, and the new rows afterwards.
 pub fn contracted(basins: u16, kinds: &[u8], a: &[u16], b: &[u16], n: Lengths) -> Reading {
@@ -30,7 +21,7 @@ pub fn contracted(basins: u16, kinds: &[u8], a: &[u16], b: &[u16], n: Lengths) -
         &mut b2[..y],
     );
     Reading {
-        answer: counts(answer),
+        answer,
         kinds: kinds2,
         a: a2,
         b: b2,

@@ -5,7 +5,7 @@ use crate::show;
 use crate::show::Out;
 use crate::table_rows::ROOM;
 use listing_state::Lister;
-use network::{MAX_REACHES, Counts, Refusal};
+use network::{Counts, MAX_REACHES, Refusal};
 use std::io;
 use std::io::Write;
 
@@ -76,17 +76,7 @@ struct Size {
     length: usize,
 }
 
-fn written(answer: Result<usize, Refusal>) -> Size {
-    match answer {
-        Err(r) => Size {
-            number: number(r),
-            length: 0,
-        },
-        Ok(length) => Size { number: 0, length },
-    }
-}
-
-fn sheet_read(answer: Result<usize, Refusal>) -> Size {
+fn size_of(answer: Result<usize, Refusal>) -> Size {
     match answer {
         Err(r) => Size {
             number: number(r),
@@ -123,10 +113,10 @@ fn fill(
     out: &mut [u8],
 ) -> Size {
     match call {
-        WRITE_NETWORK => written(netfile_rows::write_network(basins, kinds, a, b, out)),
-        READ_SHEET => sheet_read(sheet_rows::read_sheet(basins, kinds, a, b, s, out)),
-        WRITE_SHEET => written(sheet_rows::write_sheet(basins, kinds, a, b, s, out)),
-        _ => written(sheet_rows::write_reply(basins, kinds, a, b, out)),
+        WRITE_NETWORK => size_of(netfile_rows::write_network(basins, kinds, a, b, out)),
+        READ_SHEET => size_of(sheet_rows::read_sheet(basins, kinds, a, b, s, out)),
+        WRITE_SHEET => size_of(sheet_rows::write_sheet(basins, kinds, a, b, s, out)),
+        _ => size_of(sheet_rows::write_reply(basins, kinds, a, b, out)),
     }
 }
 

@@ -50,14 +50,11 @@ fn show_finding(w: &mut impl Write, o: Out, number: u8, f: Finding) -> io::Resul
 fn show_answer(w: &mut impl Write, o: Out, answer: Result<Reply, Refusal>) -> io::Result<Out> {
     match answer {
         Err(r) => show::reply(w, o, number(r)),
-        Ok(reply) => {
-            let verdict = reply.verdict;
-            match verdict {
-                Verdict::Plan => show::reply(w, o, 0),
-                Verdict::ShutIn(f) => show_finding(w, o, 9, f),
-                Verdict::Lone(f) => show_finding(w, o, 10, f),
-            }
-        }
+        Ok(reply) => match reply.verdict {
+            Verdict::Plan => show::reply(w, o, 0),
+            Verdict::ShutIn(f) => show_finding(w, o, 9, f),
+            Verdict::Lone(f) => show_finding(w, o, 10, f),
+        },
     }
 }
 
@@ -97,7 +94,7 @@ fn fill(
     s: &[u8],
     plan: &mut [u8],
     marks: &mut [u8],
-) -> Answer {
+) -> Result<Reply, Refusal> {
     match call {
         FIRST => planner_rows::first_plan(basins, kinds, a, b, plan, marks),
         BOUND => bound_gates::bound_gates_rows(basins, kinds, a, b, plan, marks),
