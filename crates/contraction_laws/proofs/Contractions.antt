@@ -15,7 +15,7 @@ use lib.Dec.{eqb}
 use borrow.Author.Tests.{le-leb}
 use Rattle.network.specs.declared.Reach.{Reach}
 use Rattle.network.specs.declared.Refusal.{Refusal}
-use Rattle.network.specs.Networks.{Network, net, max_reaches, table_fault, Accepted}
+use Rattle.network.specs.Networks.{Network, net, max_reaches, table_fault, Accepted, counts, counts_of}
 use Rattle.network.specs.Replies.{Outcome, plan, shut_in, lone, refused, number, first_of, first_reply, next_reply}
 use Rattle.network.specs.Choices.{bound_bytes, bound_in, bound_after}
 use Rattle.network.proofs.Networks.{accepted}
@@ -102,7 +102,9 @@ counts-back N n m q = go (table_fault N) refl
   where
     go : (f : Option Refusal) → table_fault N ≡ f → CountsBack N n m
     go (some e) p = let z = q ∙ ap (λ (f : Option Refusal). contract_answer f (contracted N)) p in absurd (true≢false cc)
-    go none p = let z = q ∙ ap (λ (f : Option Refusal). contract_answer f (contracted N)) p in record { ok = p; basins = cc; reaches = cc }
+    go none p = let z = q ∙ ap (λ (f : Option Refusal). contract_answer f (contracted N)) p in
+        let e : counts n m ≡ counts_of (contracted N) = cc in
+        record { ok = p; basins = ap (λ (k : Counts). k.basins) e; reaches = sym (ap (λ (k : Counts). k.reaches) e) }
 
 -- a refusal that came back is the one that is due
 due : (N : Network) (e : Refusal) → Err e ≡ contract_answer (table_fault N) (contracted N) → table_fault N ≡ some e
@@ -191,8 +193,9 @@ table-smaller N {t} {t'} c n m q = go (contract_fault N (length t)) refl
     go (some d) p = let z = said (some d) p in absurd (true≢false cc)
     go none p =
         let z = said none p in
-        let basins : n ≡ (contracted N).basins = cc in
-        let reaches : length (contracted N).reaches ≡ m = cc in
+        let e : counts n m ≡ counts_of (contracted N) = cc in
+        let basins : n ≡ (contracted N).basins = ap (λ (k : Counts). k.basins) e in
+        let reaches : length (contracted N).reaches ≡ m = sym (ap (λ (k : Counts). k.reaches) e) in
         let left : t' ≡ (contracted N).reaches ++ drop (length (contracted N).reaches) t = c.table ∙ ap (λ (f : Option Refusal). reaches_given f (contracted N) ++ drop (length (reaches_given f (contracted N))) t) p in
         let front : take m t' ≡ (contracted N).reaches = ap (take m) left ∙ take_at (contracted N).reaches (drop (length (contracted N).reaches) t) m reaches in
         smaller N (net n (take m t')) (first-of-none (table_fault N) _ p).0 (λ i. net (basins i) (front i))

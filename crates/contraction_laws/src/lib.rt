@@ -8,12 +8,12 @@ ghost use Rattle.network.specs.Replies.{first_reply, next_reply};
 ghost use Rattle.tables.specs.Rows.{net_of};
 ghost use Rattle.contraction_laws.specs.Contractions.{CameOut, ReplyOfContracted, BoundOfContracted, ContractedTwice};
 
-use replies::Reply;
-use network::{Counts, Refusal};
 use bound_gates::bound_gates_rows;
 use contraction::contract_rows;
+use network::{Counts, Refusal};
 use packing::MAX_ROWS;
 use planner_rows::{first_plan, next_plan};
+use replies::Reply;
 
 // What a network is contracted to, in rows with room for every network.
 #[derive(Drop)]
@@ -69,14 +69,16 @@ pub fn first_of_contracted(
         (net_of basins kinds.now a.now b.now) plan.old marks.old result plan.new marks.new }
 {
     let c = contracted(basins, kinds, a, b, empty());
-    let kinds2 = c.kinds;
-    let a2 = c.a;
-    let b2 = c.b;
-    let Counts {
-        basins: n,
-        reaches: m,
-    } = c.answer?;
-    first_plan(n, &kinds2[..m], &a2[..m], &b2[..m], plan, marks)
+    let counts = c.answer?;
+    let m = counts.reaches;
+    first_plan(
+        counts.basins,
+        &c.kinds[..m],
+        &c.a[..m],
+        &c.b[..m],
+        plan,
+        marks,
+    )
 }
 
 // The same of the next plan of a setting.
@@ -93,14 +95,17 @@ pub fn next_of_contracted(
         (net_of basins kinds.now a.now b.now) plan.old marks.old result plan.new marks.new }
 {
     let c = contracted(basins, kinds, a, b, empty());
-    let kinds2 = c.kinds;
-    let a2 = c.a;
-    let b2 = c.b;
-    let Counts {
-        basins: n,
-        reaches: m,
-    } = c.answer?;
-    next_plan(n, &kinds2[..m], &a2[..m], &b2[..m], s, plan, marks)
+    let counts = c.answer?;
+    let m = counts.reaches;
+    next_plan(
+        counts.basins,
+        &c.kinds[..m],
+        &c.a[..m],
+        &c.b[..m],
+        s,
+        plan,
+        marks,
+    )
 }
 
 // The same of the bound gates: their bytes are those of the network itself.
@@ -116,14 +121,16 @@ pub fn bound_of_contracted(
         bytes.new marks.new }
 {
     let c = contracted(basins, kinds, a, b, empty());
-    let kinds2 = c.kinds;
-    let a2 = c.a;
-    let b2 = c.b;
-    let Counts {
-        basins: n,
-        reaches: m,
-    } = c.answer?;
-    bound_gates_rows(n, &kinds2[..m], &a2[..m], &b2[..m], bytes, marks)
+    let counts = c.answer?;
+    let m = counts.reaches;
+    bound_gates_rows(
+        counts.basins,
+        &c.kinds[..m],
+        &c.a[..m],
+        &c.b[..m],
+        bytes,
+        marks,
+    )
 }
 
 // Contracts a network, and contracts what came out: the same counts and the same reaches.
@@ -131,15 +138,11 @@ pub fn contract_again(basins: u16, kinds: &[u8], a: &[u16], b: &[u16]) -> Contra
     ensures { ContractedTwice (net_of basins kinds.now a.now b.now) result }
 {
     let c = contracted(basins, kinds, a, b, empty());
-    let kinds2 = c.kinds;
-    let a2 = c.a;
-    let b2 = c.b;
-    let answer = c.answer;
-    match answer {
+    match c.answer {
         Err(_) => c,
-        Ok(Counts {
-            basins: n,
-            reaches: m,
-        }) => contracted(n, &kinds2[..m], &a2[..m], &b2[..m], empty()),
+        Ok(counts) => {
+            let m = counts.reaches;
+            contracted(counts.basins, &c.kinds[..m], &c.a[..m], &c.b[..m], empty())
+        }
     }
 }

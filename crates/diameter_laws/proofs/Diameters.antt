@@ -1,6 +1,6 @@
 -- What the check of a setting and the longest of its fewest counts say together, from what the two calls promise of any network: so on rows and on records.
 -- Assumes nothing.
-use Rattle.std.specs.Prelude.{Result}
+use Rattle.std.specs.Prelude.{Result, Ok}
 use Prim.Native.Nat.{ℕ}
 use mathlib.Core.Path.{◌≡◌, refl, sym, subst}
 use mathlib.Core.Bool.{Bool, true, false, cond, ◌&&◌}
@@ -15,7 +15,7 @@ use Rattle.network.specs.Replies.{first_of, check_fault}
 use Rattle.distances.specs.Diameters.{diameter}
 use Rattle.distances.specs.Answers.{longest_unless, diameter_of, DiameterCall}
 use Rattle.distances.proofs.Diameters.{diameter-shown}
-use Rattle.replies.specs.Answers.{yes_or, unless_refused, check_of, CheckCall}
+use Rattle.replies.specs.Answers.{unless_refused, check_of, CheckCall}
 use Rattle.diameter_laws.specs.Diameters.{DiameterTold, of-plan, of-no-plan, refused-alike, LongestOfChecked}
 
 -- over the definitions
@@ -24,7 +24,7 @@ unfolding check_of check_fault setting_fault is_plan diameter_of
 diameter-told N s = go (table_fault N) refl (is_setting N s) refl (strongly_connected_under N s) refl
   where
     go : (o : Option Refusal) → table_fault N ≡ o → (fits : Bool) → is_setting N s ≡ fits → (all : Bool) → strongly_connected_under N s ≡ all
-        → DiameterTold N s (unless_refused (first_of o (cond fits none (some BadSetting))) (yes_or (fits && all))) (longest_unless (first_of o (cond (fits && all) none (some BadSetting))) (diameter N s))
+        → DiameterTold N s (unless_refused (first_of o (cond fits none (some BadSetting))) (Ok (fits && all))) (longest_unless (first_of o (cond (fits && all) none (some BadSetting))) (diameter N s))
     go (some r) e fits f all h = refused-alike
     go none e false f all h = refused-alike
     go none e true f false h = of-no-plan (rw (f, h))

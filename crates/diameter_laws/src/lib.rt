@@ -6,8 +6,8 @@
 ghost use Rattle.tables.specs.Rows.{net_of};
 ghost use Rattle.diameter_laws.specs.Diameters.{LongestOfChecked};
 
-use network::Refusal;
 use diameter::diameter_rows;
+use network::Refusal;
 
 // What the two calls answered.
 #[derive(Clone, Copy)]

@@ -6,9 +6,9 @@ ghost use Rattle.network.specs.Networks.{net};
 ghost use Rattle.tables.specs.Rows.{net_of};
 ghost use Rattle.planner_laws.specs.Demands.{FirstAsked, NextOfTwo};
 
-use replies::Reply;
 use network::{Reach, Refusal};
 use planner_rows::{first_plan, next_plan};
+use replies::Reply;
 
 // Two answers of next.
 #[derive(Clone, Copy)]
@@ -33,7 +33,12 @@ pub fn first_shown_rows(
 }
 
 // The same over a lent table.
-pub fn first_shown(basins: u16, table: &[Reach], plan: &mut [u8], marks: &mut [u8]) -> Result<Reply, Refusal>
+pub fn first_shown(
+    basins: u16,
+    table: &[Reach],
+    plan: &mut [u8],
+    marks: &mut [u8],
+) -> Result<Reply, Refusal>
     ensures { FirstAsked (net basins table.now) plan.old marks.old plan.new marks.new result }
 {
     planner::first_plan(basins, table, plan, marks)
