@@ -7,7 +7,6 @@ ghost use Rattle.sheet_laws.specs.Laws.{SheetWriteRead, SheetReadWrite, SheetRea
 
 use network::Refusal;
 
-
 // A plan that is written is read again as it was.
 pub fn write_then_read_sheet(
     basins: u16,

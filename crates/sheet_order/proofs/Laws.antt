@@ -31,7 +31,7 @@ use Rattle.sheet_order.proofs.Orders.{no_number, BothRead, read-order, both-alon
 
 exchange-forth : (N : Network) (f g : List ℕ) {o : Result Ordering Refusal} → Told N f g o → order_number o ≡ 0 → sheet_order N g f ≡ exchanged o
 exchange-forth N f g (told-refused r) z = no_number r z
-exchange-forth N f g (told-read s t b) z = read-order N g f (reads-swapped b) ∙ order-exchanged s t
+exchange-forth N f g (told-read s t b) z = read-order N g f (reads-swapped b) ∙ ap Ok (order-exchanged s t)
 
 -- Exchanging two sheets exchanges their order, but for refusals.
 pub exchange : (N : Network) (f g : List ℕ) {o o' : Result Ordering Refusal} → Ordered N f g o → Ordered N g f o' → Exchanged o o'

@@ -5,34 +5,27 @@ use Rattle.std.specs.declared.cmp.Ordering.TheVariants.{Equal, Greater, Less}
 use Rattle.std.specs.Prelude.{Ok, Err, Result}
 use Prim.Native.Nat.{ℕ, zero, suc}
 use mathlib.Core.Path.{◌≡◌, refl, sym, ap, subst, ◌∙◌}
-use mathlib.Core.Bool.{Bool, true, false, cond, true≢false}
+use mathlib.Core.Bool.{true, false, true≢false}
 use mathlib.Core.List.{List}
 use lib.Dec.{eqb}
 use borrow.Author.Tests.{eqb-false}
 use lib.Pow.{are_bytes}
 use denote.Ref.{Bor}
+use Rattle.std.specs.Ordering.{ordering_reverse}
 use Rattle.network.specs.declared.Refusal.{Refusal}
 use Rattle.network.specs.Replies.{refusal_number}
 use Rattle.network.proofs.Replies.{refusal-number}
 use Rattle.network.specs.Networks.{Network}
-use Rattle.network.specs.Settings.{before, gates}
+use Rattle.network.specs.Settings.{gates}
 use Rattle.sheet_format.specs.Sheets.{sheet_of}
 use Rattle.sheet_format.specs.Readings.{SheetReading, sheet_refused, sheet_says, read_sheet}
 use Rattle.sheet_format.specs.Answers.{sheet_reading_number}
 use Rattle.sheet_format.proofs.Sheets.{plan-long, plan-bits, read-is-plan, sheet-write-read}
-use Rattle.sheet_order.specs.Orders.{setting_order, reading_order, sheet_order, order_number, first_number, differ, exchanged}
+use Rattle.sheet_order.specs.Orders.{setting_order, reading_order, sheet_order, order_number, first_number, differ}
 use Rattle.sheet_order.specs.Parts.{common_prefix, record_place, differing_gate, differing_record, PartFrom}
 use Rattle.sheet_order.specs.Calls.{Ordered, OrderedAt, Compared}
 use Rattle.sheet_order.proofs.Prefixes.{prefix-sym}
 use Rattle.sheet_order.proofs.Sheets.{order-exchanged, Alongside, alongside, order-sheets, sheets-apart}
-
-settings-number : (s t : List ℕ) → order_number (Ok (setting_order s t)) ≡ 0
-settings-number s t = go (before s t) (before t s)
-  where
-    go : (a b : Bool) → order_number (Ok (cond a Less (cond b Greater Equal))) ≡ 0
-    go true b = refl
-    go false true = refl
-    go false false = refl
 
 -- a refusal has a number of its own, and is told before any other
 pub no_number {ℓ} : {A : Type ℓ} (r : Refusal) → refusal_number r ≡ 0 → A
@@ -45,7 +38,7 @@ first-number (suc m) n h = refl
 reading-number : (x y : SheetReading) → order_number (reading_order x y) ≡ first_number (sheet_reading_number x) (sheet_reading_number y)
 reading-number (sheet_refused r) y = sym (first-number (refusal_number r) (sheet_reading_number y) (refusal-number r))
 reading-number (sheet_says s) (sheet_refused r) = refl
-reading-number (sheet_says s) (sheet_says t) = settings-number s t
+reading-number (sheet_says s) (sheet_says t) = refl
 
 -- both sheets are read
 pub record BothRead (N : Network) (f g s t : List ℕ) : Type 0 where
@@ -114,9 +107,7 @@ pub reads-swapped : {N : Network} {f g s t : List ℕ} → BothRead N f g s t �
 reads-swapped b = record { first_says = b.second-says; second-says = b.first_says }
 
 pub exchanged-first : (s t : List ℕ) → setting_order s t ≡ Greater → setting_order t s ≡ Less
-exchanged-first s t e =
-    let back : Ok (setting_order t s) ≡ Ok Less = order-exchanged s t ∙ ap (λ o. exchanged (Ok o)) e in
-    cc
+exchanged-first s t e = order-exchanged s t ∙ ap ordering_reverse e
 
 pub gate-said : {N : Network} {f g s t : List ℕ} → BothRead N f g s t → differing_gate N f g ≡ common_prefix s t
 gate-said b = rw (b.first_says, b.second-says)

@@ -2,7 +2,6 @@
 -- settings, and the first byte that differs is the first of that record.
 -- Assumes nothing.
 use Rattle.std.specs.declared.cmp.Ordering.TheVariants.{Equal, Less}
-use Rattle.std.specs.Prelude.{Ok}
 use Prim.Native.Nat.{ℕ, zero, suc, ◌*◌, ◌<◌}
 use native.Mathlib.Omega.{arith}
 use mathlib.Core.Path.{◌≡◌, refl, sym, ap, ◌∙◌}
@@ -17,7 +16,8 @@ use Rattle.network.specs.Settings.{before}
 use Rattle.network.proofs.Order.{before-irrefl, before-asym}
 use Rattle.file_records.specs.Records.{two_bytes, end_kind}
 use Rattle.sheet_format.specs.Sheets.{plan_kind, gate_record, gate_records, sheet_records, plan_sheet}
-use Rattle.sheet_order.specs.Orders.{setting_order, exchanged}
+use Rattle.std.specs.Ordering.{ordering_reverse}
+use Rattle.sheet_order.specs.Orders.{setting_order}
 use Rattle.sheet_order.specs.Parts.{common_prefix, record_place}
 use Rattle.sheet_order.proofs.Prefixes.{prefix_same, order_same, prefix-both, order-both}
 
@@ -27,10 +27,10 @@ pub order-refl : (s : List ℕ) → setting_order s s ≡ Equal
 order-refl s = rw (before-irrefl s)
 
 -- Exchanging two settings exchanges their order.
-pub order-exchanged : (s t : List ℕ) → Ok (setting_order t s) ≡ exchanged (Ok (setting_order s t))
+pub order-exchanged : (s t : List ℕ) → setting_order t s ≡ ordering_reverse (setting_order s t)
 order-exchanged s t = go (before s t) refl (before t s) refl
   where
-    go : (a : Bool) → before s t ≡ a → (b : Bool) → before t s ≡ b → Ok (setting_order t s) ≡ exchanged (Ok (setting_order s t))
+    go : (a : Bool) → before s t ≡ a → (b : Bool) → before t s ≡ b → setting_order t s ≡ ordering_reverse (setting_order s t)
     go true e true f = absurd (false≢true (sym (before-asym s t e) ∙ f))
     go true e false f = rw (e, f)
     go false e true f = rw (e, f)

@@ -4,6 +4,7 @@ use Rattle.std.specs.declared.cmp.Ordering.{Ordering}
 use Rattle.network.specs.declared.Refusal.{Refusal}
 use Rattle.std.specs.declared.cmp.Ordering.TheVariants.{Equal, Greater, Less}
 use Rattle.std.specs.Prelude.{ℕ, zero, suc, Bool, true, false, cond, List, Ok, Err, Result}
+use Rattle.std.specs.Ordering.{ordering_reverse}
 use Rattle.network.specs.Networks.{Network}
 use Rattle.network.specs.Settings.{before}
 use Rattle.network.specs.Replies.{refusal_number}
@@ -27,9 +28,7 @@ sheet_order N f g = reading_order (read_sheet N f) (read_sheet N g)
 -- Document 01's number of the answer, 0 where both sheets are read.
 abbrev pub order_number : Result Ordering Refusal → ℕ
 order_number (Err r) = refusal_number r
-order_number (Ok Equal) = 0
-order_number (Ok Less) = 0
-order_number (Ok Greater) = 0
+order_number (Ok o) = 0
 
 -- The same by the numbers of the two readings: "the first sheet's refusal before the second's".
 abbrev pub first_number : ℕ → ℕ → ℕ
@@ -46,6 +45,4 @@ differ (Ok Greater) = true
 -- The order of the two sheets exchanged, where both are read.
 abbrev pub exchanged : Result Ordering Refusal → Result Ordering Refusal
 exchanged (Err r) = Err r
-exchanged (Ok Equal) = Ok Equal
-exchanged (Ok Less) = Ok Greater
-exchanged (Ok Greater) = Ok Less
+exchanged (Ok o) = Ok (ordering_reverse o)
