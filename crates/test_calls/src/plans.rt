@@ -209,10 +209,9 @@ pub fn show_made(
     n: usize,
 ) -> io::Result<Out> {
     let made = Walker::make_rows(basins, kinds, a, b, s);
-    let answer = made.answer;
     let walker = made.walker;
     let setting = walker.setting;
-    let number = match answer {
+    let number = match made.answer {
         Err(r) => number(r),
         Ok(()) => 0,
     };
