@@ -2,9 +2,9 @@
 ghost use Rattle.std.specs.Prelude.{◌≤◌};
 ghost use Rattle.test_records.specs.Rooms.{table_room};
 
-use std::cmp::Ordering;
+use network::{Counts, MAX_REACHES, Reach, Refusal};
 use replies::Reply;
-use network::{MAX_REACHES, Counts, Reach, Refusal};
+use std::cmp::Ordering;
 use walker::{Made, Stepped, Walker};
 
 // The records that a table has room for: more than a network may have.
@@ -22,7 +22,12 @@ pub fn check(n: usize, basins: u16, reaches: [Reach; ROOM], setting: &[u8]) -> R
     planner::check(basins, &reaches[..n], setting)
 }
 
-pub fn diameter(n: usize, basins: u16, reaches: [Reach; ROOM], setting: &[u8]) -> Result<u16, Refusal>
+pub fn diameter(
+    n: usize,
+    basins: u16,
+    reaches: [Reach; ROOM],
+    setting: &[u8],
+) -> Result<u16, Refusal>
     requires { n ≤ table_room }
 {
     diameter::diameter(basins, &reaches[..n], setting)
@@ -84,7 +89,12 @@ pub fn step(
     walker.step(basins, &reaches[..n], plan, marks)
 }
 
-pub fn write_network(n: usize, basins: u16, reaches: [Reach; ROOM], out: &mut [u8]) -> Result<usize, Refusal>
+pub fn write_network(
+    n: usize,
+    basins: u16,
+    reaches: [Reach; ROOM],
+    out: &mut [u8],
+) -> Result<usize, Refusal>
     requires { n ≤ table_room }
 {
     netfile::write_network(basins, &reaches[..n], out)
@@ -114,7 +124,12 @@ pub fn write_sheet(
     sheet::write_sheet(basins, &reaches[..n], setting, out)
 }
 
-pub fn write_reply(n: usize, basins: u16, reaches: [Reach; ROOM], out: &mut [u8]) -> Result<usize, Refusal>
+pub fn write_reply(
+    n: usize,
+    basins: u16,
+    reaches: [Reach; ROOM],
+    out: &mut [u8],
+) -> Result<usize, Refusal>
     requires { n ≤ table_room }
 {
     sheet::write_reply(basins, &reaches[..n], out)

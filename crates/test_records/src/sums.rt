@@ -1,8 +1,8 @@
 // What a call replies, as a number, and the sum of all that it leaves.
-use std::cmp::Ordering;
 use marks::MARK_BYTES;
-use network::{MAX_REACHES, Counts, Refusal};
+use network::{Counts, MAX_REACHES, Refusal};
 use replies::{Finding, Reply, Verdict};
+use std::cmp::Ordering;
 use walker::{Made, Stepped};
 
 // The bytes of an output: more than a file or a sheet may have.
@@ -78,36 +78,20 @@ fn of_finding(number: u64, f: Finding) -> u64 {
 pub fn of_answer(answer: Result<Reply, Refusal>) -> u64 {
     match answer {
         Err(r) => number(r),
-        Ok(reply) => {
-            let verdict = reply.verdict;
-            match verdict {
-                Verdict::Plan => 0,
-                Verdict::ShutIn(f) => of_finding(9, f),
-                Verdict::Lone(f) => of_finding(10, f),
-            }
-        }
+        Ok(reply) => match reply.verdict {
+            Verdict::Plan => 0,
+            Verdict::ShutIn(f) => of_finding(9, f),
+            Verdict::Lone(f) => of_finding(10, f),
+        },
     }
 }
 
 pub fn of_stepped(s: Stepped) -> u64 {
-    let answer = s.answer;
-    let walker = s.walker;
-    let setting = walker.setting;
-    sum(of_answer(answer), &setting)
-}
-
-fn of_making(answer: Result<(), Refusal>) -> u64 {
-    match answer {
-        Err(r) => number(r),
-        Ok(()) => 0,
-    }
+    sum(of_answer(s.answer), &s.walker.setting)
 }
 
 pub fn of_made(m: Made) -> u64 {
-    let answer = m.answer;
-    let walker = m.walker;
-    let setting = walker.setting;
-    sum(of_making(answer), &setting)
+    sum(of_table(m.answer), &m.walker.setting)
 }
 
 // Above 100, the length of what was written.
@@ -125,19 +109,10 @@ pub fn of_sheet(answer: Result<usize, Refusal>) -> u64 {
     }
 }
 
-pub fn of_read(answer: Result<Counts, Refusal>) -> u64 {
+pub fn of_counts(answer: Result<Counts, Refusal>) -> u64 {
     match answer {
         Err(r) => number(r),
-        Ok(Counts { basins, reaches }) => mix(mix(0, basins as u64), reaches as u64),
-    }
-}
-
-pub fn of_contracted(answer: Result<Counts, Refusal>) -> u64 {
-    match answer {
-        Err(r) => number(r),
-        Ok(Counts { basins, reaches }) => {
-            mix(mix(0, basins as u64), reaches as u64)
-        }
+        Ok(counts) => mix(mix(0, counts.basins as u64), counts.reaches as u64),
     }
 }
 
