@@ -1,5 +1,8 @@
 -- What the first plan leaves, and the bytes of bound gates told in its place.
 -- Assumes nothing.
+use Rattle.replies.specs.declared.Reply.{Reply}
+use Rattle.network.specs.declared.Refusal.{Refusal}
+use Rattle.std.specs.Prelude.{Result}
 use Prim.Native.Nat.{ℕ}
 use mathlib.Core.Path.{◌≡◌, refl, sym, ap, subst, subst⁻¹, ◌∙◌}
 use mathlib.Core.Bool.{true, false, false≢true}
@@ -17,7 +20,6 @@ use Rattle.network.proofs.Choices.{bound-length}
 use Rattle.lists.proofs.Bools.{clash}
 use Rattle.tables.specs.Rows.{net_of, gates_in}
 use Rattle.tables.proofs.Cuts.{cut-ends-a, cut-ends-b, cut-net, cut-gates}
-use Rattle.replies.specs.declared.Answer.{Answer}
 use Rattle.replies.specs.Answers.{answer_of, Replied, FirstCall}
 use Rattle.replies.proofs.Refusals.{first-faulty}
 use Rattle.packing.proofs.Packings.{ByTable}
@@ -32,13 +34,13 @@ planned-level p = record { accepted = p.accepted; ends-a = p.ends-a; ends-b = p.
 -- ---- no plan
 
 -- what is promised to a network that is refused by its table depends on the refusal only
-pub bound-alike : {bytes marks bytes' marks' : List ℕ} {r : Answer} (p q : ℕ) → ByTable (λ N. BoundTold N (first_reply N p q) bytes marks bytes' marks' r)
+pub bound-alike : {bytes marks bytes' marks' : List ℕ} {r : Result Reply Refusal} (p q : ℕ) → ByTable (λ N. BoundTold N (first_reply N p q) bytes marks bytes' marks' r)
 bound-alike {bytes} {marks} {bytes'} {marks'} {r} p q N N' x e e' h = subst⁻¹ (λ (o : Outcome). BoundTold N' o bytes marks bytes' marks' r) (first-faulty N' x p q e') (same (subst (λ (o : Outcome). BoundTold N o bytes marks bytes' marks' r) (first-faulty N x p q e) h))
   where
     same : BoundTold N (refused x) bytes marks bytes' marks' r → BoundTold N' (refused x) bytes marks bytes' marks' r
     same w = record { reply = w.reply; number = w.number; reach = w.reach; count = w.count; bytes_left = w.bytes_left; marks-left = w.marks-left }
 
-pub none_told : (N : Network) (o : Outcome) {bytes marks bytes' marks' : List ℕ} {r : Answer} → Replied o bytes marks bytes' marks' r → gives_plan r ≡ false → BoundTold N o bytes marks bytes' marks' r
+pub none_told : (N : Network) (o : Outcome) {bytes marks bytes' marks' : List ℕ} {r : Result Reply Refusal} → Replied o bytes marks bytes' marks' r → gives_plan r ≡ false → BoundTold N o bytes marks bytes' marks' r
 none_told N (plan s) w n = clash (ap gives_plan w.reply) n
 none_told N (shut_in m c) w n = record { reply = w.reply; number = w.number; reach = w.reach; count = w.count; bytes_left = w.plan-left; marks-left = w.marks-left }
 none_told N (lone i m c) w n = record { reply = w.reply; number = w.number; reach = w.reach; count = w.count; bytes_left = w.plan-left; marks-left = w.marks-left }
@@ -60,7 +62,7 @@ replied-plan N plan_length marks_length {s} e =
     let room = unless-plan (room_fault N plan_length marks_length) (first_answer N) table.1 in
     (table.0, first-is-plan N ((first-given N table.0 s).0 room.1))
 
-module _ (n : ℕ) (ks xs ys : List ℕ) (m : ℕ) (e : m ≡ length (table_of ks xs ys)) {bytes marks bytes' marks' : List ℕ} {r : Answer} (w : FirstCall (net_of n ks xs ys) bytes marks r bytes' marks') (y : gives_plan r ≡ true) where
+module _ (n : ℕ) (ks xs ys : List ℕ) (m : ℕ) (e : m ≡ length (table_of ks xs ys)) {bytes marks bytes' marks' : List ℕ} {r : Result Reply Refusal} (w : FirstCall (net_of n ks xs ys) bytes marks r bytes' marks') (y : gives_plan r ≡ true) where
   abbrev N : Network
   N = net_of n ks xs ys
 

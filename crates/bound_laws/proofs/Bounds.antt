@@ -1,5 +1,8 @@
 -- Document 02, item 2, from what two calls promise, on rows or on records.
 -- Assumes nothing.
+use Rattle.replies.specs.declared.Reply.{Reply}
+use Rattle.network.specs.declared.Refusal.{Refusal}
+use Rattle.std.specs.Prelude.{Result}
 use Prim.Native.Nat.{ℕ, ◌≤◌, ◌<◌}
 use native.Mathlib.Omega.{arith}
 use mathlib.Core.Path.{◌≡◌, sym, ap, subst, subst⁻¹, ◌∙◌}
@@ -20,7 +23,6 @@ use Rattle.network.proofs.Order.{next-is-plan}
 use Rattle.network.proofs.Choices.{bound-plan, bound-length, bound-get_or, flap-accepted, bound-flap}
 use Rattle.refusals.proofs.Dues.{long-enough}
 use Rattle.replies.specs.declared.Verdict.TheVariants.{Plan}
-use Rattle.replies.specs.declared.Answer.{Answer}
 use Rattle.replies.specs.Answers.{given, answer_of, FirstCall, NextCall}
 use Rattle.replies.proofs.Refusals.{first_by}
 use Rattle.planner_laws.specs.Demands.{read_reply}
@@ -36,7 +38,7 @@ record Told (N : Network) (bytes' : List ℕ) : Type 0 where
   pub is-plan : is_plan N setting ≡ true
   pub byte : (k : ℕ) → k < gate_count N → get_or bytes' k 2 ≡ bound_byte N k
 
-told : (N : Network) {bytes marks bytes' marks' : List ℕ} {r : Answer} → BoundCall N bytes marks r bytes' marks' → r ≡ given Plan → Told N bytes'
+told : (N : Network) {bytes marks bytes' marks' : List ℕ} {r : Result Reply Refusal} → BoundCall N bytes marks r bytes' marks' → r ≡ given Plan → Told N bytes'
 told N {bytes} {marks} {bytes'} c y =
     let first = plan-given (first_reply N (length bytes) (length marks)) (ap gives_plan (sym c.reply ∙ y)) in
     let found = replied-plan N (length bytes) (length marks) first.1 in
@@ -53,19 +55,19 @@ told N {bytes} {marks} {bytes'} c y =
 
 -- the plan is read in the first bytes of its buffer
 over :
-    (N : Network) {bytes marks bytes' marks' : List ℕ} {r₁ r₂ : Answer} (plan' : List ℕ) → BoundCall N bytes marks r₁ bytes' marks' → (r₂ ≡ given Plan → is_plan N (take (gate_count N) plan') ≡ true)
+    (N : Network) {bytes marks bytes' marks' : List ℕ} {r₁ r₂ : Result Reply Refusal} (plan' : List ℕ) → BoundCall N bytes marks r₁ bytes' marks' → (r₂ ≡ given Plan → is_plan N (take (gate_count N) plan') ≡ true)
     → PlanOver N bytes' plan' r₁ r₂
 over N plan' c d k l y z small =
     let byte = (told N c y).byte k l in
     sym (get_or-take (gate_count N) plan' k 2 l) ∙ bound-plan N k (take (gate_count N) plan') (d z) (omega (arith, byte)) ∙ sym byte
 
-module _ (N : Network) {bytes₁ marks₁ plan₂ marks₂ bytes₁' marks₁' plan₂' marks₂' : List ℕ} {r₁ r₂ : Answer} where
+module _ (N : Network) {bytes₁ marks₁ plan₂ marks₂ bytes₁' marks₁' plan₂' marks₂' : List ℕ} {r₁ r₂ : Result Reply Refusal} where
   pub first-over : BoundCall N bytes₁ marks₁ r₁ bytes₁' marks₁' → FirstCall N plan₂ marks₂ r₂ plan₂' marks₂' → PlanOver N bytes₁' plan₂' r₁ r₂
-  first-over c d = over N plan₂' c (λ z. (replied-plan N (length plan₂) (length marks₂) (sym (first_read N d) ∙ ap (λ (r : Answer). read_reply N r plan₂' marks₂') z)).1)
+  first-over c d = over N plan₂' c (λ z. (replied-plan N (length plan₂) (length marks₂) (sym (first_read N d) ∙ ap (λ (r : Result Reply Refusal). read_reply N r plan₂' marks₂') z)).1)
 
   module _ (s : List ℕ) where
     pub next-over : BoundCall N bytes₁ marks₁ r₁ bytes₁' marks₁' → NextCall N s plan₂ marks₂ r₂ plan₂' marks₂' → PlanOver N bytes₁' plan₂' r₁ r₂
-    next-over c d = over N plan₂' c (λ z. next-is-plan N s (plan-replied N s (length plan₂) (length marks₂) (sym (next-read N s d) ∙ ap (λ (r : Answer). read_reply N r plan₂' marks₂') z)))
+    next-over c d = over N plan₂' c (λ z. next-is-plan N s (plan-replied N s (length plan₂) (length marks₂) (sym (next-read N s d) ∙ ap (λ (r : Result Reply Refusal). read_reply N r plan₂' marks₂') z)))
 
     pub next-of-bound : BoundCall N bytes₁ marks₁ r₁ bytes₁' marks₁' → NextCall N s plan₂ marks₂ r₂ plan₂' marks₂' → NextOfBound N s bytes₁ marks₁ plan₂ marks₂ bytes₁' marks₁' plan₂' marks₂' r₁ r₂
     next-of-bound c d = record { first-call = c; second_call = d; hung = next-over c d }
@@ -74,7 +76,7 @@ module _ (N : Network) {bytes₁ marks₁ plan₂ marks₂ bytes₁' marks₁' p
 
 -- first answers a plan exactly if the definition does
 answered :
-    (M : Network) → Accepted M → {planBuffer marksBuffer plan' marks' : List ℕ} {r : Answer} → FirstCall M planBuffer marksBuffer r plan' marks' → gate_count M ≤ length planBuffer → mark_bytes ≤ length marksBuffer
+    (M : Network) → Accepted M → {planBuffer marksBuffer plan' marks' : List ℕ} {r : Result Reply Refusal} → FirstCall M planBuffer marksBuffer r plan' marks' → gate_count M ≤ length planBuffer → mark_bytes ≤ length marksBuffer
     → (r ≡ given Plan) ↔ ((q : List ℕ) × (first_answer M ≡ plan q))
 answered M ok {planBuffer} {marksBuffer} {r = r} d l m = (λ y. plan-given (first_answer M) (ap gives_plan (sym said ∙ y)), λ q. said ∙ ap answer_of q.1)
   where
@@ -84,7 +86,7 @@ answered M ok {planBuffer} {marksBuffer} {r = r} d l m = (λ y. plan-given (firs
     said : r ≡ answer_of (first_answer M)
     said = d.reply ∙ ap answer_of (first_by M (length planBuffer) (length marksBuffer) clear)
 
-module _ (N M : Network) {bytes₁ marks₁ plan₂ marks₂ bytes₁' marks₁' plan₂' marks₂' : List ℕ} {r₁ r₂ : Answer} where
+module _ (N M : Network) {bytes₁ marks₁ plan₂ marks₂ bytes₁' marks₁' plan₂' marks₂' : List ℕ} {r₁ r₂ : Result Reply Refusal} where
   pub flap-over : BoundCall N bytes₁ marks₁ r₁ bytes₁' marks₁' → FirstCall M plan₂ marks₂ r₂ plan₂' marks₂' → FlapOver N M bytes₁' plan₂ marks₂ r₁ r₂
   flap-over c d k turned y f = (
     λ z e. law.0 (((gives.0 z).0, sym (ap first_answer f.flap) ∙ (gives.0 z).1)) (sym (t.byte k f.gate) ∙ e),

@@ -1,5 +1,8 @@
 -- The order of two sheets and then the part, by what the two calls promise.
 -- Assumes nothing.
+use Rattle.std.specs.declared.cmp.Ordering.{Ordering}
+use Rattle.network.specs.declared.Refusal.{Refusal}
+use Rattle.std.specs.Prelude.{Result}
 use Prim.Native.Nat.{ℕ}
 use mathlib.Core.Path.{◌≡◌, refl, subst}
 use mathlib.Core.Bool.{true}
@@ -7,7 +10,6 @@ use mathlib.Core.List.{List}
 use lib.Pow.{are_bytes}
 use denote.Ref.{Bor}
 use Rattle.network.specs.Networks.{Network}
-use Rattle.sheet_order.specs.declared.Order.{Order}
 use Rattle.sheet_order.specs.declared.Parting.{Parting}
 use Rattle.sheet_order.specs.Parts.{common_prefix, differing_record, PartFrom}
 use Rattle.sheet_order.specs.Laws.{PartShown}
@@ -18,7 +20,7 @@ use Rattle.comparison_laws.specs.Laws.{PartOfTwo, PartOfExchanged}
 
 -- the two calls together reply as the one over records does
 pub parted :
-    (N : Network) (first second : Bor (List ℕ)) → are_bytes first.now ≡ true → are_bytes second.now ≡ true → {o : Order} {r : Bor (List ℕ)}
+    (N : Network) (first second : Bor (List ℕ)) → are_bytes first.now ≡ true → are_bytes second.now ≡ true → {o : Result Ordering Refusal} {r : Bor (List ℕ)}
     → Ordered N first.now second.now o → PartFrom (common_prefix first.now second.now) o first second r → Compared N first second (record { order = o; part = r })
 parted N first second bf bg told p = compared N first second (ordered_at N first.now second.now bf bg told) p
 

@@ -5,13 +5,15 @@
 ghost use Rattle.tables.specs.Rows.{net_of};
 ghost use Rattle.comparison_laws.specs.Laws.{BothWays, PartOfTwo, PartOfExchanged};
 
-use sheet_order::{Order, part};
+use network::Refusal;
+use sheet_order::part;
+use std::cmp::Ordering;
 
 // The orders of two sheets as they were lent, and exchanged.
 #[derive(Clone, Copy)]
 pub struct Orders {
-    pub forth: Order,
-    pub back: Order,
+    pub forth: Result<Ordering, Refusal>,
+    pub back: Result<Ordering, Refusal>,
 }
 
 // Exchanging two sheets exchanges their order, and they are equal exactly if they are the same bytes.

@@ -1,5 +1,7 @@
 -- What a contraction is refused for, and the call over rows: what is promised where it is refused, and where it is not.
 -- Assumes nothing.
+use Rattle.network.specs.declared.Counts.{Counts}
+use Rattle.std.specs.Prelude.{Err, Ok, Result}
 use Prim.Native.Nat.{ℕ, ◌≤◌, ◌<◌}
 use native.Mathlib.Omega.{arith}
 use mathlib.Core.Path.{◌≡◌, refl, sym, ap, ap₂, subst, subst⁻¹, ◌∙◌}
@@ -9,7 +11,7 @@ use lib.ListN.{length, take, length-take}
 use borrow.Author.Tests.{le-leb, lt-leb}
 use Rattle.network.specs.declared.Refusal.{Refusal}
 use Rattle.network.specs.declared.Refusal.TheVariants.{ShortBuffer}
-use Rattle.network.specs.Networks.{Network, table_fault, Accepted}
+use Rattle.network.specs.Networks.{Network, table_fault, Accepted, counts}
 use Rattle.network.specs.Tables.{table_of}
 use Rattle.network.specs.Replies.{fault_number}
 use Rattle.network.proofs.Networks.{Facts, accepted}
@@ -21,8 +23,6 @@ use Rattle.components.specs.Components.{component_count}
 use Rattle.components.specs.Labels.{Joinable, Labelled}
 use Rattle.components.specs.declared.Note.{Note}
 use Rattle.contracting.specs.Filling.{Contractible, FillableOf, KeptFilledOf}
-use Rattle.contraction.specs.declared.ContractAnswer.{ContractAnswer}
-use Rattle.contraction.specs.declared.ContractAnswer.TheVariants.{Refused, Contracted}
 use Rattle.contraction.specs.Calls.{contract_fault, contract_answer, contract_number, reaches_given, ContractRows, ContractGiven}
 
 module _ (N : Network) (room : ℕ) where
@@ -43,7 +43,7 @@ module _ (N : Network) (room : ℕ) where
 
 module _ (N : Network) {ks xs ys : List ℕ} where
   -- a refusal, which writes nothing
-  pub rows-refused : {r : Refusal} → contract_fault N (room_of ks xs ys) ≡ some r → ContractRows N ks xs ys (Refused r) ks xs ys
+  pub rows-refused : {r : Refusal} → contract_fault N (room_of ks xs ys) ≡ some r → ContractRows N ks xs ys (Err r) ks xs ys
   rows-refused e =
       record {
         answer = sym (ap (λ (o : Option Refusal). contract_answer o (contracted N)) e);
@@ -52,7 +52,7 @@ module _ (N : Network) {ks xs ys : List ℕ} where
       }
 
   -- what is given
-  pub rows-given : {r : ContractAnswer} {ks' xs' ys' : List ℕ} → contract_fault N (room_of ks xs ys) ≡ none → ContractGiven N ks xs ys r ks' xs' ys' → ContractRows N ks xs ys r ks' xs' ys'
+  pub rows-given : {r : Result Counts Refusal} {ks' xs' ys' : List ℕ} → contract_fault N (room_of ks xs ys) ≡ none → ContractGiven N ks xs ys r ks' xs' ys' → ContractRows N ks xs ys r ks' xs' ys'
   rows-given {r} {ks'} {xs'} {ys'} e g =
       record {
         answer = g.answer ∙ sym (ap (λ (o : Option Refusal). contract_answer o (contracted N)) e);
@@ -89,7 +89,7 @@ module _ (n : ℕ) (ks xs ys : List ℕ) (m : ℕ) (e : m ≡ length (table_of k
     room-is = c ∙ table-short ks₂ xs₂ ys₂
 
     -- new rows that are too short
-    pub cut_short : k < m → ContractRows (net_of n ks xs ys) ks₂ xs₂ ys₂ (Refused ShortBuffer) ks₂ xs₂ ys₂
+    pub cut_short : k < m → ContractRows (net_of n ks xs ys) ks₂ xs₂ ys₂ (Err ShortBuffer) ks₂ xs₂ ys₂
     cut_short l = rows-refused (net_of n ks xs ys) (fault-short (net_of n ks xs ys) (room_of ks₂ xs₂ ys₂) ok (omega (arith, room-is)))
 
     -- and new rows with room
@@ -99,7 +99,7 @@ module _ (n : ℕ) (ks xs ys : List ℕ) (m : ℕ) (e : m ≡ length (table_of k
           let cut = length-take m ks in
           record { rows = joinable; kind-room = omega (arith, cut, room-is); a-room = omega (arith, cut, room-is); b-room = omega (arith, cut, room-is) }
 
-      pub cut-given : {r : ContractAnswer} {ks' xs' ys' : List ℕ} → ContractGiven M ks₂ xs₂ ys₂ r ks' xs' ys' → ContractRows (net_of n ks xs ys) ks₂ xs₂ ys₂ r ks' xs' ys'
+      pub cut-given : {r : Result Counts Refusal} {ks' xs' ys' : List ℕ} → ContractGiven M ks₂ xs₂ ys₂ r ks' xs' ys' → ContractRows (net_of n ks xs ys) ks₂ xs₂ ys₂ r ks' xs' ys'
       cut-given {r} {ks'} {xs'} {ys'} g =
           rows-given (net_of n ks xs ys) (fault-clear (net_of n ks xs ys) (room_of ks₂ xs₂ ys₂) ok (omega (arith, room-is)))
           (subst (λ (N : Network). ContractGiven N ks₂ xs₂ ys₂ r ks' xs' ys') (cut-net ks xs ys m e n) g)
@@ -114,5 +114,5 @@ module _ {n : ℕ} {ks xs ys ks₂ xs₂ ys₂ labels : List ℕ} {notes : List 
   pub fillable : n ≤ length labels → n ≤ length notes → FillableOf n ks xs ys labels notes ks₂ xs₂ ys₂
   fillable l m = record { table = p; count = count; labelled = c; labels-room = l; notes-room = m }
 
-  pub given-filled : {k : ℕ} {ks' xs' ys' : List ℕ} → KeptFilledOf n ks xs ys ks₂ xs₂ ys₂ k ks' xs' ys' → ContractGiven (net_of n ks xs ys) ks₂ xs₂ ys₂ (Contracted count k) ks' xs' ys'
-  given-filled f = record { answer = ap₂ {C = ContractAnswer} Contracted (c.counted ∙ sym (contracted-basins (net_of n ks xs ys))) f.counted; rows = f.rows }
+  pub given-filled : {k : ℕ} {ks' xs' ys' : List ℕ} → KeptFilledOf n ks xs ys ks₂ xs₂ ys₂ k ks' xs' ys' → ContractGiven (net_of n ks xs ys) ks₂ xs₂ ys₂ (Ok (counts count k)) ks' xs' ys'
+  given-filled f = record { answer = ap₂ {C = Result Counts Refusal} (λ (k m : ℕ). Ok (counts k m)) (c.counted ∙ sym (contracted-basins (net_of n ks xs ys))) f.counted; rows = f.rows }

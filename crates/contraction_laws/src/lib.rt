@@ -9,15 +9,16 @@ ghost use Rattle.tables.specs.Rows.{net_of};
 ghost use Rattle.contraction_laws.specs.Contractions.{CameOut, ReplyOfContracted, BoundOfContracted, ContractedTwice};
 
 use bound_gates::bound_gates_rows;
-use contraction::{ContractAnswer, contract_rows};
+use contraction::contract_rows;
+use network::{Counts, Refusal};
 use packing::MAX_ROWS;
 use planner_rows::{first_plan, next_plan};
-use replies::Answer;
+use replies::Reply;
 
 // What a network is contracted to, in rows with room for every network.
 #[derive(Drop)]
 pub struct ContractedRows {
-    answer: ContractAnswer,
+    answer: Result<Counts, Refusal>,
     kinds: [u8; MAX_ROWS],
     a: [u16; MAX_ROWS],
     b: [u16; MAX_ROWS],
@@ -63,22 +64,21 @@ pub fn first_of_contracted(
     b: &[u16],
     plan: &mut [u8],
     marks: &mut [u8],
-) -> Answer
+) -> Result<Reply, Refusal>
     ensures { ReplyOfContracted (λ N. first_reply N (length plan.old) (length marks.old))
         (net_of basins kinds.now a.now b.now) plan.old marks.old result plan.new marks.new }
 {
     let c = contracted(basins, kinds, a, b, empty());
-    let kinds2 = c.kinds;
-    let a2 = c.a;
-    let b2 = c.b;
-    let answer = c.answer;
-    match answer {
-        ContractAnswer::Refused(r) => Answer::Refused(r),
-        ContractAnswer::Contracted {
-            basins: n,
-            reaches: m,
-        } => first_plan(n, &kinds2[..m], &a2[..m], &b2[..m], plan, marks),
-    }
+    let counts = c.answer?;
+    let m = counts.reaches;
+    first_plan(
+        counts.basins,
+        &c.kinds[..m],
+        &c.a[..m],
+        &c.b[..m],
+        plan,
+        marks,
+    )
 }
 
 // The same of the next plan of a setting.
@@ -90,22 +90,22 @@ pub fn next_of_contracted(
     s: &[u8],
     plan: &mut [u8],
     marks: &mut [u8],
-) -> Answer
+) -> Result<Reply, Refusal>
     ensures { ReplyOfContracted (λ N. next_reply N s.now (length plan.old) (length marks.old))
         (net_of basins kinds.now a.now b.now) plan.old marks.old result plan.new marks.new }
 {
     let c = contracted(basins, kinds, a, b, empty());
-    let kinds2 = c.kinds;
-    let a2 = c.a;
-    let b2 = c.b;
-    let answer = c.answer;
-    match answer {
-        ContractAnswer::Refused(r) => Answer::Refused(r),
-        ContractAnswer::Contracted {
-            basins: n,
-            reaches: m,
-        } => next_plan(n, &kinds2[..m], &a2[..m], &b2[..m], s, plan, marks),
-    }
+    let counts = c.answer?;
+    let m = counts.reaches;
+    next_plan(
+        counts.basins,
+        &c.kinds[..m],
+        &c.a[..m],
+        &c.b[..m],
+        s,
+        plan,
+        marks,
+    )
 }
 
 // The same of the bound gates: their bytes are those of the network itself.
@@ -116,22 +116,21 @@ pub fn bound_of_contracted(
     b: &[u16],
     bytes: &mut [u8],
     marks: &mut [u8],
-) -> Answer
+) -> Result<Reply, Refusal>
     ensures { BoundOfContracted (net_of basins kinds.now a.now b.now) bytes.old marks.old result
         bytes.new marks.new }
 {
     let c = contracted(basins, kinds, a, b, empty());
-    let kinds2 = c.kinds;
-    let a2 = c.a;
-    let b2 = c.b;
-    let answer = c.answer;
-    match answer {
-        ContractAnswer::Refused(r) => Answer::Refused(r),
-        ContractAnswer::Contracted {
-            basins: n,
-            reaches: m,
-        } => bound_gates_rows(n, &kinds2[..m], &a2[..m], &b2[..m], bytes, marks),
-    }
+    let counts = c.answer?;
+    let m = counts.reaches;
+    bound_gates_rows(
+        counts.basins,
+        &c.kinds[..m],
+        &c.a[..m],
+        &c.b[..m],
+        bytes,
+        marks,
+    )
 }
 
 // Contracts a network, and contracts what came out: the same counts and the same reaches.
@@ -139,15 +138,11 @@ pub fn contract_again(basins: u16, kinds: &[u8], a: &[u16], b: &[u16]) -> Contra
     ensures { ContractedTwice (net_of basins kinds.now a.now b.now) result }
 {
     let c = contracted(basins, kinds, a, b, empty());
-    let kinds2 = c.kinds;
-    let a2 = c.a;
-    let b2 = c.b;
-    let answer = c.answer;
-    match answer {
-        ContractAnswer::Refused(_) => c,
-        ContractAnswer::Contracted {
-            basins: n,
-            reaches: m,
-        } => contracted(n, &kinds2[..m], &a2[..m], &b2[..m], empty()),
+    match c.answer {
+        Err(_) => c,
+        Ok(counts) => {
+            let m = counts.reaches;
+            contracted(counts.basins, &c.kinds[..m], &c.a[..m], &c.b[..m], empty())
+        }
     }
 }

@@ -7,14 +7,13 @@ ghost use Rattle.tables.specs.Rows.{net_of};
 ghost use Rattle.diameter_laws.specs.Diameters.{LongestOfChecked};
 
 use diameter::diameter_rows;
-use distances::DiameterAnswer;
-use replies::CheckAnswer;
+use network::Refusal;
 
 // What the two calls answered.
 #[derive(Clone, Copy)]
 pub struct Measured {
-    pub check: CheckAnswer,
-    pub longest: DiameterAnswer,
+    pub check: Result<bool, Refusal>,
+    pub longest: Result<u16, Refusal>,
 }
 
 // Checks a setting of a network and asks how far the water goes under it: what the two calls promise, that a number is given exactly if the setting is a plan, and

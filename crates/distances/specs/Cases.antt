@@ -1,26 +1,25 @@
 -- Settings and the longest of their fewest counts: the marked cases, and one or more for each sentence of document 02, item 6. proofs/Cases.antt computes them from
 -- the definitions.
 -- Assumes nothing.
-use Rattle.std.specs.Prelude.{ℕ, ◌≡◌, List, [], ◌∷◌}
+use Rattle.network.specs.declared.Refusal.{Refusal}
+use Rattle.std.specs.Prelude.{ℕ, ◌≡◌, List, [], ◌∷◌, Err, Ok, Result}
 use Rattle.network.specs.declared.Refusal.TheVariants.{BasinCount, EndOutOfRange, BadSetting}
 use Rattle.network.specs.Networks.{Network, net}
 use Rattle.network.specs.Services.{shut_reach}
 use Rattle.network.specs.Cases.{G, F, T, case3}
-use Rattle.distances.specs.declared.DiameterAnswer.{DiameterAnswer}
-use Rattle.distances.specs.declared.DiameterAnswer.TheVariants.{Refused, Longest}
 use Rattle.distances.specs.Answers.{diameter_of}
 
 -- A network, a setting, and the answer.
 pub record Span : Type 0 where
   pub network : Network
   pub setting : List ℕ
-  pub answer : DiameterAnswer
+  pub answer : Result ℕ Refusal
 
 abbrev pub spans : Network → List ℕ → ℕ → Span
-spans N s d = record { network = N; setting = s; answer = Longest d }
+spans N s d = record { network = N; setting = s; answer = Ok d }
 
 abbrev pub no_plan : Network → List ℕ → Span
-no_plan N s = record { network = N; setting = s; answer = Refused BadSetting }
+no_plan N s = record { network = N; setting = s; answer = Err BadSetting }
 
 -- Case 7, and a ring of four gates.
 abbrev pub case7 : Network
@@ -51,7 +50,7 @@ span_cases =
     spans (net 4 (T 0 2 ∷ shut_reach (T 0 1) ∷ T 2 3 ∷ [])) [] 2 ∷ spans (net 4 (F 0 1 ∷ F 1 2 ∷ F 2 3 ∷ F 3 0 ∷ shut_reach (T 0 2) ∷ [])) [] 3 ∷
     -- A wrong length and a byte over 1 are 8 too, after 1 and 3.
     no_plan case3 (0 ∷ []) ∷ no_plan case3 (0 ∷ 1 ∷ 0 ∷ []) ∷ no_plan case3 (0 ∷ 2 ∷ []) ∷
-    record { network = net 0 []; setting = 9 ∷ []; answer = Refused BasinCount } ∷ record { network = net 2 (G 0 2 ∷ []); setting = []; answer = Refused EndOutOfRange } ∷ []
+    record { network = net 0 []; setting = 9 ∷ []; answer = Err BasinCount } ∷ record { network = net 2 (G 0 2 ∷ []); setting = []; answer = Err EndOutOfRange } ∷ []
 
 -- They hold.
 abbrev pub SpansHold : List Span → Type 0

@@ -1,11 +1,11 @@
 -- Laws of file records: kinds and their bodies, two-byte values, and the record at the front of a file.
 -- Assumes nothing.
+use Rattle.std.specs.Prelude.{Some, None}
 use Prim.Native.Nat.{ℕ, zero, suc, ◌≤◌, ◌<◌}
 use native.Mathlib.Omega.{arith}
 use mathlib.Core.Path.{◌≡◌, refl, ap, ◌∙◌}
 use mathlib.Core.Bool.{true}
 use mathlib.Core.List.{List, [], ◌∷◌, ◌++◌}
-use mathlib.Core.Option.{none, some}
 use lib.ListN.{length, get_or, take, drop, length-drop}
 use lib.Seq.{drop-drop}
 use lib.Pow.{are_bytes}
@@ -18,18 +18,18 @@ use Rattle.lists.specs.Words.{word_of}
 use Rattle.file_records.specs.Records.{lookup, bodies, body_of, two_bytes}
 
 -- a number above all of a table's is not in it
-lookup-above : (k m : ℕ) (t : List (ℕ × ℕ)) → every (λ e. leb e.0 m) t ≡ true → m < k → lookup k t ≡ none
+lookup-above : (k m : ℕ) (t : List (ℕ × ℕ)) → every (λ e. leb e.0 m) t ≡ true → m < k → lookup k t ≡ None
 lookup-above k m [] h l = refl
 lookup-above k m (e ∷ t) h l =
     let here : e.0 ≤ m = leb-true _ _ (and_elim_left (leb e.0 m) _ h) in
     rw (ne_eqb k e.0 (λ q. omega arith), lookup) (lookup-above k m t (and_elim_right (leb e.0 m) _ h) l)
 
 -- kinds over 31 have no body
-pub body-above : (k : ℕ) → 31 < k → body_of k ≡ none
+pub body-above : (k : ℕ) → 31 < k → body_of k ≡ None
 unfolding body_of
 body-above k l = lookup-above k 31 bodies refl l
 
-pub body_end : body_of 9 ≡ some 0
+pub body_end : body_of 9 ≡ Some 0
 unfolding body_of
 body_end = refl
 

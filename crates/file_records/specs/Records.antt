@@ -1,19 +1,14 @@
 -- File records: their kinds, their body lengths, and what stands at the front of a file's bytes.
 -- Assumes nothing.
-use Rattle.std.specs.Prelude.{ℕ, ◌/◌, ◌%◌, true, false, cond, List, [], ◌∷◌, length, take, drop, eqb, leb}
-use Rattle.std.proofs.Math.Option.{Option, none, some}
+use Rattle.std.specs.Prelude.{ℕ, ◌/◌, ◌%◌, true, false, cond, List, [], ◌∷◌, length, take, drop, eqb, leb, Err, Ok, Some, None, Result, Option}
 use Rattle.network.specs.declared.Refusal.{Refusal}
 use Rattle.network.specs.declared.Refusal.TheVariants.{Truncated, UnknownKind}
 use Rattle.lists.specs.Lists.{elem}
-use Rattle.file_records.specs.declared.Body.{Body}
-use Rattle.file_records.specs.declared.Body.TheVariants.{Length, Unknown}
-use Rattle.file_records.specs.declared.Taken.{Taken}
-use Rattle.file_records.specs.declared.Taken.TheVariants.{Broken, Whole}
 
 -- What stands beside the number k in a table of two columns.
 abbrev pub lookup : ℕ → List (ℕ × ℕ) → Option ℕ
-lookup k [] = none
-lookup k (e ∷ es) = elim (eqb k e.0) [ true ↦ some e.1 | false ↦ lookup k es ]
+lookup k [] = None
+lookup k (e ∷ es) = elim (eqb k e.0) [ true ↦ Some e.1 | false ↦ lookup k es ]
 
 -- "One byte of kind, then a body whose length the kind fixes." Each listed kind with its body length: 1 network head; 2, 3, 4 gated, flap, two-way;
 -- 5 a shut reach (document 02, item 1: "Kind 5, body 5 bytes"); 9 end; 16 plan head; 17, 18 as drawn, turned; 20 shut in; 21 lone.
@@ -39,8 +34,8 @@ pub data Front : Type 0 where
 
 -- A kind and its body: 5 where the kind is unknown, 4 where "the file ends where .. part of a body is due".
 abbrev pub with_body : ℕ → Option ℕ → List ℕ → Front
-with_body k none f = broken UnknownKind
-with_body k (some n) f = cond (leb n (length f)) (whole k (take n f) (drop n f)) (broken Truncated)
+with_body k None f = broken UnknownKind
+with_body k (Some n) f = cond (leb n (length f)) (whole k (take n f) (drop n f)) (broken Truncated)
 
 -- "Per record the kind (5) comes first, then the whole body (4)"; 4 too where "the file ends where a kind byte .. is due". Refusal 5, unknown mark: "the
 -- kind byte may not come at this place", where only these kinds may come.
@@ -49,11 +44,8 @@ take_record kinds [] = broken Truncated
 take_record kinds (k ∷ f) = cond (elem k kinds) (with_body k (body_of k) f) (broken UnknownKind)
 
 -- As the functions answer: the length of a body, or that the kind is unknown;
-abbrev pub body_answer : Option ℕ → Body
-body_answer none = Unknown
-body_answer (some n) = Length n
 
 -- the kind of a whole record, or the refusal.
-abbrev pub taken_answer : Front → Taken
-taken_answer (broken r) = Broken r
-taken_answer (whole k body rest) = Whole k
+abbrev pub taken_answer : Front → Result ℕ Refusal
+taken_answer (broken r) = Err r
+taken_answer (whole k body rest) = Ok k

@@ -7,7 +7,7 @@ ghost use Rattle.std.specs.Prelude.{◌≡◌, ◌+◌, ◌<◌, ◌≤◌, leng
 ghost use Rattle.std.proofs.lemmas.List.Edits.{sets};
 ghost use Rattle.lists.specs.Lists.{elem};
 ghost use Rattle.lists.specs.Words.{word_of};
-ghost use Rattle.file_records.specs.Records.{body_of, body_answer, two_bytes, take_record, taken_answer};
+ghost use Rattle.file_records.specs.Records.{body_of, two_bytes, take_record, taken_answer};
 
 use network::Refusal;
 
@@ -20,25 +20,18 @@ const BODY: [u8; 32] = [
     255, 255, 255, 255, 255, 255, 255, 255, 255,
 ];
 
-// A kind's body: so many bytes, or none, and then the kind is unknown.
-#[derive(Clone, Copy)]
-pub enum Body {
-    Length(u8),
-    Unknown,
-}
-
 // The body of a kind, by the table.
-pub fn body_length(kind: u8) -> Body
-    ensures { result ≡ body_answer (body_of kind) }
+pub fn body_length(kind: u8) -> Option<u8>
+    ensures { result ≡ body_of kind }
 {
     if 31 < kind {
-        return Body::Unknown;
+        return None;
     }
     let n = BODY[kind as usize];
     if n == 255 {
-        Body::Unknown
+        None
     } else {
-        Body::Length(n)
+        Some(n)
     }
 }
 
@@ -49,33 +42,22 @@ fn one_of(kind: u8, kinds: &[u8]) -> bool
     kinds.contains(&kind)
 }
 
-// What stands at a position: a refusal, or a whole record of a kind.
-#[derive(Clone, Copy)]
-pub enum Taken {
-    Broken(Refusal),
-    Whole(u8),
-}
-
 // The kind is one of those that may come at this place (5), and the whole body is there (4).
-pub fn take_record(file: &[u8], at: usize, kinds: &[u8]) -> Taken
+pub fn take_record(file: &[u8], at: usize, kinds: &[u8]) -> Result<u8, Refusal>
     ensures { result ≡ taken_answer (take_record kinds.now (drop at file.now)) }
 {
     if file.len() <= at {
-        return Taken::Broken(Refusal::Truncated);
+        return Err(Refusal::Truncated);
     }
     let kind = file[at];
     if !one_of(kind, kinds) {
-        return Taken::Broken(Refusal::UnknownKind);
+        return Err(Refusal::UnknownKind);
     }
-    match body_length(kind) {
-        Body::Unknown => Taken::Broken(Refusal::UnknownKind),
-        Body::Length(n) => {
-            if n as usize <= file.len() - (at + 1) {
-                Taken::Whole(kind)
-            } else {
-                Taken::Broken(Refusal::Truncated)
-            }
-        }
+    let n = body_length(kind).ok_or(Refusal::UnknownKind)?;
+    if n as usize <= file.len() - (at + 1) {
+        Ok(kind)
+    } else {
+        Err(Refusal::Truncated)
     }
 }
 
@@ -85,13 +67,6 @@ pub fn word_at(file: &[u8], at: usize) -> u16
     ensures { result ≡ word_of (take 2 (drop at file.now)) }
 {
     file[at] as u16 + 256 * (file[at + 1] as u16)
-}
-
-// What a writer answers: a refusal, or the length written.
-#[derive(Clone, Copy)]
-pub enum WriteAnswer {
-    Refused(Refusal),
-    Written(usize),
 }
 
 // The two bytes of a value, low byte first.

@@ -1,11 +1,11 @@
 -- Which line an answer calls for.
 -- Assumes nothing.
-use Rattle.std.specs.Prelude.{ℕ, zero, suc, cond, eqb}
+use Rattle.replies.specs.declared.Reply.{Reply}
+use Rattle.network.specs.declared.Refusal.{Refusal}
+use Rattle.std.specs.Prelude.{ℕ, zero, suc, cond, eqb, Err, Ok, Result}
 use Rattle.network.specs.Replies.{refusal_number}
 use Rattle.replies.specs.declared.Verdict.{Verdict}
 use Rattle.replies.specs.declared.Verdict.TheVariants as Of
-use Rattle.replies.specs.declared.Answer.{Answer}
-use Rattle.replies.specs.declared.Answer.TheVariants as A
 use Rattle.lines.specs.declared.Due.{Due}
 use Rattle.lines.specs.declared.Due.TheVariants as D
 
@@ -22,6 +22,6 @@ verdict_due (Of.Lone f) left = D.Refused 10
 abbrev pub refusal_due : ℕ → Due
 refusal_due r = cond (eqb r 11) D.End (D.Refused r)
 
-abbrev pub due_of : Answer → ℕ → Due
-due_of (A.Refused r) left = refusal_due (refusal_number r)
-due_of (A.Given reply) left = verdict_due reply.verdict left
+abbrev pub due_of : Result Reply Refusal → ℕ → Due
+due_of (Err r) left = refusal_due (refusal_number r)
+due_of (Ok reply) left = verdict_due reply.verdict left

@@ -10,7 +10,7 @@ ghost use Rattle.lines.specs.Dues.{plan_due, refusal_due, due_of};
 ghost use Rattle.lines.specs.Puts.{Put};
 
 use network::Refusal;
-use replies::{Answer, Verdict};
+use replies::{Reply, Verdict};
 use tables::least;
 
 // A line: that of a plan, after which so many plans may still be printed; `more`; `end`; or `refused ` and a number.
@@ -170,18 +170,15 @@ pub fn due_plan(left: usize) -> Due
 }
 
 // The line that an answer of first or next calls for.
-pub fn due_of(answer: Answer, left: usize) -> Due
+pub fn due_of(answer: Result<Reply, Refusal>, left: usize) -> Due
     ensures { result ≡ due_of answer left }
 {
     match answer {
-        Answer::Refused(r) => due_refused(r),
-        Answer::Given(reply) => {
-            let verdict = reply.verdict;
-            match verdict {
-                Verdict::Plan => due_plan(left),
-                Verdict::ShutIn(_) => Due::Refused(9),
-                Verdict::Lone(_) => Due::Refused(10),
-            }
-        }
+        Err(r) => due_refused(r),
+        Ok(reply) => match reply.verdict {
+            Verdict::Plan => due_plan(left),
+            Verdict::ShutIn(_) => Due::Refused(9),
+            Verdict::Lone(_) => Due::Refused(10),
+        },
     }
 }

@@ -1,5 +1,6 @@
 -- What is printed of any file: a line for one of 1 to 6, 9 and 10, or the plans from the first on.
 -- Assumes nothing.
+use Rattle.std.specs.Prelude.{Some, None, Option as Length}
 use Prim.Native.Nat.{ℕ, zero, suc}
 use mathlib.Core.Path.{◌≡◌, refl, sym, ap, subst, ◌∙◌}
 use mathlib.Core.Bool.{Bool, true, false, cond, ◌&&◌, true≢false}
@@ -44,9 +45,9 @@ module _ {A : Type 0} (P : A → Type 0) where
   pick true p q = p
   pick false p q = q
 
-body-fair : (k : ℕ) (n : Option ℕ) (f : List ℕ) → FairFront (with_body k n f)
-body-fair k none f = fair-broken refl
-body-fair k (some n) f = pick FairFront (leb n (length f)) fair-whole (fair-broken refl)
+body-fair : (k : ℕ) (n : Length ℕ) (f : List ℕ) → FairFront (with_body k n f)
+body-fair k None f = fair-broken refl
+body-fair k (Some n) f = pick FairFront (leb n (length f)) fair-whole (fair-broken refl)
 
 front-fair : (kinds f : List ℕ) → FairFront (take_record kinds f)
 front-fair kinds [] = fair-broken refl

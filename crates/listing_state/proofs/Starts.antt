@@ -1,5 +1,7 @@
 -- The start: the file's first bytes are read, and the first line is found.
 -- Assumes nothing.
+use Rattle.network.specs.declared.Counts.{Counts}
+use Rattle.std.specs.Prelude.{Err, Ok, Result}
 use Prim.Native.Nat.{ℕ, zero, suc, ◌≤◌, min}
 use native.Mathlib.Omega.{arith}
 use mathlib.Core.Path.{◌≡◌, refl, sym, ap, subst, ◌∙◌}
@@ -12,12 +14,10 @@ use Rattle.lists.proofs.Lists.{take_min}
 use mathlib.Mathlib.Data.Bool.Basic.{and_elim_left, and_elim_right, and_intro}
 use Rattle.network.specs.declared.Reach.{Reach}
 use Rattle.network.specs.declared.Refusal.{Refusal}
-use Rattle.network.specs.Networks.{max_reaches, Accepted}
+use Rattle.network.specs.Networks.{max_reaches, Accepted, counts}
 use Rattle.network.specs.Replies.{refusal_number}
 use Rattle.network.proofs.Networks.{accepted}
 use Rattle.tables.specs.Rows.{net_of, room_of}
-use Rattle.netfile_format.specs.declared.ReadAnswer.{ReadAnswer}
-use Rattle.netfile_format.specs.declared.ReadAnswer.TheVariants.{Refused, Read}
 use lib.Pow.{are_bytes}
 use Rattle.netfile_format.specs.Files.{Reading, refused, read, read_file}
 use Rattle.netfile_format.specs.Answers.{with_room, reaches_read, NetworkRead}
@@ -31,7 +31,7 @@ use Rattle.listing_state.specs.Parts.{FirstLine, RefusalLine}
 use Rattle.listing_state.proofs.States.{first-roomy, refusal-pending}
 
 -- what is read of them is read of the first 8,000
-pub front_read : (file : List ℕ) {n : ℕ} {kinds a b kinds' a' b' : List ℕ} {r : ReadAnswer} → n ≡ min (length file) max_bytes → NetworkRead (take n file) kinds a b r kinds' a' b' → NetworkRead (take max_bytes file) kinds a b r kinds' a' b'
+pub front_read : (file : List ℕ) {n : ℕ} {kinds a b kinds' a' b' : List ℕ} {r : Result Counts Refusal} → n ≡ min (length file) max_bytes → NetworkRead (take n file) kinds a b r kinds' a' b' → NetworkRead (take max_bytes file) kinds a b r kinds' a' b'
 front_read file {kinds} {a} {b} {kinds'} {a'} {b'} {r} e c =
     subst (λ f. NetworkRead f kinds a b r kinds' a' b') (ap (λ (k : ℕ). take k file) e ∙ take_min max_bytes file) c
 
@@ -42,12 +42,12 @@ bytes-first (suc m) (x ∷ file) b = and_intro (and_elim_left (ltb x 256) _ b) (
 
 module _ (file kinds a b kinds' a' b' : List ℕ) where
   -- the file is refused
-  pub start-refused : (r : Refusal) (l : Lister) → NetworkRead (take max_bytes file) kinds a b (Refused r) kinds' a' b' → RefusalLine (refusal_number r) l → Starting file kinds a b (record { lister = l; reaches = 0 }) kinds' a' b'
+  pub start-refused : (r : Refusal) (l : Lister) → NetworkRead (take max_bytes file) kinds a b (Err r) kinds' a' b' → RefusalLine (refusal_number r) l → Starting file kinds a b (record { lister = l; reaches = 0 }) kinds' a' b'
   start-refused r l c state =
       let none_read : file_read file kinds a b ≡ refused r = reading-refused _ r (sym c.answer) in
       record { rows = c.rows; counted = rw none_read; to-print = rw none_read (refusal-pending _ _ l state) }
 
-  module _ (n m : ℕ) (c : NetworkRead (take max_bytes file) kinds a b (Read n m) kinds' a' b') where
+  module _ (n m : ℕ) (c : NetworkRead (take max_bytes file) kinds a b (Ok (counts n m)) kinds' a' b') where
     abbrev C : Counted (file_read file kinds a b) n m
     C = counted (take max_bytes file) kinds a b kinds' a' b' n m c
 

@@ -1,5 +1,8 @@
 -- The state that a reply of first or next leads to: what is to be printed in it are the reply's lines.
 -- Assumes nothing.
+use Rattle.replies.specs.declared.Reply.{Reply}
+use Rattle.network.specs.declared.Refusal.{Refusal}
+use Rattle.std.specs.Prelude.{Result}
 use Prim.Native.Nat.{ℕ, zero, suc}
 use native.Mathlib.Omega.{arith}
 use mathlib.Core.Path.{◌≡◌, refl, ap, ◌∙◌}
@@ -18,7 +21,6 @@ use Rattle.network.proofs.Networks.{gates-fit}
 use Rattle.network.proofs.Order.{setting-length, plan-setting, first-is-plan, next-is-plan}
 use Rattle.network.proofs.Replies.{given-iff, first-given, next-given, unless-plan, room-enough}
 use Rattle.tables.specs.Rows.{net_of, gates_held}
-use Rattle.replies.specs.declared.Answer.{Answer}
 use Rattle.replies.specs.Answers.{answer_of, Replied}
 use Rattle.lines.specs.declared.Due.{Due}
 use Rattle.lines.specs.declared.Due.TheVariants as D
@@ -116,21 +118,21 @@ refusal-pending N k l state = rw (state.its-line, state.begun) (refusal-lines N 
 
 -- ---- the two calls of the planner
 
-module _ (N : Network) (w marks : List ℕ) {bytes marks' : List ℕ} {r : Answer} {d : Due} (left : ℕ) (size : length w ≡ max_reaches) (room : length marks ≡ mark_bytes) (due : d ≡ due_of r left) where
+module _ (N : Network) (w marks : List ℕ) {bytes marks' : List ℕ} {r : Result Reply Refusal} {d : Due} (left : ℕ) (size : length w ≡ max_reaches) (room : length marks ≡ mark_bytes) (due : d ≡ due_of r left) where
   -- the state that a reply leads to
   replied : (reply : ℕ → ℕ → Outcome) → ((p : List ℕ) → reply max_reaches mark_bytes ≡ plan p → GivenPlan N p) → Replied (reply (length w) (length marks)) w marks bytes marks' r
       → (n : ℕ) → pending_of N (record { basins = n; due = d; at = 0; setting = bytes }) ≡ reply_lines N left (reply max_reaches mark_bytes)
   replied reply given written n =
       let at-limits : Replied (reply max_reaches mark_bytes) w marks bytes marks' r = rw (size, room) at written in
-      reply-pending N w (reply max_reaches mark_bytes) given left (record { basins = n; due = d; at = 0; setting = bytes }) (due ∙ ap (λ (x : Answer). due_of x left) at-limits.reply) refl at-limits.plan-left
+      reply-pending N w (reply max_reaches mark_bytes) given left (record { basins = n; due = d; at = 0; setting = bytes }) (due ∙ ap (λ (x : Result Reply Refusal). due_of x left) at-limits.reply) refl at-limits.plan-left
 
-pub first-state : (n : ℕ) (ks xs ys w marks : List ℕ) {bytes marks' : List ℕ} {r : Answer} {d : Due} → length w ≡ max_reaches → length marks ≡ mark_bytes → d ≡ due_of r max_plans
+pub first-state : (n : ℕ) (ks xs ys w marks : List ℕ) {bytes marks' : List ℕ} {r : Result Reply Refusal} {d : Due} → length w ≡ max_reaches → length marks ≡ mark_bytes → d ≡ due_of r max_plans
     → Replied (first_reply (net_of n ks xs ys) (length w) (length marks)) w marks bytes marks' r → FirstLine n ks xs ys (record { basins = n; due = d; at = 0; setting = bytes })
 first-state n ks xs ys w marks size room due written =
     let N = net_of n ks xs ys in
     record { basins-kept = refl; lines = replied N w marks max_plans size room due (first_reply N) (first_gives N max_reaches mark_bytes) written n }
 
-pub next-state : (l : Lister) (ks xs ys marks : List ℕ) (left : ℕ) {g : ℕ} {old bytes marks' : List ℕ} {r : Answer} {d : Due} → length l.setting ≡ max_reaches → length marks ≡ mark_bytes → d ≡ due_of r left
+pub next-state : (l : Lister) (ks xs ys marks : List ℕ) (left : ℕ) {g : ℕ} {old bytes marks' : List ℕ} {r : Result Reply Refusal} {d : Due} → length l.setting ≡ max_reaches → length marks ≡ mark_bytes → d ≡ due_of r left
     → g ≡ gates_held (state_net l ks xs ys) → old ≡ l.setting → Replied (next_reply (state_net l ks xs ys) (take g old) (length l.setting) (length marks)) l.setting marks bytes marks' r
     → LineAfter (state_net l ks xs ys) l left (record { basins = l.basins; due = d; at = 0; setting = bytes })
 next-state l ks xs ys marks left {g} {old} size room due held same written =

@@ -9,8 +9,7 @@ ghost use Rattle.listing_state.specs.Parts.{FirstLine, RefusalLine};
 
 use lines::{Due, due_of, due_refused};
 use marks::MARK_BYTES;
-use netfile_format::ReadAnswer;
-use network::{MAX_REACHES, Refusal};
+use network::{Counts, MAX_REACHES, Refusal};
 use tables::least;
 
 // The most bytes of a file that are read, and the most plans that are printed.
@@ -91,11 +90,11 @@ pub fn start(file: &[u8], kinds: &mut [u8], a: &mut [u16], b: &mut [u16]) -> Sta
 {
     let n = least(file.len(), MAX_BYTES);
     match netfile_rows::read_network(&file[..n], kinds, a, b) {
-        ReadAnswer::Refused(r) => {
+        Err(r) => {
             let lister = refusal_line(r);
             Started { lister, reaches: 0 }
         }
-        ReadAnswer::Read { basins, reaches } => {
+        Ok(Counts { basins, reaches }) => {
             let lister = first_line(
                 basins,
                 &kinds[..reaches],

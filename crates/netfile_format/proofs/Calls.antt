@@ -1,5 +1,6 @@
 -- What the reader's two passes and the writer's stores come to, case by case.
 -- Assumes nothing.
+use Rattle.std.specs.Prelude.{Err, Ok, Result}
 use Prim.Native.Nat.{ℕ, ◌+◌, ◌-◌, ◌≤◌, ◌<◌}
 use native.Mathlib.Omega.{arith}
 use mathlib.Core.Path.{◌≡◌, refl, sym, ap, subst, ◌∙◌}
@@ -12,23 +13,20 @@ use lib.Dec.{leb}
 use borrow.Author.Tests.{le-leb, lt-leb}
 use Rattle.network.specs.declared.Refusal.{Refusal}
 use Rattle.network.specs.declared.Refusal.TheVariants.{ShortBuffer}
-use Rattle.network.specs.Networks.{Network, table_fault}
+use Rattle.network.specs.Networks.{Network, table_fault, counts, counts_of}
 use Rattle.tables.specs.Rows.{net_of, room_of, RowsFilled}
 use Rattle.tables.proofs.Filling.{filled-long, filled-table}
-use Rattle.netfile_format.specs.declared.ReadAnswer.TheVariants.{Refused, Read}
-use Rattle.file_records.specs.declared.WriteAnswer.TheVariants.{Refused as Unwritten, Written}
 use lib.Pow.{are_bytes}
 use Rattle.file_records.specs.Records.{two_bytes}
 use Rattle.netfile_format.specs.Files.{Reading, refused, read, read_file, reach_records, file_of}
 use Rattle.netfile_format.specs.Answers.{read_answer, with_room, reaches_read, NetworkRead, reaches_at, span_of, Fills, NetworkWritten, read_number, reading_number}
-use Rattle.file_records.specs.declared.WriteAnswer.{WriteAnswer}
 use Rattle.file_records.specs.Puts.{Wrote, room_for, WroteWhole}
 use Rattle.network.specs.Replies.{first_of}
 use Rattle.netfile_format.proofs.Files.{file-write-read, length-file, reaches-again, span-again}
 use Rattle.lists.proofs.Lists.{sets-after}
 use Rattle.file_records.proofs.Puts.{put_refused, put-short, put_whole}
 
-pub reading-refused : (x : Reading) (r : Refusal) → read_answer x ≡ Refused r → x ≡ refused r
+pub reading-refused : (x : Reading) (r : Refusal) → read_answer x ≡ Err r → x ≡ refused r
 reading-refused (refused e) r h = cc
 reading-refused (read N) r h = cc
 
@@ -39,9 +37,11 @@ pub record Counted (x : Reading) (n m : ℕ) : Type 0 where
   pub basins : network.basins ≡ n
   pub reaches : length network.reaches ≡ m
 
-pub answer-read : (x : Reading) (n m : ℕ) → read_answer x ≡ Read n m → Counted x n m
+pub answer-read : (x : Reading) (n m : ℕ) → read_answer x ≡ Ok (counts n m) → Counted x n m
 answer-read (refused e) n m h = absurd (true≢false (cc))
-answer-read (read N) n m h = record { network = N; is = refl; basins = cc; reaches = cc }
+answer-read (read N) n m h =
+    let e : counts_of N ≡ counts n m = cc in
+    record { network = N; is = refl; basins = ap (λ c. c.basins) e; reaches = ap (λ c. c.reaches) e }
 
 number_read : (x : Reading) → read_number (read_answer x) ≡ reading_number x
 number_read (refused r) = refl
@@ -58,14 +58,14 @@ module _ (file kinds a b : List ℕ) where
   untouched : RowsFilled [] kinds a b kinds a b
   untouched = record { kind_row = refl; a-row = refl; b-row = refl }
 
-  pub call-refused : (r : Refusal) → read_answer (read_file file) ≡ Refused r → NetworkRead file kinds a b (Refused r) kinds a b
+  pub call-refused : (r : Refusal) → read_answer (read_file file) ≡ Err r → NetworkRead file kinds a b (Err r) kinds a b
   call-refused r h = call-of kinds a b (refused r) (rw (reading-refused (read_file file) r h)) untouched
 
-  module _ (n m : ℕ) (h : read_answer (read_file file) ≡ Read n m) where
+  module _ (n m : ℕ) (h : read_answer (read_file file) ≡ Ok (counts n m)) where
     C : Counted (read_file file) n m
     C = answer-read (read_file file) n m h
 
-    pub call-short : room_of kinds a b < m → NetworkRead file kinds a b (Refused ShortBuffer) kinds a b
+    pub call-short : room_of kinds a b < m → NetworkRead file kinds a b (Err ShortBuffer) kinds a b
     call-short l =
         call-of kinds a b (refused ShortBuffer)
         (rw (C.is, lt-leb (length C.network.reaches) (room_of kinds a b) (omega (arith, C.reaches))))
@@ -92,7 +92,7 @@ module _ (file kinds a b : List ℕ) where
       table = of-table reaches_at ∙ reaches-again C.network.reaches (9 ∷ [])
 
       pub call-read :
-          (kinds' a' b' : List ℕ) → RowsFilled (reaches_at m (drop 3 file)) kinds a b kinds' a' b' → NetworkRead file kinds a b (Read n m) kinds' a' b'
+          (kinds' a' b' : List ℕ) → RowsFilled (reaches_at m (drop 3 file)) kinds a b kinds' a' b' → NetworkRead file kinds a b (Ok (counts n m)) kinds' a' b'
       call-read kinds' a' b' rows =
           subst (λ r. NetworkRead file kinds a b r kinds' a' b') (rw (C.basins, C.reaches))
           (call-of kinds' a' b' (read C.network)
@@ -110,7 +110,7 @@ room-kept room (read M) N h = go (leb (length M.reaches) room) h
 
 -- ---- the rows after a reading
 
-module _ (file kinds a b kinds' a' b' : List ℕ) (n m : ℕ) (c : NetworkRead file kinds a b (Read n m) kinds' a' b') where
+module _ (file kinds a b kinds' a' b' : List ℕ) (n m : ℕ) (c : NetworkRead file kinds a b (Ok (counts n m)) kinds' a' b') where
   pub counted : Counted (with_room (room_of kinds a b) (read_file file)) n m
   counted = answer-read (with_room (room_of kinds a b) (read_file file)) n m (sym c.answer)
 
@@ -127,20 +127,20 @@ module _ (file kinds a b kinds' a' b' : List ℕ) (n m : ℕ) (c : NetworkRead f
 -- ---- the writer
 
 module _ (N : Network) (out : List ℕ) where
-  pub write-refused : (r : Refusal) → table_fault N ≡ some r → NetworkWritten N out (Unwritten r) out
+  pub write-refused : (r : Refusal) → table_fault N ≡ some r → NetworkWritten N out (Err r) out
   write-refused r h = put_refused (file_of N) out r (rw h)
 
   module _ (h : table_fault N ≡ none) (size : ℕ) (e : size ≡ length (file_of N)) where
     -- an accepted table leaves only the room to be judged
-    fits : {r : WriteAnswer} {out' : List ℕ} → WroteWhole (file_of N) out r out' → NetworkWritten N out r out'
+    fits : {r : Result ℕ Refusal} {out' : List ℕ} → WroteWhole (file_of N) out r out' → NetworkWritten N out r out'
     fits {r} {out'} p = subst (λ o. Wrote (first_of o (room_for (file_of N) (length out))) (file_of N) out r out') (sym h) p
 
-    pub write-short : length out < size → NetworkWritten N out (Unwritten ShortBuffer) out
+    pub write-short : length out < size → NetworkWritten N out (Err ShortBuffer) out
     write-short l = fits (put-short (file_of N) out (omega arith))
 
     pub write_done :
         (l₁ l₂ : List ℕ) → size ≤ length out → l₁ ≡ sets (set out 0 1) 1 (two_bytes N.basins) → l₂ ≡ sets l₁ 3 (reach_records N.reaches)
-        → NetworkWritten N out (Written size) (set l₂ (size - 1) 9)
+        → NetworkWritten N out (Ok size) (set l₂ (size - 1) 9)
     write_done l₁ l₂ l p q = fits (put_whole (file_of N) out size (set l₂ (size - 1) 9) e l whole)
       where
         front : List ℕ

@@ -1,5 +1,6 @@
 -- The network file is read as it is written, and written as it is read.
 -- Assumes nothing.
+use Rattle.std.specs.Prelude.{Err, Ok, Result}
 use Prim.Native.Nat.{ℕ, zero, suc, ◌+◌, ◌≤◌}
 use native.Mathlib.Nat.{le_of_suc-le-suc}
 use native.Mathlib.Omega.{arith}
@@ -21,8 +22,6 @@ use Rattle.network.specs.declared.Refusal.TheVariants.{BasinCount, TooManyReache
 use Rattle.lists.specs.Lists.{every}
 use Rattle.network.specs.Networks.{Network, Accepted, max_basins, max_reaches}
 use Rattle.lists.specs.Words.{word_of}
-use Rattle.file_records.specs.declared.Taken.{Taken}
-use Rattle.file_records.specs.declared.Taken.TheVariants.{Broken, Whole}
 use Rattle.file_records.specs.Records.{body_of, two_bytes, take_record, taken_answer}
 use lib.Pow.{are_bytes}
 use Rattle.netfile_format.specs.Files.{reach_kind, known_kind, record_kind, state_record, reach_record, reach_records, file_of, head_due, reach_due, good_inner, Reading, refused, read, at_end, with_reach, read_reaches, read_basins, read_file}
@@ -48,7 +47,7 @@ kind-listed TwoWay = refl
 
 -- the bytes f start with the record of the reach r, and rest comes after it
 record Starts (r : Reach) (rest f : List ℕ) : Type 0 where
-  pub taken : taken_answer (take_record reach_due f) ≡ Whole (get_or f 0 0)
+  pub taken : taken_answer (take_record reach_due f) ≡ Ok (get_or f 0 0)
   pub no_end : get_or f 0 0 ≡ 9 → ⊥
   pub inner : good_inner (get_or f 0 0) (drop 1 f) ≡ true
   pub reach : reach_at_front f ≡ r
@@ -155,10 +154,10 @@ with-reach-is r (read M) N h = (M, refl, cc)
 -- the end, which ends the file; a reach is left to h
 unread-end :
     (n left : ℕ) (f : List ℕ) (N : Network) → read_reaches n left f ≡ read N
-    → ((k : ℕ) → taken_answer (take_record reach_due f) ≡ Whole k → (k ≡ 9 → ⊥) → Unread n left f N) → Unread n left f N
+    → ((k : ℕ) → taken_answer (take_record reach_due f) ≡ Ok k → (k ≡ 9 → ⊥) → Unread n left f N) → Unread n left f N
 unread-end n left f N e h = go (taken_answer (take_record reach_due f)) refl
   where
-    ended : taken_answer (take_record reach_due f) ≡ Whole 9 → Unread n left f N
+    ended : taken_answer (take_record reach_due f) ≡ Ok 9 → Unread n left f N
     ended w =
         let x = end_is n (drop 1 f) N (sym (step_end n left f w) ∙ e) in
         rw x.1
@@ -169,17 +168,17 @@ unread-end n left f N e h = go (taken_answer (take_record reach_due f)) refl
           ends = refl;
         })
 
-    go : (a : Taken) → taken_answer (take_record reach_due f) ≡ a → Unread n left f N
-    go (Broken r) w = no-network r N (sym (step-broken n left f r w) ∙ e)
-    go (Whole k) w = test (eqb k 9) refl
+    go : (a : Result ℕ Refusal) → taken_answer (take_record reach_due f) ≡ a → Unread n left f N
+    go (Err r) w = no-network r N (sym (step-broken n left f r w) ∙ e)
+    go (Ok k) w = test (eqb k 9) refl
       where
         test : (b : Bool) → eqb k 9 ≡ b → Unread n left f N
-        test true q = ended (w ∙ ap Whole (eqb-true k 9 q))
+        test true q = ended (w ∙ ap Ok (eqb-true k 9 q))
         test false q = h k w (eqb-false k 9 q)
 
 -- a reach, and what is known of the bytes after it
 unread-reach :
-    (n left : ℕ) (f : List ℕ) (N : Network) (k : ℕ) → are_bytes f ≡ true → taken_answer (take_record reach_due f) ≡ Whole k → (k ≡ 9 → ⊥)
+    (n left : ℕ) (f : List ℕ) (N : Network) (k : ℕ) → are_bytes f ≡ true → taken_answer (take_record reach_due f) ≡ Ok k → (k ≡ 9 → ⊥)
     → good_inner k (drop 1 f) ≡ true → read_reaches n (suc left) f ≡ read N
     → ((M : Network) → read_reaches n left (drop (record_length k) f) ≡ read M → Unread n left (drop (record_length k) f) M)
     → Unread n (suc left) f N
@@ -213,7 +212,7 @@ unread-reach n left f N k b w q i e rec = go (ends_below n r) refl
 
 -- its inner kind, without which nothing is read; a good one is left to h
 unread-inner :
-    (n left : ℕ) (f : List ℕ) (N : Network) (k : ℕ) → taken_answer (take_record reach_due f) ≡ Whole k → (k ≡ 9 → ⊥) → read_reaches n left f ≡ read N
+    (n left : ℕ) (f : List ℕ) (N : Network) (k : ℕ) → taken_answer (take_record reach_due f) ≡ Ok k → (k ≡ 9 → ⊥) → read_reaches n left f ≡ read N
     → (good_inner k (drop 1 f) ≡ true → Unread n left f N) → Unread n left f N
 unread-inner n left f N k w q e h = go (good_inner k (drop 1 f)) refl
   where
@@ -244,7 +243,7 @@ file-write-read f N b e = go (taken_answer (take_record head_due f)) refl
     n = word_of (take 2 (drop 1 f))
 
     good-head :
-        (k : ℕ) → taken_answer (take_record head_due f) ≡ Whole k → leb 1 n && leb n max_basins ≡ true → read_reaches n max_reaches (drop 3 f) ≡ read N
+        (k : ℕ) → taken_answer (take_record head_due f) ≡ Ok k → leb 1 n && leb n max_basins ≡ true → read_reaches n max_reaches (drop 3 f) ≡ read N
         → WasWritten f N
     good-head k w g h =
         let u = unread n max_reaches (drop 3 f) N (bytes_drop 3 f b) h in
@@ -258,14 +257,14 @@ file-write-read f N b e = go (taken_answer (take_record head_due f)) refl
         }
 
     value :
-        (k : ℕ) → taken_answer (take_record head_due f) ≡ Whole k → (x : Bool) → leb 1 n && leb n max_basins ≡ x
+        (k : ℕ) → taken_answer (take_record head_due f) ≡ Ok k → (x : Bool) → leb 1 n && leb n max_basins ≡ x
         → read_basins n (drop 3 f) ≡ read N → WasWritten f N
     value k w true g h = good-head k w g (rw g at h)
     value k w false g h = no-network BasinCount N (rw g at h)
 
-    go : (a : Taken) → taken_answer (take_record head_due f) ≡ a → WasWritten f N
-    go (Broken r) w = no-network r N (sym (head-broken f r w) ∙ e)
-    go (Whole k) w = value k w (leb 1 n && leb n max_basins) refl (sym (head_at f k w).next ∙ e)
+    go : (a : Result ℕ Refusal) → taken_answer (take_record head_due f) ≡ a → WasWritten f N
+    go (Err r) w = no-network r N (sym (head-broken f r w) ∙ e)
+    go (Ok k) w = value k w (leb 1 n && leb n max_basins) refl (sym (head_at f k w).next ∙ e)
 
 -- Two files that are read as one network are the same bytes.
 pub same-file : (f g : List ℕ) (N : Network) → are_bytes f ≡ true → are_bytes g ≡ true → read_file f ≡ read N → read_file g ≡ read N → f ≡ g

@@ -1,11 +1,11 @@
 -- The kinds that may come in a network file, their bodies, and the inner kinds of shut reaches.
 -- Assumes nothing.
+use Rattle.std.specs.Prelude.{Some}
 use Prim.Native.Nat.{ℕ, zero, suc, ◌-◌, ◌≤◌}
 use native.Mathlib.Omega.{arith}
 use mathlib.Core.Path.{◌≡◌, refl, subst⁻¹}
 use mathlib.Core.Bool.{true, false, or-false, false≢true}
 use mathlib.Core.List.{List, [], ◌∷◌}
-use mathlib.Core.Option.{some}
 use mathlib.Core.Logic.{⊎_elim}
 use lib.Dec.{eqb}
 use borrow.Author.Tests.{eqb-true}
@@ -38,11 +38,11 @@ of-reach P p q r s k h = of-elem (λ k. (k ≡ 9 → ⊥) → P k) reach_due (λ
 pub comes-first : (k : ℕ) → elem k head_due ≡ true → k ≡ 1
 comes-first k h = eqb-true k 1 (rw or-false at h)
 
-pub body-reach : (k : ℕ) → Reaching k → body_of k ≡ some (record_length k - 1)
+pub body-reach : (k : ℕ) → Reaching k → body_of k ≡ Some (record_length k - 1)
 unfolding body_of
-body-reach = of-reach (λ k. body_of k ≡ some (record_length k - 1)) refl refl refl refl
+body-reach = of-reach (λ k. body_of k ≡ Some (record_length k - 1)) refl refl refl refl
 
-pub body-head : body_of 1 ≡ some 2
+pub body-head : body_of 1 ≡ Some 2
 unfolding body_of
 body-head = refl
 

@@ -1,5 +1,7 @@
 -- The scan of a file's reaches: what is known of the reading after i of them.
 -- Assumes nothing.
+use Rattle.network.specs.declared.Counts.{Counts}
+use Rattle.std.specs.Prelude.{Err, Ok, Result}
 use Prim.Native.Nat.{ℕ, suc, ◌+◌, ◌-◌, ◌≤◌, ◌<◌}
 use native.Mathlib.Omega.{arith}
 use mathlib.Core.Path.{◌≡◌, refl, sym, ap, ◌∙◌}
@@ -12,12 +14,9 @@ use borrow.Author.Tests.{eqb-true}
 use Rattle.network.specs.declared.Refusal.{Refusal}
 use Rattle.network.specs.declared.Refusal.TheVariants.{TooManyReaches, EndOutOfRange, UnknownKind, TrailingBytes}
 use Rattle.network.specs.declared.Reach.{Reach}
-use Rattle.network.specs.Networks.{max_reaches}
+use Rattle.network.specs.Networks.{max_reaches, counts}
 use Rattle.network.proofs.Networks.{ends_below}
 use Rattle.tables.proofs.Faults.{ends-good, ends-bad}
-use Rattle.file_records.specs.declared.Taken.TheVariants.{Broken, Whole}
-use Rattle.netfile_format.specs.declared.ReadAnswer.{ReadAnswer}
-use Rattle.netfile_format.specs.declared.ReadAnswer.TheVariants.{Refused, Read}
 use Rattle.file_records.specs.Records.{take_record, taken_answer}
 use Rattle.netfile_format.specs.Files.{reach_due, Reading, refused, read, at_end, good_inner, with_reach, read_reaches}
 use Rattle.netfile_format.specs.Answers.{read_answer, record_length}
@@ -25,20 +24,20 @@ use Rattle.netfile_format.proofs.Steps.{reach_from, step-broken, step_end, reach
 
 -- a whole record of kind k stands at a position
 abbrev pub ReachStood : List ℕ → ℕ → ℕ → Type 0
-ReachStood file at k = taken_answer (take_record reach_due (drop at file)) ≡ Whole k
+ReachStood file at k = taken_answer (take_record reach_due (drop at file)) ≡ Ok k
 
 -- an answer with so many reaches more
-abbrev counted : ℕ → ReadAnswer → ReadAnswer
-counted i (Refused r) = Refused r
-counted i (Read n m) = Read n (i + m)
+abbrev counted : ℕ → Result Counts Refusal → Result Counts Refusal
+counted i (Err r) = Err r
+counted i (Ok c) = Ok (counts c.basins (i + c.reaches))
 
-counted_none : (x : ReadAnswer) → x ≡ counted 0 x
-counted_none (Refused r) = refl
-counted_none (Read n m) = ap (Read n) (omega arith)
+counted_none : (x : Result Counts Refusal) → x ≡ counted 0 x
+counted_none (Err r) = refl
+counted_none (Ok c) = ap (λ (m : ℕ). Ok (counts c.basins m)) (omega arith)
 
 counted-one : (i : ℕ) (r : Reach) (x : Reading) → counted i (read_answer (with_reach r x)) ≡ counted (i + 1) (read_answer x)
 counted-one i r (refused e) = refl
-counted-one i r (read N) = ap (Read N.basins) (omega arith)
+counted-one i r (read N) = ap (λ (m : ℕ). Ok (counts N.basins m)) (omega arith)
 
 at-end-over : (n : ℕ) (f : List ℕ) → 0 < length f → at_end n f ≡ refused TrailingBytes
 at-end-over n [] l = absurd (omega arith)
@@ -69,30 +68,30 @@ module _ {n : ℕ} {file : List ℕ} {at i : ℕ} (s : FileScanned n file at i) 
   decides x e = sym (s.reading ∙ ap (λ y. counted i (read_answer y)) e)
 
   pub scan-broken :
-      (r : Refusal) → taken_answer (take_record reach_due (drop at file)) ≡ Broken r
-      → Refused r ≡ read_answer (read_reaches n max_reaches (drop 3 file))
+      (r : Refusal) → taken_answer (take_record reach_due (drop at file)) ≡ Err r
+      → Err r ≡ read_answer (read_reaches n max_reaches (drop 3 file))
   scan-broken r e = decides (refused r) (step-broken n (max_reaches - i) (drop at file) r e)
 
   module _ {k : ℕ} (e : ReachStood file at k) where
     ends : k ≡ 9 → read_reaches n (max_reaches - i) (drop at file) ≡ at_end n (drop (at + 1) file)
-    ends q = step_end n (max_reaches - i) (drop at file) (e ∙ ap Whole q) ∙ rw drop-drop
+    ends q = step_end n (max_reaches - i) (drop at file) (e ∙ ap Ok q) ∙ rw drop-drop
 
-    pub scan-over : k ≡ 9 → at + 1 < length file → Refused TrailingBytes ≡ read_answer (read_reaches n max_reaches (drop 3 file))
+    pub scan-over : k ≡ 9 → at + 1 < length file → Err TrailingBytes ≡ read_answer (read_reaches n max_reaches (drop 3 file))
     scan-over q l = decides (refused TrailingBytes) (ends q ∙ at-end-over n (drop (at + 1) file) (simp length-drop (omega arith)))
 
-    pub scan-end : k ≡ 9 → length file ≤ at + 1 → Read n i ≡ read_answer (read_reaches n max_reaches (drop 3 file))
+    pub scan-end : k ≡ 9 → length file ≤ at + 1 → Ok (counts n i) ≡ read_answer (read_reaches n max_reaches (drop 3 file))
     scan-end q l =
-        ap (Read n) (omega arith) ∙ decides (read (record { basins = n; reaches = [] })) (ends q ∙ rw (drop_of_length-le file l))
+        ap (λ (m : ℕ). Ok (counts n m)) (omega arith) ∙ decides (read (record { basins = n; reaches = [] })) (ends q ∙ rw (drop_of_length-le file l))
 
     -- the inner kind, which only a shut reach has
     abbrev inner : Bool
     inner = good_inner k (drop (at + 1) file)
 
-    scan-unknown : (k ≡ 9 → ⊥) → inner ≡ false → Refused UnknownKind ≡ read_answer (read_reaches n max_reaches (drop 3 file))
+    scan-unknown : (k ≡ 9 → ⊥) → inner ≡ false → Err UnknownKind ≡ read_answer (read_reaches n max_reaches (drop 3 file))
     scan-unknown q g = decides (refused UnknownKind) ((reach-at n file at k e q).unknown (max_reaches - i) g)
 
     module _ (q : k ≡ 9 → ⊥) (g : inner ≡ true) where
-      pub scan-full : i ≡ max_reaches → Refused TooManyReaches ≡ read_answer (read_reaches n max_reaches (drop 3 file))
+      pub scan-full : i ≡ max_reaches → Err TooManyReaches ≡ read_answer (read_reaches n max_reaches (drop 3 file))
       scan-full h =
           let none : max_reaches - i ≡ 0 = omega arith in
           decides (refused TooManyReaches) (rw none ((reach-at n file at k e q).full g))
@@ -104,7 +103,7 @@ module _ {n : ℕ} {file : List ℕ} {at i : ℕ} (s : FileScanned n file at i) 
         abbrev passed : Reach
         passed = reach_from k (drop (at + 1) file) (drop (at + 3) file)
 
-        pub scan-stray : (passed.a < n → passed.b < n → ⊥) → Refused EndOutOfRange ≡ read_answer (read_reaches n max_reaches (drop 3 file))
+        pub scan-stray : (passed.a < n → passed.b < n → ⊥) → Err EndOutOfRange ≡ read_answer (read_reaches n max_reaches (drop 3 file))
         scan-stray o =
             decides (refused EndOutOfRange)
             (rw more ((reach-at n file at k e q).next (max_reaches - (i + 1)) g ∙ rw (one-bad n passed o)))
@@ -129,11 +128,11 @@ module _ {n : ℕ} {file : List ℕ} {at i : ℕ} (s : FileScanned n file at i) 
     pub scan-values :
         (k ≡ 9 → ⊥) → {g : Bool} → g ≡ inner
         → let answer = read_answer (read_reaches n max_reaches (drop 3 file)) in
-        answer ≡ cond (not g) (Refused UnknownKind) (cond (eqb i max_reaches) (Refused TooManyReaches) answer)
+        answer ≡ cond (not g) (Err UnknownKind) (cond (eqb i max_reaches) (Err TooManyReaches) answer)
     scan-values q {g} is = go g is (eqb i max_reaches) refl
       where
         go : (g : Bool) → g ≡ inner → (f : Bool) → eqb i max_reaches ≡ f
-            → read_answer (read_reaches n max_reaches (drop 3 file)) ≡ cond (not g) (Refused UnknownKind) (cond f (Refused TooManyReaches) (read_answer (read_reaches n max_reaches (drop 3 file))))
+            → read_answer (read_reaches n max_reaches (drop 3 file)) ≡ cond (not g) (Err UnknownKind) (cond f (Err TooManyReaches) (read_answer (read_reaches n max_reaches (drop 3 file))))
         go false e f h = sym (scan-unknown q (sym e))
         go true e true h = sym (scan-full q (sym e) (eqb-true i max_reaches h))
         go true e false h = refl

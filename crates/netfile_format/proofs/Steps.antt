@@ -1,5 +1,6 @@
 -- One record after the head: what it does to the reading of a file.
 -- Assumes nothing.
+use Rattle.std.specs.Prelude.{Err, Ok}
 use Prim.Native.Nat.{ℕ, zero, suc, ◌+◌, ◌-◌, ◌≤◌}
 use native.Mathlib.Omega.{arith}
 use mathlib.Core.Path.{◌≡◌, refl, sym, ap, ◌∙◌}
@@ -20,7 +21,6 @@ use Rattle.network.specs.Tables.{state_number}
 use Rattle.lists.specs.Words.{word_of}
 use Rattle.network.proofs.Networks.{ends_below}
 use Rattle.tables.proofs.Faults.{count-good, count-bad}
-use Rattle.file_records.specs.declared.Taken.TheVariants.{Broken, Whole}
 use Rattle.file_records.specs.Records.{body_of, broken, whole, take_record, taken_answer}
 use Rattle.netfile_format.specs.Files.{known_kind, record_kind, head_due, reach_due, inner_kind, record_state, good_inner, record_reach, refused, at_end, with_reach, read_reaches, read_basins, read_file}
 use Rattle.netfile_format.specs.Answers.{record_length, reach_at_front}
@@ -29,7 +29,7 @@ use Rattle.netfile_format.proofs.Marking.{Reaching, of-reach, comes-first, body-
 use Rattle.file_records.proofs.Records.{body_end}
 
 module _ (n : ℕ) (left : ℕ) (f : List ℕ) where
-  pub step-broken : (r : Refusal) → taken_answer (take_record reach_due f) ≡ Broken r → read_reaches n left f ≡ refused r
+  pub step-broken : (r : Refusal) → taken_answer (take_record reach_due f) ≡ Err r → read_reaches n left f ≡ refused r
   unfolding read_reaches
   step-broken r e = go left
     where
@@ -40,7 +40,7 @@ module _ (n : ℕ) (left : ℕ) (f : List ℕ) where
       go zero = rw is
       go (suc left) = rw is
 
-  pub step_end : taken_answer (take_record reach_due f) ≡ Whole 9 → read_reaches n left f ≡ at_end n (drop 1 f)
+  pub step_end : taken_answer (take_record reach_due f) ≡ Ok 9 → read_reaches n left f ≡ at_end n (drop 1 f)
   unfolding read_reaches
   step_end e = go left
     where
@@ -112,7 +112,7 @@ pub record ReachStep (n : ℕ) (f : List ℕ) (k : ℕ) : Type 0 where
       → let r = reach_from k (drop 1 f) (drop 3 f) in
       read_reaches n (suc left) f ≡ cond (ends_below n r) (with_reach r (read_reaches n left (drop (record_length k) f))) (refused EndOutOfRange)
 
-pub reach-front : (n : ℕ) (f : List ℕ) (k : ℕ) → taken_answer (take_record reach_due f) ≡ Whole k → (k ≡ 9 → ⊥) → ReachStep n f k
+pub reach-front : (n : ℕ) (f : List ℕ) (k : ℕ) → taken_answer (take_record reach_due f) ≡ Ok k → (k ≡ 9 → ⊥) → ReachStep n f k
 unfolding read_reaches
 reach-front n f k e q =
     record {
@@ -159,7 +159,7 @@ pub record ReachAt (n : ℕ) (file : List ℕ) (at k : ℕ) : Type 0 where
       ≡ cond (ends_below n r) (with_reach r (read_reaches n left (drop (at + record_length k) file))) (refused EndOutOfRange)
 
 pub reach-at :
-    (n : ℕ) (file : List ℕ) (at k : ℕ) → taken_answer (take_record reach_due (drop at file)) ≡ Whole k → (k ≡ 9 → ⊥)
+    (n : ℕ) (file : List ℕ) (at k : ℕ) → taken_answer (take_record reach_due (drop at file)) ≡ Ok k → (k ≡ 9 → ⊥)
     → ReachAt n file at k
 reach-at n file at k e q =
     record {
@@ -200,7 +200,7 @@ pub head_step :
 unfolding read_file
 head_step f k l t = record { fits = l; next = rw (t, drop-drop 2 1 f) }
 
-pub head_at : (file : List ℕ) (k : ℕ) → taken_answer (take_record head_due file) ≡ Whole k → HeadStep file
+pub head_at : (file : List ℕ) (k : ℕ) → taken_answer (take_record head_due file) ≡ Ok k → HeadStep file
 head_at file k e = head_step file k (omega (arith, s.long, two)) (rw two at s.taken)
   where
     s : Stands head_due file k
@@ -209,12 +209,12 @@ head_at file k e = head_step file k (omega (arith, s.long, two)) (rw two at s.ta
     two : s.size ≡ 2
     two = same_size s.sized (ap body_of (comes-first k s.comes) ∙ body-head)
 
-pub head-broken : (file : List ℕ) (r : Refusal) → taken_answer (take_record head_due file) ≡ Broken r → read_file file ≡ refused r
+pub head-broken : (file : List ℕ) (r : Refusal) → taken_answer (take_record head_due file) ≡ Err r → read_file file ≡ refused r
 unfolding read_file
 head-broken file r e = rw (broken-is (take_record head_due file) r e)
 
 -- the head's value n
-module _ (file : List ℕ) (k : ℕ) (e : taken_answer (take_record head_due file) ≡ Whole k) (n : ℕ) (is : n ≡ word_of (take 2 (drop 1 file))) where
+module _ (file : List ℕ) (k : ℕ) (e : taken_answer (take_record head_due file) ≡ Ok k) (n : ℕ) (is : n ≡ word_of (take 2 (drop 1 file))) where
   valued : read_file file ≡ read_basins n (drop 3 file)
   valued = (head_at file k e).next ∙ ap (λ m. read_basins m (drop 3 file)) (sym is)
 

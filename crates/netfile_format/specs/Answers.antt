@@ -1,29 +1,27 @@
 -- What the calls answer, and what they leave in the rows and buffers that they are lent.
 -- Assumes nothing.
-use Rattle.std.specs.Prelude.{ℕ, zero, suc, ◌+◌, ◌≤◌, ◌≡◌, cond, List, [], ◌∷◌, ◌++◌, length, get_or, drop, leb, eqb}
+use Rattle.network.specs.declared.Counts.{Counts}
+use Rattle.std.specs.Prelude.{ℕ, zero, suc, ◌+◌, ◌≤◌, ◌≡◌, cond, List, [], ◌∷◌, ◌++◌, length, get_or, drop, leb, eqb, Err, Ok, Result}
 use Rattle.std.proofs.Math.Option.{Option}
 use Rattle.network.specs.declared.State.{State}
 use Rattle.network.specs.declared.Reach.{Reach}
 use Rattle.network.specs.declared.Refusal.{Refusal}
 use Rattle.network.specs.declared.Refusal.TheVariants.{ShortBuffer}
-use Rattle.network.specs.Networks.{Network, in_service, table_fault}
+use Rattle.network.specs.Networks.{Network, in_service, table_fault, counts_of}
 use Rattle.tables.specs.Rows.{room_of, RowsFilled}
 use Rattle.network.specs.Replies.{refusal_number, first_of}
-use Rattle.netfile_format.specs.declared.ReadAnswer.{ReadAnswer}
-use Rattle.netfile_format.specs.declared.ReadAnswer.TheVariants.{Refused, Read}
-use Rattle.file_records.specs.declared.WriteAnswer.{WriteAnswer}
 use Rattle.file_records.specs.Puts.{Wrote, room_for}
 use Rattle.netfile_format.specs.Files.{shut_kind, record_reach, Reading, refused, read, read_file, file_of}
 
 -- The reader's answer: the refusal, or "the counts it read".
-abbrev pub read_answer : Reading → ReadAnswer
-read_answer (refused r) = Refused r
-read_answer (read N) = Read N.basins (length N.reaches)
+abbrev pub read_answer : Reading → Result Counts Refusal
+read_answer (refused r) = Err r
+read_answer (read N) = Ok (counts_of N)
 
 -- Document 01's number of the reader's answer, 0 where the file is read; and the same of a reading.
-abbrev pub read_number : ReadAnswer → ℕ
-read_number (Refused r) = refusal_number r
-read_number (Read n m) = 0
+abbrev pub read_number : Result Counts Refusal → ℕ
+read_number (Err r) = refusal_number r
+read_number (Ok c) = 0
 
 abbrev pub reading_number : Reading → ℕ
 reading_number (refused r) = refusal_number r
@@ -40,7 +38,7 @@ reaches_read (refused r) = []
 reaches_read (read N) = N.reaches
 
 -- What the reader answers to a file, its number, and what it leaves in the rows that it is lent.
-pub record NetworkRead (file kinds a b : List ℕ) (r : ReadAnswer) (kinds' a' b' : List ℕ) : Type 0 where
+pub record NetworkRead (file kinds a b : List ℕ) (r : Result Counts Refusal) (kinds' a' b' : List ℕ) : Type 0 where
   pub answer : r ≡ read_answer (with_room (room_of kinds a b) (read_file file))
   pub number : read_number r ≡ reading_number (with_room (room_of kinds a b) (read_file file))
   pub rows : RowsFilled (reaches_read (with_room (room_of kinds a b) (read_file file))) kinds a b kinds' a' b'
@@ -50,7 +48,7 @@ abbrev pub left_in : Reading → List Reach → List Reach
 left_in R t = reaches_read R ++ drop (length (reaches_read R)) t
 
 -- What the reader answers to a file, its number, and what it leaves in the table that it is lent. "Readers need a record for each reach."
-pub record ReadTable (file : List ℕ) (t : List Reach) (r : ReadAnswer) (t' : List Reach) : Type 0 where
+pub record ReadTable (file : List ℕ) (t : List Reach) (r : Result Counts Refusal) (t' : List Reach) : Type 0 where
   pub answer : r ≡ read_answer (with_room (length t) (read_file file))
   pub number : read_number r ≡ reading_number (with_room (length t) (read_file file))
   pub table : t' ≡ left_in (with_room (length t) (read_file file)) t
@@ -87,5 +85,5 @@ abbrev pub write_fault : Network → ℕ → Option Refusal
 write_fault N room = first_of (table_fault N) (room_for (file_of N) room)
 
 -- What the writer answers to a network, its number, and what it leaves in the buffer: the file first; "all beyond is untouched".
-abbrev pub NetworkWritten : Network → List ℕ → WriteAnswer → List ℕ → Type 0
+abbrev pub NetworkWritten : Network → List ℕ → Result ℕ Refusal → List ℕ → Type 0
 NetworkWritten N out r out' = Wrote (write_fault N (length out)) (file_of N) out r out'

@@ -25,10 +25,3 @@ pub const SHUT_OFFSET: u8 = 3;
 pub const HEAD_DUE: [u8; 1] = [HEAD];
 
 pub const REACH_DUE: [u8; 5] = [GATED, FLAP, TWO_WAY, SHUT, END];
-
-// What a reader answers: a refusal, or the counts read.
-#[derive(Clone, Copy)]
-pub enum ReadAnswer {
-    Refused(Refusal),
-    Read { basins: u16, reaches: usize },
-}

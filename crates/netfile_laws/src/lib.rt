@@ -5,8 +5,7 @@
 ghost use Rattle.tables.specs.Rows.{net_of};
 ghost use Rattle.netfile_laws.specs.Laws.{NetworkWriteRead, NetworkReadWrite};
 
-use file_records::WriteAnswer;
-use netfile_format::ReadAnswer;
+use network::{Counts, Refusal};
 
 // A network that is written is read again as it was.
 pub fn write_then_read_network(
@@ -18,15 +17,13 @@ pub fn write_then_read_network(
     kinds2: &mut [u8],
     a2: &mut [u16],
     b2: &mut [u16],
-) -> ReadAnswer
+) -> Result<Counts, Refusal>
     ensures { NetworkWriteRead (net_of basins kinds.now a.now b.now) out.old
         kinds2.old a2.old b2.old
         result out.new kinds2.new a2.new b2.new }
 {
-    match netfile_rows::write_network(basins, kinds, a, b, out) {
-        WriteAnswer::Refused(r) => ReadAnswer::Refused(r),
-        WriteAnswer::Written(n) => netfile_rows::read_network(&out[..n], kinds2, a2, b2),
-    }
+    let n = netfile_rows::write_network(basins, kinds, a, b, out)?;
+    netfile_rows::read_network(&out[..n], kinds2, a2, b2)
 }
 
 // A file that is read is written again byte for byte.
@@ -36,20 +33,10 @@ pub fn read_then_write_network(
     a: &mut [u16],
     b: &mut [u16],
     out: &mut [u8],
-) -> WriteAnswer
+) -> Result<usize, Refusal>
     ensures { NetworkReadWrite file.now kinds.old a.old b.old out.old
         result kinds.new a.new b.new out.new }
 {
-    match netfile_rows::read_network(file, kinds, a, b) {
-        ReadAnswer::Refused(r) => WriteAnswer::Refused(r),
-        ReadAnswer::Read { basins, reaches } => {
-            netfile_rows::write_network(
-                basins,
-                &kinds[..reaches],
-                &a[..reaches],
-                &b[..reaches],
-                out,
-            )
-        }
-    }
+    let Counts { basins, reaches } = netfile_rows::read_network(file, kinds, a, b)?;
+    netfile_rows::write_network(basins, &kinds[..reaches], &a[..reaches], &b[..reaches], out)
 }

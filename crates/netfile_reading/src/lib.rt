@@ -12,12 +12,12 @@ ghost use Rattle.file_records.specs.Records.{take_record, taken_answer};
 ghost use Rattle.netfile_format.specs.Files.{known_kind, reach_due, record_kind, record_state, good_inner, read_reaches, read_file};
 ghost use Rattle.netfile_format.specs.Answers.{read_answer, record_length, reaches_at, Fills};
 
-use file_records::{END, Taken, take_record, word_at};
-use netfile_format::{FLAP, GATED, HEAD_DUE, REACH_DUE, ReadAnswer, SHUT, SHUT_OFFSET, TWO_WAY};
-use network::{MAX_BASINS, MAX_REACHES, Refusal};
+use file_records::{END, take_record, word_at};
+use netfile_format::{FLAP, GATED, HEAD_DUE, REACH_DUE, SHUT, SHUT_OFFSET, TWO_WAY};
+use network::{Counts, MAX_BASINS, MAX_REACHES, Refusal};
 
 // The record at a position after the head, a reach or the end.
-fn reach_or_end(file: &[u8], at: usize) -> Taken
+fn reach_or_end(file: &[u8], at: usize) -> Result<u8, Refusal>
     ensures { result ≡ taken_answer (take_record reach_due (drop at file.now)) }
 {
     take_record(file, at, &REACH_DUE)
@@ -85,37 +85,34 @@ fn record_front(file: &[u8], at: usize, kind: u8) -> RecordFront
 
 // The reaches and the end, which start after the head. Per record: its kind (5), its body (4), its inner kind (5), one reach too many (2), its ends (3); after
 // the end 6.
-fn check_reaches(file: &[u8], basins: u16) -> ReadAnswer
+fn check_reaches(file: &[u8], basins: u16) -> Result<Counts, Refusal>
     requires { 3 ≤ length file.now }
     ensures { result ≡ read_answer (read_reaches basins max_reaches (drop 3 file.now)) }
 {
     let mut at: usize = 3;
     let mut reaches: usize = 0;
     loop {
-        let kind = match reach_or_end(file, at) {
-            Taken::Broken(r) => return ReadAnswer::Refused(r),
-            Taken::Whole(kind) => kind,
-        };
+        let kind = reach_or_end(file, at)?;
         if kind == END {
             if at + 1 < file.len() {
-                return ReadAnswer::Refused(Refusal::TrailingBytes);
+                return Err(Refusal::TrailingBytes);
             }
-            return ReadAnswer::Read { basins, reaches };
+            return Ok(Counts { basins, reaches });
         }
         let front = record_front(file, at, kind);
         let wrong = !front.known;
         let full = reaches == MAX_REACHES;
         if wrong {
-            return ReadAnswer::Refused(Refusal::UnknownKind);
+            return Err(Refusal::UnknownKind);
         }
         if full {
-            return ReadAnswer::Refused(Refusal::TooManyReaches);
+            return Err(Refusal::TooManyReaches);
         }
         if basins <= word_at(file, at + 1) {
-            return ReadAnswer::Refused(Refusal::EndOutOfRange);
+            return Err(Refusal::EndOutOfRange);
         }
         if basins <= word_at(file, at + 3) {
-            return ReadAnswer::Refused(Refusal::EndOutOfRange);
+            return Err(Refusal::EndOutOfRange);
         }
         at += front.size;
         reaches += 1;
@@ -123,22 +120,18 @@ fn check_reaches(file: &[u8], basins: u16) -> ReadAnswer
 }
 
 // The counts of a file, which is judged to its end. Refuses: 5, 4, 1, 2, 3, 6. Writes nothing.
-pub fn check_network(file: &[u8]) -> ReadAnswer
+pub fn check_network(file: &[u8]) -> Result<Counts, Refusal>
     ensures { result ≡ read_answer (read_file file.now) }
 {
-    match take_record(file, 0, &HEAD_DUE) {
-        Taken::Broken(r) => ReadAnswer::Refused(r),
-        Taken::Whole(_) => {
-            let basins = word_at(file, 1);
-            if basins == 0 {
-                return ReadAnswer::Refused(Refusal::BasinCount);
-            }
-            if MAX_BASINS < basins as usize {
-                return ReadAnswer::Refused(Refusal::BasinCount);
-            }
-            check_reaches(file, basins)
-        }
+    take_record(file, 0, &HEAD_DUE)?;
+    let basins = word_at(file, 1);
+    if basins == 0 {
+        return Err(Refusal::BasinCount);
     }
+    if MAX_BASINS < basins as usize {
+        return Err(Refusal::BasinCount);
+    }
+    check_reaches(file, basins)
 }
 
 // The first n reaches of a file go to the rows.

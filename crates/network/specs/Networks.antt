@@ -6,6 +6,7 @@ use Rattle.network.specs.declared.Kind.{Kind}
 use Rattle.network.specs.declared.State.{State}
 use Rattle.network.specs.declared.State.TheVariants.{InService, Shut}
 use Rattle.network.specs.declared.Reach.{Reach}
+use Rattle.network.specs.declared.Counts.{Counts}
 use Rattle.network.specs.declared.Refusal.{Refusal}
 use Rattle.network.specs.declared.Refusal.TheVariants.{BasinCount, TooManyReaches, EndOutOfRange}
 use Rattle.lists.specs.Lists.{range, every, some?, keep}
@@ -21,6 +22,13 @@ max_reaches = 1024
 pub record Network : Type 0 where
   pub basins : ℕ
   pub reaches : List Reach
+
+-- So many basins and so many reaches, and those of a network.
+abbrev pub counts : ℕ → ℕ → Counts
+counts n m = record { basins = n; reaches = m }
+
+abbrev pub counts_of : Network → Counts
+counts_of N = counts N.basins (length N.reaches)
 
 -- The network of a basin count and a reach table.
 abbrev pub net : ℕ → List Reach → Network

@@ -35,6 +35,13 @@ pub struct Reach {
     pub b: u16,
 }
 
+// The basins and the reaches of a network, counted: what the reader of a network file and the call that contracts return.
+#[derive(Clone, Copy)]
+pub struct Counts {
+    pub basins: u16,
+    pub reaches: usize,
+}
+
 // The refusals that return a number only. specs/Replies.antt gives each its number in document 01.
 #[derive(Clone, Copy)]
 pub enum Refusal {

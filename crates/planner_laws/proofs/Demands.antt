@@ -1,5 +1,7 @@
 -- Demand 2 over the call of first, and demand 3 over the call of next and over a walker's step, from what the calls promise.
 -- Assumes nothing.
+use Rattle.replies.specs.declared.Reply.{Reply}
+use Rattle.std.specs.Prelude.{Result}
 use Prim.Native.Nat.{ℕ}
 use mathlib.Core.Path.{◌≡◌, refl, sym, ap, subst, subst⁻¹, ◌∙◌}
 use mathlib.Core.Bool.{true, false, true≢false}
@@ -23,7 +25,6 @@ use Rattle.network.proofs.Bridges.{bridge-blocks}
 use Rattle.network.proofs.Theorem.{plan-passable}
 use Rattle.network.proofs.Certificates.{shut-in-shown, bridge-shown}
 use Rattle.network.proofs.Replies.{lowest-is-bridge, trichotomy, First, is-plan, is-shut, is-bridge, first-cases, first-given, given-if-plan, unless-plan, next-given, last-plan, given-if-later, demand-3}
-use Rattle.replies.specs.declared.Answer.{Answer}
 use Rattle.replies.specs.Answers.{Replied, FirstCall, NextCall}
 use Rattle.walker.specs.declared.Stepped.{Stepped}
 use Rattle.walker.specs.Walkers.{setting_in, step_reply, Stepping}
@@ -38,20 +39,20 @@ data Sized (N : Network) : Outcome → Type 0 where
   sized-refused : {r : _} → Sized N (refused r)
 
 -- is read back from the buffers into which it was written
-read_back : (N : Network) (o : Outcome) {planBuffer marksBuffer plan' marks' : List ℕ} {r : Answer} → Sized N o → Replied o planBuffer marksBuffer plan' marks' r → read_reply N r plan' marks' ≡ o
+read_back : (N : Network) (o : Outcome) {planBuffer marksBuffer plan' marks' : List ℕ} {r : Result Reply Refusal} → Sized N o → Replied o planBuffer marksBuffer plan' marks' r → read_reply N r plan' marks' ≡ o
 read_back N (plan s) {planBuffer} {plan'} {marks'} (sized-plan e) w =
-    ap (λ (x : Answer). read_reply N x plan' marks') w.reply
+    ap (λ (x : Result Reply Refusal). read_reply N x plan' marks') w.reply
     ∙ ap (λ (l : List ℕ). plan (take (gate_count N) l)) w.plan-left
     ∙ ap plan (take_at s (drop (length s) planBuffer) (gate_count N) e)
 read_back N (shut_in m c) {marksBuffer} {plan'} {marks'} (sized-shut e) w =
-    ap (λ (x : Answer). read_reply N x plan' marks') w.reply
+    ap (λ (x : Result Reply Refusal). read_reply N x plan' marks') w.reply
     ∙ ap (λ (l : List ℕ). shut_in (take mark_bytes l) c) w.marks-left
     ∙ ap (λ (l : List ℕ). shut_in l c) (take_at m (drop (length m) marksBuffer) mark_bytes e)
 read_back N (lone i m c) {marksBuffer} {plan'} {marks'} (sized-lone e) w =
-    ap (λ (x : Answer). read_reply N x plan' marks') w.reply
+    ap (λ (x : Result Reply Refusal). read_reply N x plan' marks') w.reply
     ∙ ap (λ (l : List ℕ). lone i (take mark_bytes l) c) w.marks-left
     ∙ ap (λ (l : List ℕ). lone i l c) (take_at m (drop (length m) marksBuffer) mark_bytes e)
-read_back N (refused x) {plan'} {marks'} sized-refused w = ap (λ (y : Answer). read_reply N y plan' marks') w.reply
+read_back N (refused x) {plan'} {marks'} sized-refused w = ap (λ (y : Result Reply Refusal). read_reply N y plan' marks') w.reply
 
 -- what first and next reply has these lengths
 answer-sized : (N : Network) → Accepted N → (o : Option (List ℕ)) → ((p : List ℕ) → o ≡ some p → is_plan N p ≡ true) → Sized N (answer N o)
@@ -90,7 +91,7 @@ first-reply-sized N plan_length marks_length = unless-sized N (table_fault N) (�
 
 -- what a caller of first reads is the reply of the definition, whatever the input
 pub first_read :
-    (N : Network) {planBuffer marksBuffer plan' marks' : List ℕ} {r : Answer} → FirstCall N planBuffer marksBuffer r plan' marks' → read_reply N r plan' marks' ≡ first_reply N (length planBuffer) (length marksBuffer)
+    (N : Network) {planBuffer marksBuffer plan' marks' : List ℕ} {r : Result Reply Refusal} → FirstCall N planBuffer marksBuffer r plan' marks' → read_reply N r plan' marks' ≡ first_reply N (length planBuffer) (length marksBuffer)
 first_read N {planBuffer} {marksBuffer} = read_back N (first_reply N (length planBuffer) (length marksBuffer)) (first-reply-sized N (length planBuffer) (length marksBuffer))
 
 -- ---- demand 2
@@ -190,7 +191,7 @@ module _ (N : Network) (ok : Accepted N) where
 
 -- a call of first, on rows (`planner_rows::first_plan`) or on records (`planner::first_plan`): both promise `FirstCall` of the lent table's network, and that is all
 -- that is asked here
-module _ (N : Network) {planBuffer marksBuffer plan' marks' : List ℕ} {r : Answer} where
+module _ (N : Network) {planBuffer marksBuffer plan' marks' : List ℕ} {r : Result Reply Refusal} where
   pub first-demand : FirstCall N planBuffer marksBuffer r plan' marks' → FirstOver N planBuffer marksBuffer plan' marks' r
   first-demand c a = subst⁻¹ (FirstShown N) (first_read N c ∙ first-roomy N a) (first-shown N a.accepted)
 
@@ -201,7 +202,7 @@ module _ (N : Network) {planBuffer marksBuffer plan' marks' : List ℕ} {r : Ans
 
 module _ (N : Network) (s : List ℕ) {planBuffer marksBuffer : List ℕ} where
   -- what a caller of next reads is the reply of the definition, whatever the input
-  pub next-read : {plan' marks' : List ℕ} {r : Answer} → NextCall N s planBuffer marksBuffer r plan' marks' → read_reply N r plan' marks' ≡ next_reply N s (length planBuffer) (length marksBuffer)
+  pub next-read : {plan' marks' : List ℕ} {r : Result Reply Refusal} → NextCall N s planBuffer marksBuffer r plan' marks' → read_reply N r plan' marks' ≡ next_reply N s (length planBuffer) (length marksBuffer)
   next-read = read_back N (next_reply N s (length planBuffer) (length marksBuffer)) (reply-sized N s (length planBuffer) (length marksBuffer))
 
   -- where nothing is refused by number before the search
@@ -232,7 +233,7 @@ demand-three N s t ok hs ht {o} {o'} e f =
 -- ---- two calls of next, on rows (`planner_rows::next_plan`) or on records (`planner::next_plan`): both promise `NextCall` of the lent table's network,
 -- and that is all that is asked here
 
-module _ (N : Network) (s t : List ℕ) {plan₁ marks₁ plan₂ marks₂ plan₁' marks₁' plan₂' marks₂' : List ℕ} {r₁ r₂ : Answer} where
+module _ (N : Network) (s t : List ℕ) {plan₁ marks₁ plan₂ marks₂ plan₁' marks₁' plan₂' marks₂' : List ℕ} {r₁ r₂ : Result Reply Refusal} where
   pub demand-over :
       NextCall N s plan₁ marks₁ r₁ plan₁' marks₁' → NextCall N t plan₂ marks₂ r₂ plan₂' marks₂' → DemandOver N s t plan₁ marks₁ plan₂ marks₂ plan₁' marks₁' plan₂' marks₂' r₁ r₂
   demand-over c d a b =

@@ -1,6 +1,8 @@
 -- Demands 2 and 3, said of what a caller of first, of next or of a walker's step gets: the answer, and the plan or the marks in the lent buffers.
 -- Assumes nothing.
-use Rattle.std.specs.Prelude.{ℕ, ◌≤◌, ◌≡◌, true, false, ◌↔◌, List, length, take, drop}
+use Rattle.replies.specs.declared.Reply.{Reply}
+use Rattle.network.specs.declared.Refusal.{Refusal}
+use Rattle.std.specs.Prelude.{ℕ, ◌≤◌, ◌≡◌, true, false, ◌↔◌, List, length, take, drop, Err, Ok, Result}
 use Rattle.std.proofs.Math.Option.{some}
 use Rattle.network.specs.declared.Refusal.TheVariants.{LastPlan}
 use Rattle.network.specs.Networks.{Network, Accepted}
@@ -12,8 +14,6 @@ use Rattle.network.specs.Replies.{Outcome, plan, shut_in, lone, refused}
 use Rattle.network.specs.Certificates.{ShutInShown, BridgeShown}
 use Rattle.replies.specs.declared.Verdict.{Verdict}
 use Rattle.replies.specs.declared.Verdict.TheVariants.{Plan, ShutIn, Lone}
-use Rattle.replies.specs.declared.Answer.{Answer}
-use Rattle.replies.specs.declared.Answer.TheVariants as A
 use Rattle.replies.specs.Answers.{FirstCall, NextCall}
 use Rattle.walker.specs.Walkers.{setting_in}
 
@@ -23,9 +23,9 @@ read_verdict N Plan planBuffer marksBuffer = plan (take (gate_count N) planBuffe
 read_verdict N (ShutIn f) planBuffer marksBuffer = shut_in (take mark_bytes marksBuffer) f.count
 read_verdict N (Lone f) planBuffer marksBuffer = lone f.reach (take mark_bytes marksBuffer) f.count
 
-abbrev pub read_reply : Network → Answer → List ℕ → List ℕ → Outcome
-read_reply N (A.Refused r) planBuffer marksBuffer = refused r
-read_reply N (A.Given g) planBuffer marksBuffer = read_verdict N g.verdict planBuffer marksBuffer
+abbrev pub read_reply : Network → Result Reply Refusal → List ℕ → List ℕ → Outcome
+read_reply N (Err r) planBuffer marksBuffer = refused r
+read_reply N (Ok g) planBuffer marksBuffer = read_verdict N g.verdict planBuffer marksBuffer
 
 -- An accepted network, and lent buffers long enough, whatever they hold.
 pub record EnoughRoom (N : Network) (planBuffer marksBuffer : List ℕ) : Type 0 where
@@ -59,11 +59,11 @@ pub record FirstShown (N : Network) (o : Outcome) : Type 0 where
   pub finding : FindingShown N o
 
 -- Demand 2 over a call of first, with buffers that held anything: what its caller reads.
-abbrev pub FirstOver : Network → List ℕ → List ℕ → List ℕ → List ℕ → Answer → Type 0
+abbrev pub FirstOver : Network → List ℕ → List ℕ → List ℕ → List ℕ → Result Reply Refusal → Type 0
 FirstOver N planBuffer marksBuffer plan' marks' r = EnoughRoom N planBuffer marksBuffer → FirstShown N (read_reply N r plan' marks')
 
 -- What asking for the first plan promises: what first promises of any input, refused or not, and demand 2.
-pub record FirstAsked (N : Network) (planBuffer marksBuffer plan' marks' : List ℕ) (r : Answer) : Type 0 where
+pub record FirstAsked (N : Network) (planBuffer marksBuffer plan' marks' : List ℕ) (r : Result Reply Refusal) : Type 0 where
   pub call : FirstCall N planBuffer marksBuffer r plan' marks'
   pub demand : FirstOver N planBuffer marksBuffer plan' marks' r
 
@@ -96,12 +96,12 @@ pub record DemandThree (N : Network) (s t : List ℕ) (o o' : Outcome) : Type 0 
   pub second-shown : NextShown N t o'
 
 -- Demand 3 over two calls of next, or two steps of walkers, with buffers of their own that held anything: what their callers read.
-abbrev pub DemandOver : Network → List ℕ → List ℕ → List ℕ → List ℕ → List ℕ → List ℕ → List ℕ → List ℕ → List ℕ → List ℕ → Answer → Answer → Type 0
+abbrev pub DemandOver : Network → List ℕ → List ℕ → List ℕ → List ℕ → List ℕ → List ℕ → List ℕ → List ℕ → List ℕ → List ℕ → Result Reply Refusal → Result Reply Refusal → Type 0
 DemandOver N s t plan₁ marks₁ plan₂ marks₂ plan₁' marks₁' plan₂' marks₂' r₁ r₂ =
     Asked N s plan₁ marks₁ → Asked N t plan₂ marks₂ → DemandThree N s t (read_reply N r₁ plan₁' marks₁') (read_reply N r₂ plan₂' marks₂')
 
 -- What asking next of two settings promises: of either what next promises of any input, refused or not, and demand 3.
-pub record NextOfTwo (N : Network) (s t plan₁ marks₁ plan₂ marks₂ plan₁' marks₁' plan₂' marks₂' : List ℕ) (r₁ r₂ : Answer) : Type 0 where
+pub record NextOfTwo (N : Network) (s t plan₁ marks₁ plan₂ marks₂ plan₁' marks₁' plan₂' marks₂' : List ℕ) (r₁ r₂ : Result Reply Refusal) : Type 0 where
   pub first-call : NextCall N s plan₁ marks₁ r₁ plan₁' marks₁'
   pub second_call : NextCall N t plan₂ marks₂ r₂ plan₂' marks₂'
   pub demand : DemandOver N s t plan₁ marks₁ plan₂ marks₂ plan₁' marks₁' plan₂' marks₂' r₁ r₂

@@ -6,15 +6,15 @@ ghost use Rattle.network.specs.Networks.{net};
 ghost use Rattle.tables.specs.Rows.{net_of};
 ghost use Rattle.planner_laws.specs.Demands.{FirstAsked, NextOfTwo};
 
-use network::Reach;
+use network::{Reach, Refusal};
 use planner_rows::{first_plan, next_plan};
-use replies::Answer;
+use replies::Reply;
 
 // Two answers of next.
 #[derive(Clone, Copy)]
 pub struct Both {
-    pub first: Answer,
-    pub second: Answer,
+    pub first: Result<Reply, Refusal>,
+    pub second: Result<Reply, Refusal>,
 }
 
 // Asks for the first plan: what the call promises, and demand 2.
@@ -25,7 +25,7 @@ pub fn first_shown_rows(
     b: &[u16],
     plan: &mut [u8],
     marks: &mut [u8],
-) -> Answer
+) -> Result<Reply, Refusal>
     ensures { FirstAsked (net_of basins kinds.now a.now b.now) plan.old marks.old
         plan.new marks.new result }
 {
@@ -33,7 +33,12 @@ pub fn first_shown_rows(
 }
 
 // The same over a lent table.
-pub fn first_shown(basins: u16, table: &[Reach], plan: &mut [u8], marks: &mut [u8]) -> Answer
+pub fn first_shown(
+    basins: u16,
+    table: &[Reach],
+    plan: &mut [u8],
+    marks: &mut [u8],
+) -> Result<Reply, Refusal>
     ensures { FirstAsked (net basins table.now) plan.old marks.old plan.new marks.new result }
 {
     planner::first_plan(basins, table, plan, marks)

@@ -7,12 +7,11 @@ ghost use Rattle.tables.specs.Rows.{net_of};
 ghost use Rattle.replies.specs.Answers.{CheckCall, FirstCall, NextCall};
 
 use half_edges::HALF_EDGES;
-use network::{MAX_BASINS, MAX_REACHES};
+use network::{MAX_BASINS, MAX_REACHES, Refusal};
 use planning::{check_accepted, first_plan_in};
 use planning_next::next_accepted;
 use refusals::{check_refusal, next_refusal};
-use replies::{Answer, CheckAnswer, yes_or};
-use tables::TableAnswer;
+use replies::Reply;
 
 // The first plan of a network, or the finding that shows why there is none. Refuses: 1, 2, 3, 7.
 pub fn first_plan(
@@ -22,7 +21,7 @@ pub fn first_plan(
     b: &[u16],
     plan: &mut [u8],
     marks: &mut [u8],
-) -> Answer
+) -> Result<Reply, Refusal>
     ensures { FirstCall (net_of basins kinds.now a.now b.now) plan.old marks.old result
         plan.new marks.new }
 {
@@ -37,14 +36,18 @@ pub fn first_plan(
 }
 
 // Whether a setting is a plan of the network. Refuses: 1, 2, 3, 8. Writes nothing.
-pub fn check(basins: u16, kinds: &[u8], a: &[u16], b: &[u16], setting: &[u8]) -> CheckAnswer
+pub fn check(
+    basins: u16,
+    kinds: &[u8],
+    a: &[u16],
+    b: &[u16],
+    setting: &[u8],
+) -> Result<bool, Refusal>
     ensures { CheckCall (net_of basins kinds.now a.now b.now) setting.now result }
 {
-    if let TableAnswer::Refused(r) = check_refusal(basins, kinds, a, b, setting) {
-        return CheckAnswer::Refused(r);
-    }
+    check_refusal(basins, kinds, a, b, setting)?;
     let m = tables::row_count(kinds, a, b);
-    yes_or(check_accepted(basins as usize, &kinds[..m], &a[..m], &b[..m], setting))
+    Ok(check_accepted(basins as usize, &kinds[..m], &a[..m], &b[..m], setting))
 }
 
 // The next plan of a setting of the network, itself a plan or not; or the finding that shows why there is none, or that no plan is later.
@@ -57,21 +60,11 @@ pub fn next_plan(
     setting: &[u8],
     plan: &mut [u8],
     marks: &mut [u8],
-) -> Answer
+) -> Result<Reply, Refusal>
     ensures { NextCall (net_of basins kinds.now a.now b.now) setting.now plan.old
         marks.old result plan.new marks.new }
 {
-    if let TableAnswer::Refused(r) = next_refusal(
-        basins,
-        kinds,
-        a,
-        b,
-        setting,
-        plan.len(),
-        marks.len(),
-    ) {
-        return Answer::Refused(r);
-    }
+    next_refusal(basins, kinds, a, b, setting, plan.len(), marks.len())?;
     let n = basins as usize;
     let m = tables::row_count(kinds, a, b);
     next_accepted(n, &kinds[..m], &a[..m], &b[..m], setting, plan, marks)

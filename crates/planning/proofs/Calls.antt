@@ -1,5 +1,8 @@
 -- The calls over rows: rows cut to one length, and what the reply is where nothing is refused.
 -- Assumes nothing.
+use Rattle.replies.specs.declared.Reply.{Reply}
+use Rattle.network.specs.declared.Refusal.{Refusal}
+use Rattle.std.specs.Prelude.{Result, Ok}
 use Prim.Native.Nat.{ℕ}
 use native.Mathlib.Omega.{arith}
 use mathlib.Core.Path.{◌≡◌, ap, subst, subst⁻¹, ◌∙◌}
@@ -16,9 +19,7 @@ use Rattle.tables.specs.Rows.{net_of}
 use Rattle.tables.proofs.Cuts.{cut-net, cut-gates}
 use Rattle.refusals.proofs.Dues.{room-left, unrefused-fits}
 use Rattle.seeking.proofs.Levels.{cut_level}
-use Rattle.replies.specs.declared.Answer.{Answer}
-use Rattle.replies.specs.declared.CheckAnswer.{CheckAnswer}
-use Rattle.replies.specs.Answers.{Replied, yes_or, CheckCall}
+use Rattle.replies.specs.Answers.{Replied, CheckCall}
 use Rattle.replies.proofs.Refusals.{check-fitting, first_by, next-by}
 use Rattle.replies.specs.Reports.{Lent}
 
@@ -36,17 +37,17 @@ module _ (n : ℕ) (ks xs ys : List ℕ) (m : ℕ) (e : m ≡ length (table_of k
 -- ---- the reply of the cut rows is the reply of the network
 
 module _ {N N' : Network} (same : N' ≡ N) where
-  pub first-replied : {plan marks plan' marks' : List ℕ} {r : Answer} (p q : ℕ) → first_of (table_fault N) (room_fault N p q) ≡ none
+  pub first-replied : {plan marks plan' marks' : List ℕ} {r : Result Reply Refusal} (p q : ℕ) → first_of (table_fault N) (room_fault N p q) ≡ none
       → Replied (first_answer N') plan marks plan' marks' r → Replied (first_reply N p q) plan marks plan' marks' r
   first-replied {plan} {marks} {plan'} {marks'} {r} p q ok w =
       subst⁻¹ (λ (o : Outcome). Replied o plan marks plan' marks' r) (first_by N p q ok)
       (subst (λ (M : Network). Replied (first_answer M) plan marks plan' marks' r) same w)
 
-  pub next-replied : {plan marks plan' marks' : List ℕ} {r : Answer} (s : List ℕ) (p q : ℕ) → first_of (check_fault N s) (room_fault N p q) ≡ none
+  pub next-replied : {plan marks plan' marks' : List ℕ} {r : Result Reply Refusal} (s : List ℕ) (p q : ℕ) → first_of (check_fault N s) (room_fault N p q) ≡ none
       → Replied (next_answer N' s) plan marks plan' marks' r → Replied (next_reply N s p q) plan marks plan' marks' r
   next-replied {plan} {marks} {plan'} {marks'} {r} s p q ok w =
       subst⁻¹ (λ (o : Outcome). Replied o plan marks plan' marks' r) (next-by N s p q ok)
       (subst (λ (M : Network). Replied (next_answer M s) plan marks plan' marks' r) same w)
 
-  pub check-given : (s : List ℕ) {b : Bool} {v : CheckAnswer} → check_fault N s ≡ none → b ≡ strongly_connected_under N' s → v ≡ yes_or b → CheckCall N s v
-  check-given s {b} ok e f = subst⁻¹ (CheckCall N s) f (check-fitting N s b ok (unrefused-fits N s ok).1 (e ∙ ap (λ (M : Network). strongly_connected_under M s) same))
+  pub check-given : (s : List ℕ) {b : Bool} → check_fault N s ≡ none → b ≡ strongly_connected_under N' s → CheckCall N s (Ok b)
+  check-given s {b} ok e = check-fitting N s b ok (unrefused-fits N s ok).1 (e ∙ ap (λ (M : Network). strongly_connected_under M s) same)

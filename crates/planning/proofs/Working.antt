@@ -1,5 +1,6 @@
 -- From what was found for the first plan to the reply.
 -- Assumes nothing.
+use Rattle.std.specs.Prelude.{Ok}
 use Prim.Native.Nat.{ℕ, ◌<◌}
 use native.Mathlib.Omega.{arith}
 use mathlib.Core.Path.{◌≡◌, subst⁻¹}
@@ -14,7 +15,6 @@ use Rattle.seeking.specs.Levels.{Level}
 use Rattle.seeking.specs.Found.{reach_found, SideNoted, FirstFound, found-closed, found-bridge, found-plan}
 use Rattle.seeking.proofs.Firsts.{first-outcome}
 use Rattle.replies.specs.declared.Reply.{Reply}
-use Rattle.replies.specs.declared.Answer.TheVariants.{Given}
 use Rattle.replies.specs.Answers.{Replied}
 use Rattle.replies.specs.Reports.{Reported}
 use Rattle.replies.proofs.Reported.{reported-reply}
@@ -31,6 +31,6 @@ first_fits N ok (found-bridge p e l k) = omega (arith, (accepted N ok).few-reach
 first_fits N ok (found-plan p e m) = omega arith
 
 pub first-written : {n : ℕ} {ks xs ys : List ℕ} → Level n ks xs ys → {ws seen : List ℕ} {f : Found} {plan marks plan' marks' : List ℕ} {r : Reply} → length ws ≡ length ks → FirstFound (net_of n ks xs ys) ws seen f
-    → Reported n ks ws seen f plan marks plan' marks' r → Replied (first_answer (net_of n ks xs ys)) plan marks plan' marks' (Given r)
+    → Reported n ks ws seen f plan marks plan' marks' r → Replied (first_answer (net_of n ks xs ys)) plan marks plan' marks' (Ok r)
 first-written {n} {ks} {xs} {ys} l {plan} {marks} {plan'} {marks'} {r} full found done =
-    subst⁻¹ (λ (o : Outcome). Replied o plan marks plan' marks' (Given r)) (first-outcome (net_of n ks xs ys) found) (reported-reply n ks xs ys l.ends-a l.ends-b full (first-noted found) done)
+    subst⁻¹ (λ (o : Outcome). Replied o plan marks plan' marks' (Ok r)) (first-outcome (net_of n ks xs ys) found) (reported-reply n ks xs ys l.ends-a l.ends-b full (first-noted found) done)

@@ -3,7 +3,7 @@
 
 #![tactic(auto)]
 
-ghost use Rattle.std.specs.Prelude.{◌≡◌};
+ghost use Rattle.std.specs.Prelude.{◌≡◌, Ok};
 ghost use Rattle.network.specs.Plans.{strongly_connected_under};
 ghost use Rattle.network.specs.Replies.{first_answer};
 ghost use Rattle.tables.specs.Rows.{net_of};
@@ -13,10 +13,9 @@ ghost use Rattle.replies.specs.Answers.{Replied, FirstCall};
 ghost use Rattle.replies.specs.Reports.{Lent};
 
 use half_edges::HALF_EDGES;
-use network::{MAX_BASINS, MAX_REACHES};
+use network::{MAX_BASINS, MAX_REACHES, Refusal};
 use refusals::first_refusal;
-use replies::{Answer, Reply, report};
-use tables::TableAnswer;
+use replies::{Reply, report};
 
 // The first plan of an accepted table whose rows are of one length, or its finding, in lent working memory. The buffers are long enough.
 pub fn first_in(
@@ -35,7 +34,7 @@ pub fn first_in(
     requires lent { Lent n kinds.now a.now b.now plan.old marks.old }
     requires space { Space ways.old head.old next.old seen.old queue.old }
     ensures { Replied (first_answer (net_of n kinds.now a.now b.now)) plan.old
-        marks.old plan.new marks.new (Answer.Given result) }
+        marks.old plan.new marks.new (Ok result) }
 {
     let m = kinds.len();
     let oriented = &mut ways[..m];
@@ -56,17 +55,15 @@ pub fn first_plan_in(
     next: &mut [u16; HALF_EDGES],
     seen: &mut [u16; MAX_BASINS],
     queue: &mut [u16; MAX_BASINS],
-) -> Answer
+) -> Result<Reply, Refusal>
     requires { Space ways.old head.old next.old seen.old queue.old }
     ensures { FirstCall (net_of basins kinds.now a.now b.now) plan.old marks.old result
         plan.new marks.new }
 {
-    if let TableAnswer::Refused(r) = first_refusal(basins, kinds, a, b, plan.len(), marks.len()) {
-        return Answer::Refused(r);
-    }
+    first_refusal(basins, kinds, a, b, plan.len(), marks.len())?;
     let n = basins as usize;
     let m = tables::row_count(kinds, a, b);
-    Answer::Given(first_in(
+    Ok(first_in(
         n,
         &kinds[..m],
         &a[..m],

@@ -1,5 +1,6 @@
 -- From what was found for the next plan to the reply.
 -- Assumes nothing.
+use Rattle.std.specs.Prelude.{Ok}
 use Prim.Native.Nat.{ℕ, ◌<◌}
 use mathlib.Core.Path.{◌≡◌, subst, subst⁻¹}
 use mathlib.Core.List.{List}
@@ -13,7 +14,6 @@ use Rattle.seeking.specs.declared.Found.{Found}
 use Rattle.seeking.specs.Levels.{Level}
 use Rattle.seeking.specs.Found.{outcome_of, reach_found, SideNoted, NextFound, no-later, next-is}
 use Rattle.replies.specs.declared.Reply.{Reply}
-use Rattle.replies.specs.declared.Answer.TheVariants.{Given}
 use Rattle.replies.specs.Answers.{Replied}
 use Rattle.replies.specs.Reports.{Reported}
 use Rattle.replies.proofs.Reported.{reported-reply}
@@ -37,6 +37,6 @@ pub next_last : {N : Network} {s ws seen : List ℕ} {q : Option Found} → q �
 next_last {N} {s} {ws} {seen} e n = last_found (subst (NextFound N s ws seen) e n)
 
 pub next-written : {n : ℕ} {ks xs ys : List ℕ} → Level n ks xs ys → {s ws seen : List ℕ} {f : Found} {plan marks plan' marks' : List ℕ} {r : Reply} → length ws ≡ length ks → NextAt (net_of n ks xs ys) s ws seen f
-    → Reported n ks ws seen f plan marks plan' marks' r → Replied (next_answer (net_of n ks xs ys) s) plan marks plan' marks' (Given r)
+    → Reported n ks ws seen f plan marks plan' marks' r → Replied (next_answer (net_of n ks xs ys) s) plan marks plan' marks' (Ok r)
 next-written {n} {ks} {xs} {ys} l {plan} {marks} {plan'} {marks'} {r} full at done =
-    subst⁻¹ (λ (o : Outcome). Replied o plan marks plan' marks' (Given r)) at.replies (reported-reply n ks xs ys l.ends-a l.ends-b full at.noted done)
+    subst⁻¹ (λ (o : Outcome). Replied o plan marks plan' marks' (Ok r)) at.replies (reported-reply n ks xs ys l.ends-a l.ends-b full at.noted done)

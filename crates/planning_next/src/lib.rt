@@ -14,7 +14,8 @@ ghost use Rattle.replies.specs.Reports.{Lent};
 
 use half_edges::HALF_EDGES;
 use network::{MAX_BASINS, MAX_REACHES, Refusal};
-use replies::{Answer, report};
+use replies::{Reply, report};
+use search::Scratch;
 
 // The next plan of a setting of an accepted table whose rows are of one length, or its finding, or that no plan is later, in lent working memory.
 // The setting fits and the buffers are long enough.
@@ -30,12 +31,11 @@ fn next_in(
     ways: &mut [u8],
     head: &mut [u16; MAX_BASINS],
     next: &mut [u16; HALF_EDGES],
-    seen: &mut [u16; MAX_BASINS],
-    queue: &mut [u16; MAX_BASINS],
-) -> Answer
+    scratch: &mut Scratch,
+) -> Result<Reply, Refusal>
     requires lent { Lent n kinds.now a.now b.now plan.old marks.old }
     requires setting_value { is_setting (net_of n kinds.now a.now b.now) setting.now ≡ true }
-    requires space { Space ways.old head.old next.old seen.old queue.old }
+    requires space { Space ways.old head.old next.old }
     requires under_len { length under.old ≡ max_reaches }
     ensures { Replied (next_answer (net_of n kinds.now a.now b.now) setting.now)
         plan.old marks.old plan.new marks.new result }
@@ -52,12 +52,11 @@ fn next_in(
         oriented,
         head,
         next,
-        seen,
-        queue,
+        scratch,
     );
     match sought {
-        None => Answer::Refused(Refusal::LastPlan),
-        Some(found) => Answer::Given(report(found, n, kinds, oriented, seen, plan, marks)),
+        None => Err(Refusal::LastPlan),
+        Some(found) => Ok(report(found, n, kinds, oriented, &scratch.seen, plan, marks)),
     }
 }
 
@@ -70,7 +69,7 @@ pub fn next_accepted(
     setting: &[u8],
     plan: &mut [u8],
     marks: &mut [u8],
-) -> Answer
+) -> Result<Reply, Refusal>
     requires lent { Lent n kinds.now a.now b.now plan.old marks.old }
     requires setting_value { is_setting (net_of n kinds.now a.now b.now) setting.now ≡ true }
     ensures { Replied (next_answer (net_of n kinds.now a.now b.now) setting.now)
@@ -80,10 +79,19 @@ pub fn next_accepted(
     let mut ways = [0u8; MAX_REACHES];
     let mut head = [0u16; MAX_BASINS];
     let mut next = [0u16; HALF_EDGES];
-    let mut seen = [0u16; MAX_BASINS];
-    let mut queue = [0u16; MAX_BASINS];
+    let mut scratch = Scratch::new();
     next_in(
-        n, kinds, a, b, setting, plan, marks, &mut under, &mut ways, &mut head, &mut next,
-        &mut seen, &mut queue,
+        n,
+        kinds,
+        a,
+        b,
+        setting,
+        plan,
+        marks,
+        &mut under,
+        &mut ways,
+        &mut head,
+        &mut next,
+        &mut scratch,
     )
 }

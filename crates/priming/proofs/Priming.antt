@@ -1,5 +1,7 @@
 -- Working memory that is prepared for the plans after a plan.
 -- Assumes nothing.
+use Rattle.network.specs.declared.Refusal.{Refusal}
+use Rattle.std.specs.Prelude.{Result, Bool}
 use Prim.Native.Nat.{ℕ, ◌≤◌}
 use native.Mathlib.Omega.{arith}
 use mathlib.Core.Path.{◌≡◌, refl, sym, ap, ◌∙◌}
@@ -12,7 +14,6 @@ use Rattle.tables.specs.Rows.{net_of}
 use Rattle.tables.proofs.Laws.{row-length}
 use Rattle.half_edges.specs.Chains.{Index, Indexable}
 use Rattle.orienting.specs.Ready.{Ready}
-use Rattle.replies.specs.declared.CheckAnswer.{CheckAnswer}
 use Rattle.replies.specs.Answers.{check_of, says_yes}
 use Rattle.seeking.specs.Levels.{Level}
 use Rattle.seeking.specs.Seeks.{AtPlan}
@@ -38,7 +39,7 @@ module _ {n : ℕ} {ks xs ys s ws head next : List ℕ} where
   b-unlike e h = free (rw (eq-eqb (length xs) (length ks) e, ne_eqb (length ys) (length ks) h))
 
   -- both are, and the check says no or yes
-  module _ {r : CheckAnswer} (e : length xs ≡ length ks) (f : length ys ≡ length ks) (c : r ≡ check_of (net_of n ks xs ys) s) where
+  module _ {r : Result Bool Refusal} (e : length xs ≡ length ks) (f : length ys ≡ length ks) (c : r ≡ check_of (net_of n ks xs ys) s) where
     pub said-no : says_yes r ≡ false → Primed n ks xs ys s ws head next false
     said-no z = free (checked n ks xs ys s e f ∙ sym (ap says_yes c) ∙ z)
 

@@ -5,8 +5,6 @@
 
 ghost use Rattle.priming.specs.Priming.{Spare, Primed};
 
-use replies::CheckAnswer;
-
 // Prepares the ways of a setting and the index of the half-edges, if the setting is a plan of an accepted table. Says whether it is.
 pub fn prime(
     basins: u16,
@@ -28,13 +26,11 @@ pub fn prime(
     if b.len() != kinds.len() {
         return false;
     }
-    match planner_rows::check(basins, kinds, a, b, setting) {
-        CheckAnswer::Refused(_) => false,
-        CheckAnswer::No => false,
-        CheckAnswer::Yes => {
-            tables::orient(kinds, setting, ways);
-            half_edges::index(basins as usize, a, b, head, next);
-            true
-        }
+    if let Ok(true) = planner_rows::check(basins, kinds, a, b, setting) {
+        tables::orient(kinds, setting, ways);
+        half_edges::index(basins as usize, a, b, head, next);
+        true
+    } else {
+        false
     }
 }

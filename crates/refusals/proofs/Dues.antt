@@ -1,7 +1,8 @@
 -- What is due by each test: 8 by the setting, 7 by the buffers, and the first of two.
 -- Assumes nothing.
+use Rattle.std.specs.Prelude.{Result, Ok, Err}
 use Prim.Native.Nat.{ℕ, ◌≤◌, ◌<◌}
-use mathlib.Core.Path.{◌≡◌, refl, ap, ◌∙◌}
+use mathlib.Core.Path.{◌≡◌, refl}
 use mathlib.Core.Bool.{Bool, true, false, cond, ◌&&◌}
 use mathlib.Core.Option.{Option, none, some, some-ne-none}
 use mathlib.Core.List.{List}
@@ -14,19 +15,18 @@ use Rattle.network.specs.Settings.{gate_count, is_setting, setting_fault}
 use Rattle.network.specs.Marks.{mark_bytes}
 use Rattle.network.specs.Replies.{first_of, check_fault, room_fault}
 use Rattle.network.proofs.Replies.{first-of-none}
-use Rattle.tables.specs.declared.TableAnswer.{TableAnswer}
 use Rattle.tables.specs.Rows.{net_of}
 use Rattle.tables.specs.Answers.{table_answer}
-use Rattle.refusals.specs.Firsts.{first_told}
 
 -- ---- the first of two
 
-told-first : (f g : Option Refusal) → first_told (table_answer f) (table_answer g) ≡ table_answer (first_of f g)
-told-first none g = refl
-told-first (some r) g = refl
+pub first-refused : (f g : Option Refusal) {r : Refusal} {x : Result (Unit {0}) Refusal} → x ≡ table_answer f → x ≡ Err r → Err r ≡ table_answer (first_of f g)
+first-refused none g p e = cc
+first-refused (some q) g p e = cc
 
-pub first-due : (f g : Option Refusal) {x y z : TableAnswer} → x ≡ table_answer f → y ≡ table_answer g → z ≡ first_told x y → z ≡ table_answer (first_of f g)
-first-due f g {y = y} p q e = e ∙ ap (λ (u : TableAnswer). first_told u y) p ∙ ap (λ (u : TableAnswer). first_told (table_answer f) u) q ∙ told-first f g
+pub second-due : (f g : Option Refusal) {x y : Result (Unit {0}) Refusal} → x ≡ table_answer f → x ≡ Ok tt → y ≡ table_answer g → y ≡ table_answer (first_of f g)
+second-due none g p e q = q
+second-due (some r) g p e q = cc
 
 -- ---- 8, by the setting
 

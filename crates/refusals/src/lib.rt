@@ -9,55 +9,48 @@ ghost use Rattle.network.specs.Settings.{setting_fault};
 ghost use Rattle.network.specs.Replies.{first_of, check_fault, room_fault};
 ghost use Rattle.tables.specs.Rows.{net_of};
 ghost use Rattle.tables.specs.Answers.{table_answer};
-ghost use Rattle.refusals.specs.Firsts.{first_told};
 
 use marks::MARK_BYTES;
 use network::Refusal;
-use tables::TableAnswer;
-
-// The first of two answers that refuses.
-fn first_of(x: TableAnswer, y: TableAnswer) -> TableAnswer
-    ensures { result ≡ first_told x y }
-{
-    match x {
-        TableAnswer::Accepted => y,
-        TableAnswer::Refused(r) => TableAnswer::Refused(r),
-    }
-}
 
 // Refusal 8, by the setting.
-fn setting_check(kinds: &[u8], a: &[u16], b: &[u16], setting: &[u8]) -> TableAnswer
+fn setting_check(kinds: &[u8], a: &[u16], b: &[u16], setting: &[u8]) -> Result<(), Refusal>
     ensures { result ≡ table_answer (setting_fault (net_of 0 kinds.now a.now b.now) setting.now) }
 {
     let m = tables::row_count(kinds, a, b);
     if tables::fits(&kinds[..m], setting) {
-        TableAnswer::Accepted
+        Ok(())
     } else {
-        TableAnswer::Refused(Refusal::BadSetting)
+        Err(Refusal::BadSetting)
     }
 }
 
 // Refusal 7, by the lengths of the plan buffer and of the marks buffer.
-fn room_check(kinds: &[u8], a: &[u16], b: &[u16], plan: usize, marks: usize) -> TableAnswer
+fn room_check(kinds: &[u8], a: &[u16], b: &[u16], plan: usize, marks: usize) -> Result<(), Refusal>
     ensures { result ≡ table_answer (room_fault (net_of 0 kinds.now a.now b.now) plan marks) }
 {
     let m = tables::row_count(kinds, a, b);
     if plan < tables::count_gates(&kinds[..m]) {
-        return TableAnswer::Refused(Refusal::ShortBuffer);
+        return Err(Refusal::ShortBuffer);
     }
     if marks < MARK_BYTES {
-        return TableAnswer::Refused(Refusal::ShortBuffer);
+        return Err(Refusal::ShortBuffer);
     }
-    TableAnswer::Accepted
+    Ok(())
 }
 
 // Of the check of a setting, and of the making of a walker: 1, 2, 3, 8.
-pub fn check_refusal(basins: u16, kinds: &[u8], a: &[u16], b: &[u16], setting: &[u8]) -> TableAnswer
+pub fn check_refusal(
+    basins: u16,
+    kinds: &[u8],
+    a: &[u16],
+    b: &[u16],
+    setting: &[u8],
+) -> Result<(), Refusal>
     ensures { result ≡ table_answer (check_fault (net_of basins kinds.now a.now b.now) setting.now) }
 {
-    let table = tables::table_check(basins, kinds, a, b);
-    let fit = setting_check(kinds, a, b, setting);
-    first_of(table, fit)
+    tables::table_check(basins, kinds, a, b)?;
+    setting_check(kinds, a, b, setting)
 }
 
 // Of the first plan: 1, 2, 3, 7.
@@ -68,13 +61,12 @@ pub fn first_refusal(
     b: &[u16],
     plan: usize,
     marks: usize,
-) -> TableAnswer
+) -> Result<(), Refusal>
     ensures { result ≡ table_answer (first_of (table_fault (net_of basins kinds.now a.now b.now))
         (room_fault (net_of basins kinds.now a.now b.now) plan marks)) }
 {
-    let table = tables::table_check(basins, kinds, a, b);
-    let room = room_check(kinds, a, b, plan, marks);
-    first_of(table, room)
+    tables::table_check(basins, kinds, a, b)?;
+    room_check(kinds, a, b, plan, marks)
 }
 
 // Of the next plan: 1, 2, 3, 8, 7.
@@ -86,11 +78,10 @@ pub fn next_refusal(
     setting: &[u8],
     plan: usize,
     marks: usize,
-) -> TableAnswer
+) -> Result<(), Refusal>
     ensures { result ≡ table_answer (first_of (check_fault (net_of basins kinds.now a.now b.now) setting.now)
         (room_fault (net_of basins kinds.now a.now b.now) plan marks)) }
 {
-    let fit = check_refusal(basins, kinds, a, b, setting);
-    let room = room_check(kinds, a, b, plan, marks);
-    first_of(fit, room)
+    check_refusal(basins, kinds, a, b, setting)?;
+    room_check(kinds, a, b, plan, marks)
 }

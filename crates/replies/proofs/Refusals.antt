@@ -1,5 +1,6 @@
 -- The replies to bad input, and to good input with room enough.
 -- Assumes nothing.
+use Rattle.std.specs.Prelude.{Ok, Err}
 use Prim.Native.Nat.{ℕ}
 use mathlib.Core.Path.{◌≡◌, refl, ap, subst⁻¹, ◌∙◌}
 use mathlib.Core.Bool.{Bool, true}
@@ -10,14 +11,12 @@ use Rattle.network.specs.Networks.{Network, table_fault}
 use Rattle.network.specs.Settings.{is_setting, setting_fault}
 use Rattle.network.specs.Plans.{strongly_connected_under, is_plan}
 use Rattle.network.specs.Replies.{Outcome, refused, first_of, unless, first_answer, next_answer, check_fault, room_fault, first_reply, next_reply}
-use Rattle.replies.specs.declared.Answer.TheVariants as A
-use Rattle.replies.specs.declared.CheckAnswer.TheVariants as C
-use Rattle.replies.specs.Answers.{Replied, yes_or, check_of, CheckCall}
+use Rattle.replies.specs.Answers.{Replied, check_of, CheckCall}
 use Rattle.replies.proofs.Answers.{replied, check-called}
 
 -- a refusal by number writes nothing
-pub refused-written : {o : Outcome} {r : Refusal} {plan marks : List ℕ} → o ≡ refused r → Replied o plan marks plan marks (A.Refused r)
-refused-written {r} {plan} {marks} e = subst⁻¹ (λ (x : Outcome). Replied x plan marks plan marks (A.Refused r)) e (replied refl refl refl)
+pub refused-written : {o : Outcome} {r : Refusal} {plan marks : List ℕ} → o ≡ refused r → Replied o plan marks plan marks (Err r)
+refused-written {r} {plan} {marks} e = subst⁻¹ (λ (x : Outcome). Replied x plan marks plan marks (Err r)) e (replied refl refl refl)
 
 pub first-faulty : (N : Network) (r : Refusal) (p q : ℕ) → table_fault N ≡ some r → first_reply N p q ≡ refused r
 unfolding first_reply
@@ -39,15 +38,15 @@ next-by N s p q e =
     ∙ then-unless (first_of (table_fault N) (setting_fault N s)) (room_fault N p q) (next_answer N s)
     ∙ ap (λ (f : Option Refusal). unless f (next_answer N s)) e
 
-pub check-faulty : (N : Network) (s : List ℕ) (r : Refusal) → table_fault N ≡ some r → CheckCall N s (C.Refused r)
+pub check-faulty : (N : Network) (s : List ℕ) (r : Refusal) → table_fault N ≡ some r → CheckCall N s (Err r)
 unfolding check_of check_fault
 check-faulty N s r e = check-called (rw e)
 
-pub check-refused : (N : Network) (s : List ℕ) (r : Refusal) → check_fault N s ≡ some r → CheckCall N s (C.Refused r)
+pub check-refused : (N : Network) (s : List ℕ) (r : Refusal) → check_fault N s ≡ some r → CheckCall N s (Err r)
 unfolding check_of
 check-refused N s r e = check-called (rw e)
 
-pub check-fitting : (N : Network) (s : List ℕ) (b : Bool) → check_fault N s ≡ none → is_setting N s ≡ true → b ≡ strongly_connected_under N s → CheckCall N s (yes_or b)
+pub check-fitting : (N : Network) (s : List ℕ) (b : Bool) → check_fault N s ≡ none → is_setting N s ≡ true → b ≡ strongly_connected_under N s → CheckCall N s (Ok b)
 unfolding check_of is_plan
 check-fitting N s b ok e f = check-called (rw (ok, e, f))
 

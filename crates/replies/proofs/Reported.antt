@@ -1,5 +1,6 @@
 -- What writing down a finding or a plan leaves.
 -- Assumes nothing.
+use Rattle.std.specs.Prelude.{Ok}
 use Prim.Native.Nat.{ℕ}
 use mathlib.Core.Path.{◌≡◌, refl, sym, ap, ap₂, subst⁻¹, ◌∙◌}
 use mathlib.Core.List.{List, ◌++◌}
@@ -15,7 +16,6 @@ use Rattle.marks.specs.Sets.{marked_set}
 use Rattle.orientations.proofs.Least.{bytes-length}
 use Rattle.replies.specs.declared.Verdict.TheVariants.{Plan, ShutIn, Lone}
 use Rattle.replies.specs.declared.Reply.{Reply}
-use Rattle.replies.specs.declared.Answer.TheVariants.{Given}
 use Rattle.seeking.specs.declared.Found.{Found}
 use Rattle.seeking.specs.declared.Found.TheVariants.{Closed, Bridge, Oriented}
 use Rattle.seeking.specs.Found.{outcome_of, SideNoted}
@@ -46,7 +46,7 @@ module _ {n : ℕ} {ks ws seen plan marks : List ℕ} {f : Found} where
 -- what was written down, with what was noted, is the reply
 module _ (n : ℕ) (ks xs ys : List ℕ) (ea : length xs ≡ length ks) (eb : length ys ≡ length ks) where
   pub reported-reply : {ws seen : List ℕ} {f : Found} {plan marks plan' marks' : List ℕ} {r : Reply} → length ws ≡ length ks → SideNoted (net_of n ks xs ys) seen f → Reported n ks ws seen f plan marks plan' marks' r
-      → Replied (outcome_of (net_of n ks xs ys) ws f) plan marks plan' marks' (Given r)
+      → Replied (outcome_of (net_of n ks xs ys) ws f) plan marks plan' marks' (Ok r)
   unfolding shut_in_finding lone_finding
   reported-reply {seen} {marks} full noted (wrote-shut m) =
       replied

@@ -6,10 +6,8 @@
 ghost use Rattle.std.specs.Prelude.{◌≡◌, ◌≤◌, length};
 ghost use Rattle.network.specs.Marks.{mark_bytes};
 ghost use Rattle.marks.specs.Sets.{marked_set};
-ghost use Rattle.replies.specs.Answers.{yes_or};
 ghost use Rattle.replies.specs.Reports.{MarksWritten, Reportable, Reported};
 
-use network::Refusal;
 use seeking::Found;
 
 // A finding: the number of the lone reach (0 where the network is shut in) and the count of marked basins.
@@ -31,32 +29,6 @@ pub enum Verdict {
 #[derive(Clone, Copy)]
 pub struct Reply {
     pub verdict: Verdict,
-}
-
-// What first and next plan return.
-#[derive(Clone, Copy)]
-pub enum Answer {
-    Refused(Refusal),
-    Given(Reply),
-}
-
-// What the check of a setting returns.
-#[derive(Clone, Copy)]
-pub enum CheckAnswer {
-    Refused(Refusal),
-    Yes,
-    No,
-}
-
-// Yes or no.
-pub fn yes_or(yes: bool) -> CheckAnswer
-    ensures { result ≡ yes_or yes }
-{
-    if yes {
-        CheckAnswer::Yes
-    } else {
-        CheckAnswer::No
-    }
 }
 
 // Marks the basins that are noted as reached, and counts them.

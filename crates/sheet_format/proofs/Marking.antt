@@ -1,9 +1,9 @@
 -- The kinds that may come in a plan sheet, and their bodies.
 -- Assumes nothing.
+use Rattle.std.specs.Prelude.{Some}
 use Prim.Native.Nat.{ℕ}
 use mathlib.Core.Path.{◌≡◌, refl}
 use mathlib.Core.Bool.{true, or-false}
-use mathlib.Core.Option.{some}
 use mathlib.Core.Logic.{◌⊎◌, inl, inr, ⊎_elim}
 use lib.Dec.{eqb}
 use borrow.Author.Tests.{eqb-true}
@@ -34,11 +34,11 @@ orientation k q h =
 pub sheet-comes-first : (k : ℕ) → elem k plan_head_due ≡ true → k ≡ 16
 sheet-comes-first k h = eqb-true k 16 (rw or-false at h)
 
-pub body-oriented : (k : ℕ) → Hanging k → body_of k ≡ some 2
+pub body-oriented : (k : ℕ) → Hanging k → body_of k ≡ Some 2
 unfolding body_of
-body-oriented = of-oriented (λ k. body_of k ≡ some 2) refl refl
+body-oriented = of-oriented (λ k. body_of k ≡ Some 2) refl refl
 
-pub body-plan : body_of 16 ≡ some 2
+pub body-plan : body_of 16 ≡ Some 2
 unfolding body_of
 body-plan = refl
 

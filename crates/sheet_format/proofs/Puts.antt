@@ -1,5 +1,7 @@
 -- Sheets put into a buffer: findings, the sheet of a setting, and the rows cut to the length of the table.
 -- Assumes nothing.
+use Rattle.network.specs.declared.Refusal.{Refusal}
+use Rattle.std.specs.Prelude.{Err, Ok, Result}
 use Prim.Native.Nat.{ℕ, ◌+◌, ◌*◌, ◌-◌, ◌≤◌, ◌<◌}
 use native.Mathlib.Omega.{arith}
 use mathlib.Core.Path.{◌≡◌, sym, ap, subst, ◌∙◌}
@@ -12,8 +14,6 @@ use Rattle.network.specs.Tables.{table_of}
 use Rattle.network.specs.Settings.{gates_from}
 use Rattle.tables.specs.Rows.{gates_in}
 use Rattle.tables.proofs.Cuts.{cut-kinds}
-use Rattle.file_records.specs.declared.WriteAnswer.{WriteAnswer}
-use Rattle.file_records.specs.declared.WriteAnswer.TheVariants.{Refused as Unwritten, Written}
 use Rattle.file_records.specs.Records.{two_bytes}
 use Rattle.file_records.specs.Puts.{WroteWhole}
 use Rattle.file_records.proofs.Writing.{part-back}
@@ -34,7 +34,7 @@ module _ (front marks out : List ℕ) where
   finding-size = omega (arith, length-append front (marks ++ (9 ∷ [])), length-append marks (9 ∷ []))
 
   module _ (n j : ℕ) (e : n ≡ length front + length marks + 1) (at : j ≡ length front) (l₁ l₂ : List ℕ) (p : l₁ ≡ sets out 0 front) (q : l₂ ≡ sets l₁ j marks) where
-    pub finding-done : n ≤ length out → WroteWhole finding out (Written n) (set l₂ (n - 1) 9)
+    pub finding-done : n ≤ length out → WroteWhole finding out (Ok n) (set l₂ (n - 1) 9)
     finding-done l = put_whole finding out n (set l₂ (n - 1) 9) (omega (arith, finding-size)) l whole
       where
         values : l₂ ≡ sets out 0 (front ++ marks)
@@ -62,7 +62,7 @@ module _ (ks s : List ℕ) (fit : Records ks s) where
   size = length-sheet (gates_row 0 ks) s fit.full
 
   module _ (out : List ℕ) where
-    pub sheet-short : length out < 3 * length s + 4 → WroteWhole sheet out (Unwritten ShortBuffer) out
+    pub sheet-short : length out < 3 * length s + 4 → WroteWhole sheet out (Err ShortBuffer) out
     sheet-short l = put-short sheet out (omega (arith, size))
 
     module _ (l : 3 * length s + 4 ≤ length out) (l₁ : List ℕ) (p : l₁ ≡ sets (set out 0 16) 1 (two_bytes (length s))) where
@@ -82,7 +82,7 @@ module _ (ks s : List ℕ) (fit : Records ks s) where
         pub sheet-long : length (take 3 l₁ ++ (part ++ drop (length l₁ - 3) (drop 3 l₁))) ≡ length out
         sheet-long = ap length whole ∙ length-sets out 0 sheet
 
-        pub sheet-done : WroteWhole sheet out (Written (3 * length s + 4)) (take 3 l₁ ++ (part ++ drop (length l₁ - 3) (drop 3 l₁)))
+        pub sheet-done : WroteWhole sheet out (Ok (3 * length s + 4)) (take 3 l₁ ++ (part ++ drop (length l₁ - 3) (drop 3 l₁)))
         sheet-done = put_whole sheet out (3 * length s + 4) _ (sym size) l whole
 
 -- the rows cut to the length of the table
@@ -95,7 +95,7 @@ module _ (ks xs ys : List ℕ) (m : ℕ) (e : m ≡ length (table_of ks xs ys)) 
       record { few = omega (arith, length-take-le m ks (cut-kinds ks xs ys m e), f.few); full = f.full ∙ sym (ap length cut-gates-row) }
 
   pub cut-sheet :
-      (s out : List ℕ) (r : WriteAnswer) (out' : List ℕ)
+      (s out : List ℕ) (r : Result ℕ Refusal) (out' : List ℕ)
       → WroteWhole (plan_sheet (gates_row 0 (take m ks)) s) out r out'
       → WroteWhole (plan_sheet (gates_from 0 (table_of ks xs ys)) s) out r out'
   cut-sheet s out r out' = subst (λ gs. WroteWhole (plan_sheet gs s) out r out') cut-gates-row
@@ -112,7 +112,7 @@ module _ (ks xs ys : List ℕ) (m : ℕ) (e : m ≡ length (table_of ks xs ys)) 
     cut-plan = record { few = roomy.few; full = length-take-le g plan cut-room ∙ gate-count }
 
     pub cut-first :
-        (out : List ℕ) (r : WriteAnswer) (out' : List ℕ)
+        (out : List ℕ) (r : Result ℕ Refusal) (out' : List ℕ)
         → WroteWhole (plan_sheet (gates_from 0 (table_of ks xs ys)) (take g plan)) out r out'
         → WroteWhole (first_bytes_sheet (table_of ks xs ys) plan) out r out'
     cut-first out r out' =

@@ -1,5 +1,6 @@
 -- The scan of a sheet's records: what is known of the reading after k of them.
 -- Assumes nothing.
+use Rattle.std.specs.Prelude.{Err, Ok}
 use Prim.Native.Nat.{ℕ, suc, ◌+◌, ◌≤◌, ◌<◌}
 use native.Mathlib.Omega.{arith}
 use mathlib.Core.Path.{◌≡◌, refl, sym, ap, ◌∙◌}
@@ -12,9 +13,7 @@ use borrow.Author.Tests.{eq-eqb, ne_eqb}
 use Rattle.network.specs.declared.Refusal.{Refusal}
 use Rattle.network.specs.declared.Refusal.TheVariants.{BadSetting, TrailingBytes}
 use Rattle.lists.specs.Words.{word_of}
-use Rattle.file_records.specs.declared.Taken.TheVariants.{Broken, Whole}
 use Rattle.file_records.specs.Records.{take_record, taken_answer}
-use Rattle.sheet_format.specs.declared.SheetAnswer.TheVariants.{Refused, Read}
 use Rattle.sheet_format.specs.Readings.{gate_due, SheetReading, sheet_refused, sheet_says, at_sheet_end, byte_in, with_byte, read_gates}
 use Rattle.sheet_format.specs.Rows.{gates_row, due, NextGate}
 use Rattle.sheet_format.specs.Answers.{Held}
@@ -37,7 +36,7 @@ at-end-over : (f : List ℕ) → 0 < length f → at_sheet_end f ≡ sheet_refus
 at-end-over [] l = absurd (omega arith)
 at-end-over (x ∷ f) l = refl
 
-pub held-refused : {x : SheetReading} (r : Refusal) (held : List ℕ) → x ≡ sheet_refused r → Held x (Refused r) held
+pub held-refused : {x : SheetReading} (r : Refusal) (held : List ℕ) → x ≡ sheet_refused r → Held x (Err r) held
 held-refused r held e = rw e (record { answer = refl; bytes = refl })
 
 -- the reading of the whole, by what is left at a position where k records have been passed, the last of a reach before i
@@ -53,34 +52,34 @@ sheet-scan-start ks sheet held l = record { below = l; within = omega arith; cou
 
 module _ {ks sheet held₀ held : List ℕ} {at i k : ℕ} (s : SheetScanned ks sheet held₀ held at i k) where
   -- a refusal of what is left is one of the whole
-  fails : (r : Refusal) → read_gates (due ks i) (drop at sheet) ≡ sheet_refused r → Held (read_gates (gates_row 0 ks) (drop 3 sheet)) (Refused r) held
+  fails : (r : Refusal) → read_gates (due ks i) (drop at sheet) ≡ sheet_refused r → Held (read_gates (gates_row 0 ks) (drop 3 sheet)) (Err r) held
   fails r e = held-refused r held (s.reading ∙ ap (with_bytes (take k held)) e)
 
-  pub sheet-scan-broken : (r : Refusal) → taken_answer (take_record gate_due (drop at sheet)) ≡ Broken r → Held (read_gates (gates_row 0 ks) (drop 3 sheet)) (Refused r) held
+  pub sheet-scan-broken : (r : Refusal) → taken_answer (take_record gate_due (drop at sheet)) ≡ Err r → Held (read_gates (gates_row 0 ks) (drop 3 sheet)) (Err r) held
   sheet-scan-broken r e = fails r (sheet-step-broken (drop at sheet) (due ks i) r e)
 
   module _ {kind : ℕ} (e : GateStood (drop at sheet) kind) {r : ℕ} (g : NextGate ks i r) where
     -- the end comes before all have theirs
-    pub sheet-scan-early : kind ≡ 9 → r < length ks → Held (read_gates (gates_row 0 ks) (drop 3 sheet)) (Refused BadSetting) held
+    pub sheet-scan-early : kind ≡ 9 → r < length ks → Held (read_gates (gates_row 0 ks) (drop 3 sheet)) (Err BadSetting) held
     sheet-scan-early q l =
         fails BadSetting
-        (ap (λ gs. read_gates gs (drop at sheet)) (g.is-next l) ∙ sheet-step-early (drop at sheet) (e ∙ ap Whole q) r (due ks (suc r)))
+        (ap (λ gs. read_gates gs (drop at sheet)) (g.is-next l) ∙ sheet-step-early (drop at sheet) (e ∙ ap Ok q) r (due ks (suc r)))
 
     ends : kind ≡ 9 → length ks ≤ r → read_gates (due ks i) (drop at sheet) ≡ at_sheet_end (drop (at + 1) sheet)
-    ends q l = ap (λ gs. read_gates gs (drop at sheet)) (g.none_left l) ∙ sheet-step-end (drop at sheet) (e ∙ ap Whole q) ∙ ap at_sheet_end (drop-drop 1 at sheet)
+    ends q l = ap (λ gs. read_gates gs (drop at sheet)) (g.none_left l) ∙ sheet-step-end (drop at sheet) (e ∙ ap Ok q) ∙ ap at_sheet_end (drop-drop 1 at sheet)
 
-    pub sheet-scan-over : kind ≡ 9 → length ks ≤ r → at + 1 < length sheet → Held (read_gates (gates_row 0 ks) (drop 3 sheet)) (Refused TrailingBytes) held
+    pub sheet-scan-over : kind ≡ 9 → length ks ≤ r → at + 1 < length sheet → Held (read_gates (gates_row 0 ks) (drop 3 sheet)) (Err TrailingBytes) held
     sheet-scan-over q l o = fails TrailingBytes (ends q l ∙ at-end-over (drop (at + 1) sheet) (simp length-drop (omega arith)))
 
     pub sheet-scan-end :
         kind ≡ 9 → length ks ≤ r → length sheet ≤ at + 1 → length (gates_row 0 ks) ≤ length held₀
-        → Held (read_gates (gates_row 0 ks) (drop 3 sheet)) (Read k) held
+        → Held (read_gates (gates_row 0 ks) (drop 3 sheet)) (Ok k) held
     sheet-scan-end q l o room =
         let size : length (take k held) ≡ k = length-take-le k held (omega (arith, s.count, s.long)) in
         let done : read_gates (due ks i) (drop at sheet) ≡ sheet_says [] = ends q l ∙ rw (drop_of_length-le sheet o) in
         let whole : read_gates (gates_row 0 ks) (drop 3 sheet) ≡ sheet_says (take k held) =
         s.reading ∙ ap (with_bytes (take k held)) done ∙ ap sheet_says (append-nil (take k held)) in
-        rw whole (record { answer = ap Read (sym size); bytes = ap (λ n. take n held) size })
+        rw whole (record { answer = ap Ok (sym size); bytes = ap (λ n. take n held) size })
 
     module _ (q : kind ≡ 9 → ⊥) where
       step : GateStep (drop at sheet) kind
@@ -91,7 +90,7 @@ module _ {ks sheet held₀ held : List ℕ} {at i k : ℕ} (s : SheetScanned ks 
       sheet-scan-fits = let f : 3 ≤ length (drop at sheet) = step.fits in omega (arith, length-drop at sheet)
 
       -- a record comes after all have theirs
-      pub sheet-scan-after : length ks ≤ r → Held (read_gates (gates_row 0 ks) (drop 3 sheet)) (Refused BadSetting) held
+      pub sheet-scan-after : length ks ≤ r → Held (read_gates (gates_row 0 ks) (drop 3 sheet)) (Err BadSetting) held
       sheet-scan-after l = fails BadSetting (ap (λ gs. read_gates gs (drop at sheet)) (g.none_left l) ∙ step.over)
 
       module _ (l : r < length ks) (n : ℕ) (w : n ≡ word_of (take 2 (drop (at + 1) sheet))) where
@@ -104,7 +103,7 @@ module _ {ks sheet held₀ held : List ℕ} {at i k : ℕ} (s : SheetScanned ks 
             ∙ rw (drop-drop 1 at sheet, drop-drop 3 at sheet, ← w)
 
         -- a record is not the next gated reach
-        pub sheet-scan-other : (n ≡ r → ⊥) → Held (read_gates (gates_row 0 ks) (drop 3 sheet)) (Refused BadSetting) held
+        pub sheet-scan-other : (n ≡ r → ⊥) → Held (read_gates (gates_row 0 ks) (drop 3 sheet)) (Err BadSetting) held
         sheet-scan-other d = fails BadSetting (here ∙ rw (ne_eqb n r d))
 
         pub sheet-scan-room : length (gates_row 0 ks) ≤ length held₀ → k < length held

@@ -1,5 +1,6 @@
 -- A plan's sheet is read as it is written, and written as it is read; what is read is a plan.
 -- Assumes nothing.
+use Rattle.std.specs.Prelude.{Err, Ok, Result}
 use Prim.Native.Nat.{ℕ, zero, suc, ◌+◌, ◌*◌}
 use native.Mathlib.Omega.{arith}
 use mathlib.Core.Path.{◌≡◌, refl, sym, ap, ◌∙◌}
@@ -19,8 +20,6 @@ use Rattle.network.specs.Settings.{gates, gate_count, is_setting}
 use Rattle.network.specs.Plans.{is_plan}
 use Rattle.lists.specs.Words.{word_of}
 use Rattle.network.proofs.Order.{setting-length, plan-setting}
-use Rattle.file_records.specs.declared.Taken.{Taken}
-use Rattle.file_records.specs.declared.Taken.TheVariants.{Broken, Whole}
 use Rattle.file_records.specs.Records.{body_of, two_bytes, whole, take_record, taken_answer}
 use lib.Pow.{are_bytes}
 use Rattle.file_records.proofs.Records.{word_bytes, bytes_drop, three-again}
@@ -98,12 +97,12 @@ unread-end gs f s e h = go (taken_answer (take_record gate_due f)) refl
     ended [] e w = (stands gate_due f 9 w).starts ∙ ap (λ l. 9 ∷ l) (end_is (drop 1 f) s (sym (sheet-step-end f w) ∙ e)).0
     ended (i ∷ gs) e w = no-setting BadSetting s (sym (sheet-step-early f w i gs) ∙ e)
 
-    go : (a : Taken) → taken_answer (take_record gate_due f) ≡ a → f ≡ gate_records gs s ++ (9 ∷ [])
-    go (Broken r) w = no-setting r s (sym (sheet-step-broken f gs r w) ∙ e)
-    go (Whole k) w = test (eqb k 9) refl
+    go : (a : Result ℕ Refusal) → taken_answer (take_record gate_due f) ≡ a → f ≡ gate_records gs s ++ (9 ∷ [])
+    go (Err r) w = no-setting r s (sym (sheet-step-broken f gs r w) ∙ e)
+    go (Ok k) w = test (eqb k 9) refl
       where
         test : (t : Bool) → eqb k 9 ≡ t → f ≡ gate_records gs s ++ (9 ∷ [])
-        test true q = ended gs e (w ∙ ap Whole (eqb-true k 9 q))
+        test true q = ended gs e (w ∙ ap Ok (eqb-true k 9 q))
         test false q = h k w (eqb-false k 9 q)
 
 -- a gated reach, and what is known of the bytes after it
@@ -145,7 +144,7 @@ write-records gs f s b e = go (taken_answer (take_record plan_head_due f)) refl
     n = word_of (take 2 (drop 1 f))
 
     value :
-        (k : ℕ) → taken_answer (take_record plan_head_due f) ≡ Whole k → (x : Bool) → eqb n (length gs) ≡ x → read_count gs n (drop 3 f) ≡ sheet_says s
+        (k : ℕ) → taken_answer (take_record plan_head_due f) ≡ Ok k → (x : Bool) → eqb n (length gs) ≡ x → read_count gs n (drop 3 f) ≡ sheet_says s
         → f ≡ plan_sheet gs s
     value k w true g h =
         let v = stands plan_head_due f k w in
@@ -154,9 +153,9 @@ write-records gs f s b e = go (taken_answer (take_record plan_head_due f)) refl
         ∙ ap (λ m. 16 ∷ (two_bytes m ++ (gate_records gs s ++ (9 ∷ [])))) (eqb-true n (length gs) g)
     value k w false g h = no-setting BadSetting s (rw g at h)
 
-    go : (a : Taken) → taken_answer (take_record plan_head_due f) ≡ a → f ≡ plan_sheet gs s
-    go (Broken r) w = no-setting r s (sym (sheet-head-broken gs f r w) ∙ e)
-    go (Whole k) w = value k w (eqb n (length gs)) refl (sym (sheet-head-at gs f k w).next ∙ e)
+    go : (a : Result ℕ Refusal) → taken_answer (take_record plan_head_due f) ≡ a → f ≡ plan_sheet gs s
+    go (Err r) w = no-setting r s (sym (sheet-head-broken gs f r w) ∙ e)
+    go (Ok k) w = value k w (eqb n (length gs)) refl (sym (sheet-head-at gs f k w).next ∙ e)
 
 -- a sheet that is read: the network is accepted, the setting is a plan, and the records say it
 pub record WasRead (N : Network) (f s : List ℕ) : Type 0 where

@@ -1,5 +1,6 @@
 -- One record of a plan sheet: what it does to the reading.
 -- Assumes nothing.
+use Rattle.std.specs.Prelude.{Err, Ok}
 use Prim.Native.Nat.{ℕ, ◌≤◌}
 use native.Mathlib.Omega.{arith}
 use mathlib.Core.Path.{◌≡◌, ap, ◌∙◌}
@@ -12,7 +13,6 @@ use borrow.Author.Tests.{ne_eqb}
 use Rattle.network.specs.declared.Refusal.{Refusal}
 use Rattle.network.specs.declared.Refusal.TheVariants.{BadSetting}
 use Rattle.lists.specs.Words.{word_of}
-use Rattle.file_records.specs.declared.Taken.TheVariants.{Broken, Whole}
 use Rattle.file_records.specs.Records.{body_of, broken, whole, take_record, taken_answer}
 use Rattle.file_records.proofs.Records.{body_end}
 use Rattle.file_records.proofs.Taking.{broken-is, Stands, stands, same_size}
@@ -21,10 +21,10 @@ use Rattle.sheet_format.proofs.Marking.{orientation, sheet-comes-first, body-ori
 
 -- a whole record of kind k stands at the front of the bytes, after the head
 abbrev pub GateStood : List ℕ → ℕ → Type 0
-GateStood f k = taken_answer (take_record gate_due f) ≡ Whole k
+GateStood f k = taken_answer (take_record gate_due f) ≡ Ok k
 
 module _ (f : List ℕ) where
-  pub sheet-step-broken : (gs : List ℕ) (r : Refusal) → taken_answer (take_record gate_due f) ≡ Broken r → read_gates gs f ≡ sheet_refused r
+  pub sheet-step-broken : (gs : List ℕ) (r : Refusal) → taken_answer (take_record gate_due f) ≡ Err r → read_gates gs f ≡ sheet_refused r
   unfolding read_gates
   sheet-step-broken gs r e = go gs
     where
@@ -83,7 +83,7 @@ pub sheet-head-step :
 unfolding read_records
 sheet-head-step gs f k l t = record { fits = l; next = rw (t, drop-drop 2 1 f) }
 
-pub sheet-head-at : (gs f : List ℕ) (k : ℕ) → taken_answer (take_record plan_head_due f) ≡ Whole k → PlanHeadStep gs f
+pub sheet-head-at : (gs f : List ℕ) (k : ℕ) → taken_answer (take_record plan_head_due f) ≡ Ok k → PlanHeadStep gs f
 sheet-head-at gs f k e = sheet-head-step gs f k (omega (arith, s.long, two)) (rw two at s.taken)
   where
     s : Stands plan_head_due f k
@@ -92,6 +92,6 @@ sheet-head-at gs f k e = sheet-head-step gs f k (omega (arith, s.long, two)) (rw
     two : s.size ≡ 2
     two = same_size s.sized (ap body_of (sheet-comes-first k s.comes) ∙ body-plan)
 
-pub sheet-head-broken : (gs f : List ℕ) (r : Refusal) → taken_answer (take_record plan_head_due f) ≡ Broken r → read_records gs f ≡ sheet_refused r
+pub sheet-head-broken : (gs f : List ℕ) (r : Refusal) → taken_answer (take_record plan_head_due f) ≡ Err r → read_records gs f ≡ sheet_refused r
 unfolding read_records
 sheet-head-broken gs f r e = rw (broken-is (take_record plan_head_due f) r e)

@@ -9,7 +9,6 @@ ghost use Rattle.std.specs.List.{prefix_len};
 ghost use Rattle.sheet_format.specs.Rows.{NextGate};
 
 use file_records::END;
-use network::Refusal;
 use tables::GATED;
 
 // The kinds of a plan sheet's records; the end is that of a network file.
@@ -28,13 +27,6 @@ pub const LONE: u8 = 21;
 pub const PLAN_HEAD_DUE: [u8; 1] = [PLAN];
 
 pub const GATE_DUE: [u8; 3] = [AS_DRAWN, TURNED, END];
-
-// What the reader answers: a refusal, or the number of gated reaches read.
-#[derive(Clone, Copy)]
-pub enum SheetAnswer {
-    Refused(Refusal),
-    Read(usize),
-}
 
 // How many reaches stand before the first gated one: all, if there is none.
 fn before_gate(kinds: &[u8]) -> usize

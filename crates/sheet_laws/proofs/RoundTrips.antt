@@ -2,6 +2,7 @@
 -- `planner_rows::check`) and on records (`sheet`, `planner::check`) alike; and that every accepted network has exactly one reply sheet.
 -- Where the first call refuses, its refusal is handed on and the second is not made.
 -- Assumes nothing.
+use Rattle.std.specs.Prelude.{Err, Ok, Result}
 use Prim.Native.Nat.{ℕ, ◌≤◌}
 use native.Mathlib.Omega.{arith}
 use mathlib.Core.Path.{◌≡◌, refl, sym, ap, subst, subst⁻¹, ◌∙◌}
@@ -23,17 +24,11 @@ use Rattle.network.proofs.Order.{first-is-plan}
 use Rattle.network.proofs.Marks.{length-marks}
 use Rattle.network.proofs.Replies.{lowest-is-bridge, First, is-plan, is-shut, is-bridge, first-cases, first-assoc, first-of-none}
 use Rattle.network.proofs.Theorem.{plan-passable}
-use Rattle.file_records.specs.declared.WriteAnswer.{WriteAnswer}
-use Rattle.file_records.specs.declared.WriteAnswer.TheVariants.{Refused as Unwritten, Written}
 use lib.Pow.{are_bytes}
 use Rattle.file_records.specs.Records.{end_kind}
 use Rattle.file_records.specs.Puts.{Wrote, room_for, WroteWhole}
-use Rattle.replies.specs.declared.CheckAnswer.{CheckAnswer}
-use Rattle.replies.specs.declared.CheckAnswer.TheVariants as C
 use Rattle.replies.specs.Answers.{check_of, CheckCall}
 use Rattle.replies.proofs.Answers.{check-yes}
-use Rattle.sheet_format.specs.declared.SheetAnswer.{SheetAnswer}
-use Rattle.sheet_format.specs.declared.SheetAnswer.TheVariants.{Refused, Read}
 use Rattle.sheet_format.specs.Sheets.{sheet_of, outcome_sheet, reply_sheet}
 use Rattle.sheet_format.specs.Readings.{SheetReading, sheet_refused, sheet_says, unless_fault, read_records, read_sheet, sheet_with_room}
 use Rattle.sheet_format.specs.Answers.{sheet_answer, setting_read, Got, sheet_fault, reply_fault, SheetRead, SheetWritten, ReplyWritten}
@@ -50,11 +45,11 @@ use Rattle.sheet_format.proofs.Getting.{got-refused, refused-is}
 
 -- a sheet f that is read as x, unless the writer refuses
 module _ (N : Network) (o : Option Refusal) (f : List ℕ) (x : SheetReading) {out out' setting : List ℕ} where
-  unwritten-got : {e : Refusal} → Wrote o f out (Unwritten e) out' → Got (unless_fault o (sheet_with_room (length setting) x)) setting (Refused e) setting
+  unwritten-got : {e : Refusal} → Wrote o f out (Err e) out' → Got (unless_fault o (sheet_with_room (length setting) x)) setting (Err e) setting
   unwritten-got {e} p = got-refused setting e (ap (λ o. unless_fault o (sheet_with_room (length setting) x)) (unwritten o f out out' e p))
 
   written-got :
-      {n : ℕ} {r : SheetAnswer} {setting' : List ℕ} → Wrote o f out (Written n) out' → (o ≡ none → read_sheet N f ≡ x) → SheetRead N (take n out') setting r setting'
+      {n : ℕ} {r : Result ℕ Refusal} {setting' : List ℕ} → Wrote o f out (Ok n) out' → (o ≡ none → read_sheet N f ≡ x) → SheetRead N (take n out') setting r setting'
       → Got (unless_fault o (sheet_with_room (length setting) x)) setting r setting'
   written-got {n} {r} {setting'} p same g =
       let sound : o ≡ none = written o f out out' n p in
@@ -71,11 +66,11 @@ its-plan N s room sound =
     (sym (first-assoc (table_fault N) (plan_fault N s) (room_for (sheet_of N s) room)) ∙ sound)).0
 
 module _ (N : Network) (s : List ℕ) {out out' setting : List ℕ} where
-  pub plan-unwritten : {x : Refusal} → SheetWritten N s out (Unwritten x) out' → SheetWriteRead N s out setting (Refused x) out' setting
+  pub plan-unwritten : {x : Refusal} → SheetWritten N s out (Err x) out' → SheetWriteRead N s out setting (Err x) out' setting
   plan-unwritten p = record { again = unwritten-got N (sheet_fault N s (length out)) (sheet_of N s) (sheet_says s) p; sheet = p.bytes }
 
   pub plan-read-again :
-      {n : ℕ} {r : SheetAnswer} {setting' : List ℕ} → SheetWritten N s out (Written n) out' → SheetRead N (take n out') setting r setting'
+      {n : ℕ} {r : Result ℕ Refusal} {setting' : List ℕ} → SheetWritten N s out (Ok n) out' → SheetRead N (take n out') setting r setting'
       → SheetWriteRead N s out setting r out' setting'
   plan-read-again p g =
       record {
@@ -96,7 +91,7 @@ room-kept room (sheet_says t) s h = go (leb (length t) room) h
     go false e = cc
 
 -- a reading whose answer is a count is a setting of that length
-counted : (x : SheetReading) (n : ℕ) → Read n ≡ sheet_answer x → (x ≡ sheet_says (setting_read x)) × (n ≡ length (setting_read x))
+counted : (x : SheetReading) (n : ℕ) → Ok n ≡ sheet_answer x → (x ≡ sheet_says (setting_read x)) × (n ≡ length (setting_read x))
 counted (sheet_refused r) n h = absurd (true≢false (cc))
 counted (sheet_says s) n h = (refl, cc)
 
@@ -105,14 +100,14 @@ abbrev got : Network → List ℕ → List ℕ → SheetReading
 got N f setting = sheet_with_room (length setting) (read_sheet N f)
 
 module _ (N : Network) (f : List ℕ) {setting setting' : List ℕ} where
-  pub sheet-unread : {out : List ℕ} {x : Refusal} → SheetRead N f setting (Refused x) setting' → SheetReadWrite N f setting out (Unwritten x) setting' out
+  pub sheet-unread : {out : List ℕ} {x : Refusal} → SheetRead N f setting (Err x) setting' → SheetReadWrite N f setting out (Err x) setting' out
   sheet-unread {out} {x} g =
       record { again = put_refused f out x (ap (λ y. sheet_again y f (length out)) (refused-is (got N f setting) x g.answer)); bytes = g.bytes }
 
-  pub sheet-unchecked : {x : Refusal} → SheetRead N f setting (Refused x) setting' → SheetReadCheck N f setting (C.Refused x) setting'
+  pub sheet-unchecked : {x : Refusal} → SheetRead N f setting (Err x) setting' → SheetReadCheck N f setting (Err x) setting'
   sheet-unchecked {x} g = record { answer = sym (ap checked_back (refused-is (got N f setting) x g.answer)); bytes = g.bytes }
 
-  module _ {n : ℕ} (g : SheetRead N f setting (Read n) setting') where
+  module _ {n : ℕ} (g : SheetRead N f setting (Ok n) setting') where
     abbrev s : List ℕ
     s = setting_read (got N f setting)
 
@@ -135,7 +130,7 @@ module _ (N : Network) (f : List ℕ) {setting setting' : List ℕ} where
     plan-fault = rw (was_read N f s sheet-is).is-plan
 
     pub sheet-written-again :
-        {out : List ℕ} {r : WriteAnswer} {out' : List ℕ} → are_bytes f ≡ true → SheetWritten N (take n setting') out r out'
+        {out : List ℕ} {r : Result ℕ Refusal} {out' : List ℕ} → are_bytes f ≡ true → SheetWritten N (take n setting') out r out'
         → SheetReadWrite N f setting out r setting' out'
     sheet-written-again {out} {r} {out'} b p =
         record {
@@ -151,7 +146,7 @@ module _ (N : Network) (f : List ℕ) {setting setting' : List ℕ} where
             ap (λ o. first_of o (first_of (plan_fault N s) (room_for (sheet_of N s) (length out)))) (was_read N f s sheet-is).accepted
             ∙ ap (λ o. first_of o (room_for (sheet_of N s) (length out))) plan-fault
 
-    pub sheet-checked : {v : CheckAnswer} → CheckCall N (take n setting') v → SheetReadCheck N f setting v setting'
+    pub sheet-checked : {v : Result Bool Refusal} → CheckCall N (take n setting') v → SheetReadCheck N f setting v setting'
     sheet-checked e =
         record {
           answer =
@@ -208,11 +203,11 @@ unfolding reply_sheet
 read-reply N ok = read-outcome N ok (first-cases N ok)
 
 module _ (N : Network) {out out' setting : List ℕ} where
-  pub reply-unwritten : {x : Refusal} → ReplyWritten N out (Unwritten x) out' → ReplyWriteRead N out setting (Refused x) out' setting
+  pub reply-unwritten : {x : Refusal} → ReplyWritten N out (Err x) out' → ReplyWriteRead N out setting (Err x) out' setting
   reply-unwritten p = record { again = unwritten-got N (reply_fault N (length out)) (reply_sheet N) (reply_read (first_answer N)) p; sheet = p.bytes }
 
   pub reply-read-again :
-      {n : ℕ} {r : SheetAnswer} {setting' : List ℕ} → ReplyWritten N out (Written n) out' → SheetRead N (take n out') setting r setting'
+      {n : ℕ} {r : Result ℕ Refusal} {setting' : List ℕ} → ReplyWritten N out (Ok n) out' → SheetRead N (take n out') setting r setting'
       → ReplyWriteRead N out setting r out' setting'
   reply-read-again p g =
       record {
@@ -242,7 +237,7 @@ unfolding reply_sheet
 reply-on N ok = outcome-on N ok (first-cases N ok)
 
 -- so who holds only the bytes that the reply writer wrote holds the first plan, or the finding with its certificate.
-pub reply-shown : (N : Network) {out out' : List ℕ} {n : ℕ} → ReplyWritten N out (Written n) out' → SheetShown N (take n out')
+pub reply-shown : (N : Network) {out out' : List ℕ} {n : ℕ} → ReplyWritten N out (Ok n) out' → SheetShown N (take n out')
 reply-shown N {out} {out'} {n} p =
     let sound = written (reply_fault N (length out)) (reply_sheet N) out out' n p in
     let ok = (first-of-none (table_fault N) (room_for (reply_sheet N) (length out)) sound).0 in

@@ -1,6 +1,6 @@
 -- The laws of the sheets, as the calls are held to them.
 -- Assumes nothing.
-use Rattle.std.specs.Prelude.{ℕ, ◌≡◌, true, false, cond, List, ◌++◌, length, get_or, take, drop, eqb}
+use Rattle.std.specs.Prelude.{ℕ, ◌≡◌, true, false, cond, List, ◌++◌, length, get_or, take, drop, eqb, Err, Ok, Result, Bool}
 use Rattle.std.proofs.Math.Option.{Option, some}
 use Rattle.lists.specs.Words.{word_of}
 use Rattle.network.specs.declared.Refusal.{Refusal}
@@ -10,10 +10,6 @@ use Rattle.network.specs.Plans.{passable, first_plan}
 use Rattle.network.specs.Bridges.{lowest_bridge}
 use Rattle.network.specs.Marks.{mark_bytes, marks_of, mark_count}
 use Rattle.network.specs.Replies.{Outcome, plan, shut_in, lone, refused as told, first_answer, shut_in_side, bridge_side}
-use Rattle.file_records.specs.declared.WriteAnswer.{WriteAnswer}
-use Rattle.replies.specs.declared.CheckAnswer.{CheckAnswer}
-use Rattle.replies.specs.declared.CheckAnswer.TheVariants as C
-use Rattle.sheet_format.specs.declared.SheetAnswer.{SheetAnswer}
 use Rattle.planner_laws.specs.Demands.{FirstShown}
 use Rattle.sheet_format.specs.Sheets.{shut_in_kind, lone_kind, sheet_of, shut_in_sheet, lone_sheet, reply_sheet}
 use Rattle.sheet_format.specs.Readings.{SheetReading, sheet_refused, sheet_says, unless_fault, read_sheet, sheet_with_room}
@@ -21,7 +17,7 @@ use Rattle.sheet_format.specs.Answers.{setting_read, Got, sheet_fault, reply_fau
 use Rattle.file_records.specs.Puts.{bytes_written, Wrote, room_for}
 
 -- What the sheet of a setting is read as that was written: refused where the writer refuses, else the setting itself.
-pub record SheetWriteRead (N : Network) (s out setting : List ℕ) (r : SheetAnswer) (out' setting' : List ℕ) : Type 0 where
+pub record SheetWriteRead (N : Network) (s out setting : List ℕ) (r : Result ℕ Refusal) (out' setting' : List ℕ) : Type 0 where
   pub again : Got (unless_fault (sheet_fault N s (length out)) (sheet_with_room (length setting) (sheet_says s))) setting r setting'
   pub sheet : out' ≡ bytes_written (sheet_fault N s (length out)) (sheet_of N s) ++ drop (length (bytes_written (sheet_fault N s (length out)) (sheet_of N s))) out
 
@@ -30,18 +26,18 @@ abbrev pub sheet_again : SheetReading → List ℕ → ℕ → Option Refusal
 sheet_again (sheet_refused r) f room = some r
 sheet_again (sheet_says s) f room = room_for f room
 
-pub record SheetReadWrite (N : Network) (f setting out : List ℕ) (r : WriteAnswer) (setting' out' : List ℕ) : Type 0 where
+pub record SheetReadWrite (N : Network) (f setting out : List ℕ) (r : Result ℕ Refusal) (setting' out' : List ℕ) : Type 0 where
   pub again : Wrote (sheet_again (sheet_with_room (length setting) (read_sheet N f)) f (length out)) f out r out'
   pub bytes :
       setting'
       ≡ setting_read (sheet_with_room (length setting) (read_sheet N f)) ++ drop (length (setting_read (sheet_with_room (length setting) (read_sheet N f)))) setting
 
 -- "Its setting is a plan": what the check says of a setting that was read.
-abbrev pub checked_back : SheetReading → CheckAnswer
-checked_back (sheet_refused r) = C.Refused r
-checked_back (sheet_says s) = C.Yes
+abbrev pub checked_back : SheetReading → Result Bool Refusal
+checked_back (sheet_refused r) = Err r
+checked_back (sheet_says s) = Ok true
 
-pub record SheetReadCheck (N : Network) (f setting : List ℕ) (r : CheckAnswer) (setting' : List ℕ) : Type 0 where
+pub record SheetReadCheck (N : Network) (f setting : List ℕ) (r : Result Bool Refusal) (setting' : List ℕ) : Type 0 where
   pub answer : r ≡ checked_back (sheet_with_room (length setting) (read_sheet N f))
   pub bytes :
       setting'
@@ -54,7 +50,7 @@ reply_read (shut_in m c) = sheet_refused UnknownKind
 reply_read (lone i m c) = sheet_refused UnknownKind
 reply_read (told r) = sheet_refused r
 
-pub record ReplyWriteRead (N : Network) (out setting : List ℕ) (r : SheetAnswer) (out' setting' : List ℕ) : Type 0 where
+pub record ReplyWriteRead (N : Network) (out setting : List ℕ) (r : Result ℕ Refusal) (out' setting' : List ℕ) : Type 0 where
   pub again : Got (unless_fault (reply_fault N (length out)) (sheet_with_room (length setting) (reply_read (first_answer N)))) setting r setting'
   pub sheet : out' ≡ bytes_written (reply_fault N (length out)) (reply_sheet N) ++ drop (length (bytes_written (reply_fault N (length out)) (reply_sheet N))) out
 

@@ -5,9 +5,7 @@
 ghost use Rattle.tables.specs.Rows.{net_of};
 ghost use Rattle.sheet_laws.specs.Laws.{SheetWriteRead, SheetReadWrite, SheetReadCheck, ReplyWriteRead};
 
-use file_records::WriteAnswer;
-use replies::CheckAnswer;
-use sheet_format::SheetAnswer;
+use network::Refusal;
 
 // A plan that is written is read again as it was.
 pub fn write_then_read_sheet(
@@ -18,14 +16,12 @@ pub fn write_then_read_sheet(
     setting: &[u8],
     out: &mut [u8],
     again: &mut [u8],
-) -> SheetAnswer
+) -> Result<usize, Refusal>
     ensures { SheetWriteRead (net_of basins kinds.now a.now b.now) setting.now out.old again.old
         result out.new again.new }
 {
-    match sheet_rows::write_sheet(basins, kinds, a, b, setting, out) {
-        WriteAnswer::Refused(r) => SheetAnswer::Refused(r),
-        WriteAnswer::Written(n) => sheet_rows::read_sheet(basins, kinds, a, b, &out[..n], again),
-    }
+    let n = sheet_rows::write_sheet(basins, kinds, a, b, setting, out)?;
+    sheet_rows::read_sheet(basins, kinds, a, b, &out[..n], again)
 }
 
 // A plan sheet that is read is written again byte for byte.
@@ -37,14 +33,12 @@ pub fn read_then_write_sheet(
     sheet: &[u8],
     setting: &mut [u8],
     out: &mut [u8],
-) -> WriteAnswer
+) -> Result<usize, Refusal>
     ensures { SheetReadWrite (net_of basins kinds.now a.now b.now) sheet.now setting.old out.old
         result setting.new out.new }
 {
-    match sheet_rows::read_sheet(basins, kinds, a, b, sheet, setting) {
-        SheetAnswer::Refused(r) => WriteAnswer::Refused(r),
-        SheetAnswer::Read(n) => sheet_rows::write_sheet(basins, kinds, a, b, &setting[..n], out),
-    }
+    let n = sheet_rows::read_sheet(basins, kinds, a, b, sheet, setting)?;
+    sheet_rows::write_sheet(basins, kinds, a, b, &setting[..n], out)
 }
 
 // A setting that is read is a plan: the check says yes.
@@ -55,14 +49,12 @@ pub fn read_then_check(
     b: &[u16],
     sheet: &[u8],
     setting: &mut [u8],
-) -> CheckAnswer
+) -> Result<bool, Refusal>
     ensures { SheetReadCheck (net_of basins kinds.now a.now b.now) sheet.now setting.old
         result setting.new }
 {
-    match sheet_rows::read_sheet(basins, kinds, a, b, sheet, setting) {
-        SheetAnswer::Refused(r) => CheckAnswer::Refused(r),
-        SheetAnswer::Read(n) => planner_rows::check(basins, kinds, a, b, &setting[..n]),
-    }
+    let n = sheet_rows::read_sheet(basins, kinds, a, b, sheet, setting)?;
+    planner_rows::check(basins, kinds, a, b, &setting[..n])
 }
 
 // The reply of a network with a plan is read again as its first plan; a finding sheet is written only.
@@ -73,12 +65,10 @@ pub fn reply_then_read(
     b: &[u16],
     out: &mut [u8],
     setting: &mut [u8],
-) -> SheetAnswer
+) -> Result<usize, Refusal>
     ensures { ReplyWriteRead (net_of basins kinds.now a.now b.now) out.old setting.old
         result out.new setting.new }
 {
-    match sheet_rows::write_reply(basins, kinds, a, b, out) {
-        WriteAnswer::Refused(r) => SheetAnswer::Refused(r),
-        WriteAnswer::Written(n) => sheet_rows::read_sheet(basins, kinds, a, b, &out[..n], setting),
-    }
+    let n = sheet_rows::write_reply(basins, kinds, a, b, out)?;
+    sheet_rows::read_sheet(basins, kinds, a, b, &out[..n], setting)
 }

@@ -1,5 +1,9 @@
 -- The laws of the order of two plan sheets and of the part, from what is told of them: so they hold of the calls on rows and on records alike.
 -- Assumes nothing.
+use Rattle.std.specs.declared.cmp.Ordering.{Ordering}
+use Rattle.network.specs.declared.Refusal.{Refusal}
+use Rattle.std.specs.declared.cmp.Ordering.TheVariants.{Equal, Greater, Less}
+use Rattle.std.specs.Prelude.{Ok, Err, Result}
 use Prim.Native.Nat.{ℕ, ◌-◌}
 use native.Mathlib.Omega.{arith}
 use mathlib.Core.Path.{◌≡◌, refl, sym, ap, subst, ◌∙◌}
@@ -14,8 +18,6 @@ use Rattle.sheet_format.specs.Sheets.{sheet_of}
 use Rattle.sheet_format.specs.Readings.{read_sheet}
 use Rattle.sheet_format.specs.Answers.{setting_read}
 use Rattle.sheet_format.proofs.Sheets.{read-inj}
-use Rattle.sheet_order.specs.declared.Order.{Order}
-use Rattle.sheet_order.specs.declared.Order.TheVariants.{Refused, Equal, First, Second}
 use Rattle.sheet_order.specs.declared.Parting.{Parting}
 use Rattle.sheet_order.specs.Orders.{setting_order, sheet_order, order_number, differ, exchanged}
 use Rattle.sheet_order.specs.Parts.{common_prefix, record_place, differing_record, Part, PartFrom}
@@ -27,12 +29,12 @@ use Rattle.sheet_order.proofs.Orders.{no_number, BothRead, read-order, both-alon
 
 -- ---- exchanged
 
-exchange-forth : (N : Network) (f g : List ℕ) {o : Order} → Told N f g o → order_number o ≡ 0 → sheet_order N g f ≡ exchanged o
+exchange-forth : (N : Network) (f g : List ℕ) {o : Result Ordering Refusal} → Told N f g o → order_number o ≡ 0 → sheet_order N g f ≡ exchanged o
 exchange-forth N f g (told-refused r) z = no_number r z
-exchange-forth N f g (told-read s t b) z = read-order N g f (reads-swapped b) ∙ order-exchanged s t
+exchange-forth N f g (told-read s t b) z = read-order N g f (reads-swapped b) ∙ ap Ok (order-exchanged s t)
 
 -- Exchanging two sheets exchanges their order, but for refusals.
-pub exchange : (N : Network) (f g : List ℕ) {o o' : Order} → Ordered N f g o → Ordered N g f o' → Exchanged o o'
+pub exchange : (N : Network) (f g : List ℕ) {o o' : Result Ordering Refusal} → Ordered N f g o → Ordered N g f o' → Exchanged o o'
 exchange N f g p q =
     record {
       forth = λ z. q.order ∙ exchange-forth N f g (told_of p) z;
@@ -41,17 +43,18 @@ exchange N f g p q =
 
 -- ---- equal
 
-equal-same : (N : Network) (f g : List ℕ) → are_bytes f ≡ true → are_bytes g ≡ true → {o : Order} → Told N f g o → o ≡ Equal → f ≡ g
+equal-same : (N : Network) (f g : List ℕ) → are_bytes f ≡ true → are_bytes g ≡ true → {o : Result Ordering Refusal} → Told N f g o → o ≡ Ok Equal → f ≡ g
 equal-same N f g bf bg (told-refused r) e = absurd (true≢false (cc))
 equal-same N f g bf bg (told-read s t b) e =
-    first-sheet N f g b bf bg ∙ ap (sheet_of N) (equal-settings (both-alongside N f g b) e) ∙ sym (second-sheet N f g b bf bg)
+    let same : setting_order s t ≡ Equal = cc in
+    first-sheet N f g b bf bg ∙ ap (sheet_of N) (equal-settings (both-alongside N f g b) same) ∙ sym (second-sheet N f g b bf bg)
 
-same-equal : (N : Network) (f : List ℕ) {o : Order} → Told N f f o → order_number o ≡ 0 → o ≡ Equal
+same-equal : (N : Network) (f : List ℕ) {o : Result Ordering Refusal} → Told N f f o → order_number o ≡ 0 → o ≡ Ok Equal
 same-equal N f (told-refused r) z = no_number r z
-same-equal N f (told-read s t b) z = ap (setting_order s) (read-inj s t (sym b.first_says ∙ b.second-says)) ∙ order-refl s
+same-equal N f (told-read s t b) z = ap Ok (ap (setting_order s) (read-inj s t (sym b.first_says ∙ b.second-says)) ∙ order-refl s)
 
 -- Two sheets that are read are equal exactly if they are the same bytes.
-pub equal-exactly : (N : Network) (f g : List ℕ) → are_bytes f ≡ true → are_bytes g ≡ true → {o : Order} → Ordered N f g o → EqualExactly f g o
+pub equal-exactly : (N : Network) (f g : List ℕ) → are_bytes f ≡ true → are_bytes g ≡ true → {o : Result Ordering Refusal} → Ordered N f g o → EqualExactly f g o
 equal-exactly N f g bf bg {o} p =
     record {
       same = equal-same N f g bf bg (told_of p);
@@ -62,7 +65,7 @@ equal-exactly N f g bf bg {o} p =
 
 -- the earlier sheet first, and the bytes from record k to its end
 shown :
-    (N : Network) (f g : List ℕ) → are_bytes f ≡ true → are_bytes g ≡ true → {s t : List ℕ} → BothRead N f g s t → setting_order s t ≡ First
+    (N : Network) (f g : List ℕ) → are_bytes f ≡ true → are_bytes g ≡ true → {s t : List ℕ} → BothRead N f g s t → setting_order s t ≡ Less
     → {k : ℕ} → k ≡ common_prefix s t → {part : List ℕ} → part ≡ drop (record_place k) f → Shown N f g part k
 shown N f g bf bg {s} {t} b e {k} q {part} h =
     let a = sheets-apart (both-alongside N f g b) e in
@@ -79,16 +82,15 @@ to_end : {s r : Bor (List ℕ)} {k to : ℕ} → Part s k to r → to ≡ length
 to_end {s} {r} {k} p e = p.bytes ∙ ap (λ n. take (n - k) (drop k s.now)) e ∙ part_to_end s.now k
 
 module _ (N : Network) (first second r : Bor (List ℕ)) (bf : are_bytes first.now ≡ true) (bg : are_bytes second.now ≡ true) where
-  abbrev Stands : Order → Type 0
+  abbrev Stands : Result Ordering Refusal → Type 0
   Stands o = PartFrom (differing_record N first.now second.now) o first second r → PartShown N first.now second.now o r.now
 
-  part-read : {s t : List ℕ} → BothRead N first.now second.now s t → (o : Order) → setting_order s t ≡ o → Stands o
-  part-read b (Refused x) e p = p.bytes
+  part-read : {s t : List ℕ} → BothRead N first.now second.now s t → (o : Ordering) → setting_order s t ≡ o → Stands (Ok o)
   part-read b Equal e p = to_end p (omega arith) ∙ drop_of_length-le first.now {i = length first.now} (omega arith)
-  part-read b First e p = shown N first.now second.now bf bg b e (gate-said b) (to_end p (omega arith))
-  part-read {s} {t} b Second e p = shown N second.now first.now bg bf (reads-swapped b) (exchanged-first s t e) (gate-said b ∙ prefix-sym s t) (to_end p (omega arith))
+  part-read b Less e p = shown N first.now second.now bf bg b e (gate-said b) (to_end p (omega arith))
+  part-read {s} {t} b Greater e p = shown N second.now first.now bg bf (reads-swapped b) (exchanged-first s t e) (gate-said b ∙ prefix-sym s t) (to_end p (omega arith))
 
-  part-told : {o : Order} → Told N first.now second.now o → Stands o
+  part-told : {o : Result Ordering Refusal} → Told N first.now second.now o → Stands o
   part-told (told-refused x) p = p.bytes
   part-told (told-read s t b) p = part-read b (setting_order s t) refl p
 
@@ -101,27 +103,27 @@ part-shown N first second bf bg {x} c =
 
 -- ---- exchanged, the same part
 
-differ-number : (o : Order) → differ o ≡ true → order_number o ≡ 0
-differ-number (Refused x) d = absurd (true≢false (sym d))
-differ-number Equal d = refl
-differ-number First d = refl
-differ-number Second d = refl
+differ-number : (o : Result Ordering Refusal) → differ o ≡ true → order_number o ≡ 0
+differ-number (Err x) d = absurd (true≢false (sym d))
+differ-number (Ok Equal) d = refl
+differ-number (Ok Less) d = refl
+differ-number (Ok Greater) d = refl
 
 part-once : {s r r' : Bor (List ℕ)} {k to : ℕ} → Part s k to r → Part s k to r' → SamePart r r'
 part-once p q = record { block = p.block ∙ sym q.block; place = p.place ∙ sym q.place; bytes = p.bytes ∙ sym q.bytes }
 
 module _ (k : ℕ) (first second : Bor (List ℕ)) where
-  part-back : (r : Bor (List ℕ)) (o : Order) → differ o ≡ true → PartFrom k (exchanged o) second first r → PartFrom k o first second r
-  part-back r (Refused x) d p = absurd (true≢false (sym d))
-  part-back r Equal d p = absurd (true≢false (sym d))
-  part-back r First d p = p
-  part-back r Second d p = p
+  part-back : (r : Bor (List ℕ)) (o : Result Ordering Refusal) → differ o ≡ true → PartFrom k (exchanged o) second first r → PartFrom k o first second r
+  part-back r (Err x) d p = absurd (true≢false (sym d))
+  part-back r (Ok Equal) d p = absurd (true≢false (sym d))
+  part-back r (Ok Less) d p = p
+  part-back r (Ok Greater) d p = p
 
-  one-part : (r r' : Bor (List ℕ)) (o : Order) → differ o ≡ true → PartFrom k o first second r → PartFrom k o first second r' → SamePart r r'
-  one-part r r' (Refused x) d p q = absurd (true≢false (sym d))
-  one-part r r' Equal d p q = absurd (true≢false (sym d))
-  one-part r r' First d p q = part-once p q
-  one-part r r' Second d p q = part-once p q
+  one-part : (r r' : Bor (List ℕ)) (o : Result Ordering Refusal) → differ o ≡ true → PartFrom k o first second r → PartFrom k o first second r' → SamePart r r'
+  one-part r r' (Err x) d p q = absurd (true≢false (sym d))
+  one-part r r' (Ok Equal) d p q = absurd (true≢false (sym d))
+  one-part r r' (Ok Less) d p q = part-once p q
+  one-part r r' (Ok Greater) d p q = part-once p q
 
 module _ (N : Network) (first second : Bor (List ℕ)) where
   abbrev at : ℕ
@@ -131,7 +133,7 @@ module _ (N : Network) (first second : Bor (List ℕ)) where
   same_place = ap record_place (prefix-sym (setting_read (read_sheet N second.now)) (setting_read (read_sheet N first.now)))
 
   -- Where two sheets differ, the part that they hand back exchanged is theirs as they were lent.
-  pub part-exchanged : {y : Parting} → Compared N second first y → {o : Order} → Ordered N first.now second.now o → differ o ≡ true → PartFrom at o first second y.part
+  pub part-exchanged : {y : Parting} → Compared N second first y → {o : Result Ordering Refusal} → Ordered N first.now second.now o → differ o ≡ true → PartFrom at o first second y.part
   part-exchanged {y} c {o} p d =
       let turned : y.order ≡ exchanged o = (exchange N first.now second.now p c.ordered).forth (differ-number o d) in
       part-back at first second y.part o d

@@ -1,5 +1,7 @@
 -- Laws of the longest common prefix of two rows: it is no longer than either, a scan finds it, and the entries behind it decide the order.
 -- Assumes nothing.
+use Rattle.std.specs.declared.cmp.Ordering.{Ordering}
+use Rattle.std.specs.declared.cmp.Ordering.TheVariants.{Equal, Greater, Less}
 use Prim.Native.Nat.{ℕ, suc, ◌+◌, ◌≤◌, ◌<◌}
 use native.Mathlib.Omega.{arith}
 use native.Mathlib.Numerals.{add-one}
@@ -11,8 +13,6 @@ use lib.Dec.{eqb, ltb}
 use lib.ListN.{length, get_or, take, drop, drop_of_length-le}
 use lib.Seq.{drop-cons}
 use borrow.Author.Tests.{eqb-true, eq-eqb, ne_eqb, lt-ltb, le-ltb, ltb-true, ltb-false}
-use Rattle.sheet_order.specs.declared.Order.{Order}
-use Rattle.sheet_order.specs.declared.Order.TheVariants.{Equal, First, Second}
 use Rattle.sheet_order.specs.Orders.{setting_order}
 use Rattle.sheet_order.specs.Parts.{common_prefix}
 
@@ -95,10 +95,10 @@ module _ (x y : ℕ) (xs ys : List ℕ) where
   prefix-apart : (x ≡ y → ⊥) → common_prefix (x ∷ xs) (y ∷ ys) ≡ 0
   prefix-apart h = rw (ne_eqb x y h)
 
-  order-lower : x < y → setting_order (x ∷ xs) (y ∷ ys) ≡ First
+  order-lower : x < y → setting_order (x ∷ xs) (y ∷ ys) ≡ Less
   order-lower l = rw (lt-ltb x y l)
 
-  order-higher : y < x → setting_order (x ∷ xs) (y ∷ ys) ≡ Second
+  order-higher : y < x → setting_order (x ∷ xs) (y ∷ ys) ≡ Greater
   order-higher l = rw (le-ltb x y (omega (arith, l)), ne_eqb x y (λ e. omega (arith, l, e)), lt-ltb y x l)
 
 -- ---- what is shared is the same, and as long from either row
@@ -142,8 +142,8 @@ order-ended (x ∷ xs) (y ∷ ys) h = go (heads x y) (order-ended xs ys)
     go (higher l) rest = absurd (some_left (λ e. omega (arith, l, e)))
 
 -- otherwise the entries behind the prefix decide
-abbrev by_entries : ℕ → List ℕ → List ℕ → Order
-by_entries k xs ys = cond (ltb (get_or xs k 0) (get_or ys k 0)) First Second
+abbrev by_entries : ℕ → List ℕ → List ℕ → Ordering
+by_entries k xs ys = cond (ltb (get_or xs k 0) (get_or ys k 0)) Less Greater
 
 order-apart : (xs ys : List ℕ) → common_prefix xs ys < length xs → common_prefix xs ys < length ys → setting_order xs ys ≡ by_entries (common_prefix xs ys) xs ys
 order-apart [] ys l m = absurd (omega (arith, l))
@@ -162,8 +162,8 @@ module _ (xs ys : List ℕ) {k : ℕ} (e : k ≡ common_prefix xs ys) (l : k < l
   decided : setting_order xs ys ≡ by_entries k xs ys
   decided = order-apart xs ys (omega (arith, e, l)) (omega (arith, e, m)) ∙ ap (λ k. by_entries k xs ys) (sym e)
 
-  pub order-first : get_or xs k 0 < get_or ys k 0 → setting_order xs ys ≡ First
+  pub order-first : get_or xs k 0 < get_or ys k 0 → setting_order xs ys ≡ Less
   order-first h = decided ∙ rw (lt-ltb _ _ h)
 
-  pub order-second : get_or ys k 0 ≤ get_or xs k 0 → setting_order xs ys ≡ Second
+  pub order-second : get_or ys k 0 ≤ get_or xs k 0 → setting_order xs ys ≡ Greater
   order-second h = decided ∙ rw (le-ltb _ _ h)

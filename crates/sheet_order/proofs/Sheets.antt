@@ -1,6 +1,7 @@
 -- Two plan sheets of one network whose settings differ part at the record of the first gate at which these differ: the sheets' order is that of the
 -- settings, and the first byte that differs is the first of that record.
 -- Assumes nothing.
+use Rattle.std.specs.declared.cmp.Ordering.TheVariants.{Equal, Less}
 use Prim.Native.Nat.{ℕ, zero, suc, ◌*◌, ◌<◌}
 use native.Mathlib.Omega.{arith}
 use mathlib.Core.Path.{◌≡◌, refl, sym, ap, ◌∙◌}
@@ -15,8 +16,8 @@ use Rattle.network.specs.Settings.{before}
 use Rattle.network.proofs.Order.{before-irrefl, before-asym}
 use Rattle.file_records.specs.Records.{two_bytes, end_kind}
 use Rattle.sheet_format.specs.Sheets.{plan_kind, gate_record, gate_records, sheet_records, plan_sheet}
-use Rattle.sheet_order.specs.declared.Order.TheVariants.{Equal, First}
-use Rattle.sheet_order.specs.Orders.{setting_order, exchanged}
+use Rattle.std.specs.Ordering.{ordering_reverse}
+use Rattle.sheet_order.specs.Orders.{setting_order}
 use Rattle.sheet_order.specs.Parts.{common_prefix, record_place}
 use Rattle.sheet_order.proofs.Prefixes.{prefix_same, order_same, prefix-both, order-both}
 
@@ -26,10 +27,10 @@ pub order-refl : (s : List ℕ) → setting_order s s ≡ Equal
 order-refl s = rw (before-irrefl s)
 
 -- Exchanging two settings exchanges their order.
-pub order-exchanged : (s t : List ℕ) → setting_order t s ≡ exchanged (setting_order s t)
+pub order-exchanged : (s t : List ℕ) → setting_order t s ≡ ordering_reverse (setting_order s t)
 order-exchanged s t = go (before s t) refl (before t s) refl
   where
-    go : (a : Bool) → before s t ≡ a → (b : Bool) → before t s ≡ b → setting_order t s ≡ exchanged (setting_order s t)
+    go : (a : Bool) → before s t ≡ a → (b : Bool) → before t s ≡ b → setting_order t s ≡ ordering_reverse (setting_order s t)
     go true e true f = absurd (false≢true (sym (before-asym s t e) ∙ f))
     go true e false f = rw (e, f)
     go false e true f = rw (e, f)
@@ -104,7 +105,7 @@ module _ (tail : List ℕ) where
         late = rw (n, p) a.late;
       }
 
-  apart : {gs s t : List ℕ} → Alongside gs s t → setting_order s t ≡ First → Apart gs s t
+  apart : {gs s t : List ℕ} → Alongside gs s t → setting_order s t ≡ Less → Apart gs s t
   apart ended e = absurd (true≢false (cc))
   apart (alike i x {gs} {s} {t} l) e = apart_more i x (apart l (sym (order_same x s t) ∙ e))
   apart (drawn-first i gs s t) e = record { gate = omega arith; place = refl; early = refl; late = refl }
@@ -125,7 +126,7 @@ pub record SheetsApart (gs s t : List ℕ) : Type 0 where
   pub early : take 3 (drop (record_place (common_prefix s t)) (plan_sheet gs s)) ≡ gate_record (get_or gs (common_prefix s t) 0) 0
   pub late : take 3 (drop (record_place (common_prefix s t)) (plan_sheet gs t)) ≡ gate_record (get_or gs (common_prefix s t) 0) 1
 
-pub sheets-apart : {gs s t : List ℕ} → Alongside gs s t → setting_order s t ≡ First → SheetsApart gs s t
+pub sheets-apart : {gs s t : List ℕ} → Alongside gs s t → setting_order s t ≡ Less → SheetsApart gs s t
 sheets-apart {gs} {s} {t} l e =
     let a = apart (end_kind ∷ []) l e in
     let n : record_place (common_prefix s t) ≡ suc (suc (suc (3 * common_prefix s t))) = omega arith in

@@ -1,12 +1,13 @@
 -- The part of the earlier sheet, by its place in the lent sheet. Document 02, item 5, its second half.
 -- Assumes nothing.
-use Rattle.std.specs.Prelude.{ℕ, suc, ◌+◌, ◌-◌, ◌*◌, ◌≡◌, cond, List, [], ◌∷◌, eqb, length, take, drop}
+use Rattle.std.specs.declared.cmp.Ordering.{Ordering}
+use Rattle.network.specs.declared.Refusal.{Refusal}
+use Rattle.std.specs.declared.cmp.Ordering.TheVariants.{Greater, Equal, Less}
+use Rattle.std.specs.Prelude.{ℕ, suc, ◌+◌, ◌-◌, ◌*◌, ◌≡◌, cond, List, [], ◌∷◌, eqb, length, take, drop, Err, Ok, Result}
 use Rattle.std.specs.Borrow.{Bor}
 use Rattle.network.specs.Networks.{Network}
 use Rattle.sheet_format.specs.Readings.{read_sheet}
 use Rattle.sheet_format.specs.Answers.{setting_read}
-use Rattle.sheet_order.specs.declared.Order.{Order}
-use Rattle.sheet_order.specs.declared.Order.TheVariants.{Refused, Equal, First, Second}
 
 -- The length of the longest common prefix of two rows: the place of the first entry in which they differ.
 abbrev pub common_prefix : List ℕ → List ℕ → ℕ
@@ -35,8 +36,8 @@ pub record Part (s : Bor (List ℕ)) (from to : ℕ) (r : Bor (List ℕ)) : Type
 
 -- "It hands back the part of the earlier sheet from the first differing record to that sheet's end. If equal, that is the empty part at the end of the
 -- first; on a refusal, the empty part at its start": where the sheets differ from byte k on.
-abbrev pub PartFrom : ℕ → Order → Bor (List ℕ) → Bor (List ℕ) → Bor (List ℕ) → Type 0
-PartFrom k (Refused x) first second r = Part first 0 0 r
-PartFrom k Equal first second r = Part first (length first.now) (length first.now) r
-PartFrom k First first second r = Part first k (length first.now) r
-PartFrom k Second first second r = Part second k (length second.now) r
+abbrev pub PartFrom : ℕ → Result Ordering Refusal → Bor (List ℕ) → Bor (List ℕ) → Bor (List ℕ) → Type 0
+PartFrom k (Err x) first second r = Part first 0 0 r
+PartFrom k (Ok Equal) first second r = Part first (length first.now) (length first.now) r
+PartFrom k (Ok Less) first second r = Part first k (length first.now) r
+PartFrom k (Ok Greater) first second r = Part second k (length second.now) r

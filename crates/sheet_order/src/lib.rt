@@ -8,20 +8,13 @@ ghost use Rattle.sheet_order.specs.Orders.{setting_order};
 ghost use Rattle.sheet_order.specs.Parts.{common_prefix, PartFrom};
 
 use network::Refusal;
+use std::cmp::Ordering;
 
-// Which of two sheets is earlier, that they are equal, or why they are refused.
-#[derive(Clone, Copy)]
-pub enum Order {
-    Refused(Refusal),
-    Equal,
-    First,
-    Second,
-}
-
-// The reply: the order, and a part of one of the two sheets that were lent.
+// The reply: which of two sheets is earlier (`Less` the first, `Greater` the second), that they are equal, or why they are refused; and a part of one of
+// the two sheets that were lent.
 #[derive(Clone, Copy)]
 pub struct Parting<'a> {
-    pub order: Order,
+    pub order: Result<Ordering, Refusal>,
     pub part: &'a [u8],
 }
 
@@ -42,38 +35,38 @@ fn common_prefix(first: &[u8], second: &[u8]) -> usize
     i
 }
 
-// The order of two sheets by their bytes: the first byte that differs decides, and where one is the start of the other none does.
-pub fn order_of(first: &[u8], second: &[u8]) -> Order
+// The order of two sheets by their bytes: the first byte that differs decides, and where one is the start of the other they are equal.
+pub fn order_of(first: &[u8], second: &[u8]) -> Ordering
     ensures { result ≡ setting_order first.now second.now }
 {
     let at = common_prefix(first, second);
     let left = first.len() - at;
     if left == 0 {
-        return Order::Equal;
+        return Ordering::Equal;
     }
     if second.len() <= at {
-        return Order::Equal;
+        return Ordering::Equal;
     }
     if first[at] < second[at] {
-        Order::First
+        Ordering::Less
     } else {
-        Order::Second
+        Ordering::Greater
     }
 }
 
 // The part of the sheet that the order names, from the first byte in which the two differ. Of sheets that `comparison::order_rows` has put in this order
 // that is the first record in which they differ.
-pub fn part<'a>(order: Order, first: &'a [u8], second: &'a [u8]) -> &'a [u8]
+pub fn part<'a>(order: Result<Ordering, Refusal>, first: &'a [u8], second: &'a [u8]) -> &'a [u8]
     ensures { PartFrom (common_prefix first.now second.now) order first.entry second.entry result }
 {
     let at = common_prefix(first, second);
     match order {
-        Order::Refused(_) => &first[..0],
-        Order::Equal => {
+        Ok(Ordering::Less) => &first[at..],
+        Ok(Ordering::Greater) => &second[at..],
+        Ok(Ordering::Equal) => {
             let end = first.len();
             &first[end..]
         }
-        Order::First => &first[at..],
-        Order::Second => &second[at..],
+        Err(_) => &first[..0],
     }
 }

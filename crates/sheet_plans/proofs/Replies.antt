@@ -1,5 +1,7 @@
 -- What the network gets, as the planner's first plan says it, and its sheet.
 -- Assumes nothing.
+use Rattle.replies.specs.declared.Reply.{Reply}
+use Rattle.std.specs.Prelude.{Err, Ok, Result}
 use Prim.Native.Nat.{ℕ}
 use native.Mathlib.Omega.{arith}
 use mathlib.Core.Path.{◌≡◌, refl, sym, ap, subst, ◌∙◌}
@@ -17,13 +19,9 @@ use Rattle.network.proofs.Networks.{accepted, gates-below}
 use Rattle.network.proofs.Marks.{length-marks}
 use Rattle.network.proofs.Order.{first-is-plan}
 use Rattle.network.proofs.Replies.{room-enough, First, is-plan, is-shut, is-bridge, first-cases}
-use Rattle.file_records.specs.declared.WriteAnswer.{WriteAnswer}
-use Rattle.file_records.specs.declared.WriteAnswer.TheVariants.{Refused as Unwritten}
 use Rattle.file_records.specs.Puts.{Wrote, room_for, WroteWhole}
 use Rattle.replies.specs.declared.Verdict.{Verdict}
 use Rattle.replies.specs.declared.Verdict.TheVariants.{Plan, ShutIn, Lone}
-use Rattle.replies.specs.declared.Answer.{Answer}
-use Rattle.replies.specs.declared.Answer.TheVariants as A
 use Rattle.replies.specs.Answers.{given, answer_of, Replied}
 use Rattle.sheet_format.specs.Sheets.{sheet_of, shut_in_sheet, lone_sheet, outcome_sheet, reply_sheet}
 use Rattle.sheet_format.specs.Rows.{Roomy, first_bytes_sheet}
@@ -32,7 +30,7 @@ use Rattle.sheet_format.proofs.Sheets.{plan-long}
 use Rattle.file_records.proofs.Puts.{put_refused}
 
 -- what first gives an accepted network is no refusal
-never : {N : Network} {o : Outcome} → First N o → (r : Refusal) → answer_of o ≡ A.Refused r → ⊥
+never : {N : Network} {o : Outcome} → First N o → (r : Refusal) → answer_of o ≡ Err r → ⊥
 never (is-plan s e) r h = true≢false (cc)
 never (is-shut e) r h = true≢false (cc)
 never (is-bridge i e f) r h = true≢false (cc)
@@ -43,15 +41,15 @@ verdict_sheet N Plan p m = first_bytes_sheet N.reaches p
 verdict_sheet N (ShutIn f) p m = shut_in_sheet m
 verdict_sheet N (Lone f) p m = lone_sheet f.reach m
 
-verdict_of : Answer → Verdict
-verdict_of (A.Refused r) = Plan
-verdict_of (A.Given g) = g.verdict
+verdict_of : Result Reply Refusal → Verdict
+verdict_of (Err r) = Plan
+verdict_of (Ok g) = g.verdict
 
 given-inj : {u v : Verdict} → given u ≡ given v → u ≡ v
 unfolding verdict_of
 given-inj e = ap verdict_of e
 
-refused-inj : {r s : Refusal} → A.Refused r ≡ A.Refused s → r ≡ s
+refused-inj : {r s : Refusal} → ◌≡◌ {A = Result Reply Refusal} (Err r) (Err s) → r ≡ s
 refused-inj e = cc
 
 -- ---- what the call of first plan leaves, with buffers of the largest lengths
@@ -63,15 +61,15 @@ module _ (N : Network) (p m : List ℕ) (lp : length p ≡ max_reaches) (lm : le
   replied none t = rw (t, room-enough N t (length p) (length m) (omega arith) (omega arith))
   replied (some r) t = rw t
 
-  module _ (p' m' : List ℕ) (a : Answer) (w : Replied (first_reply N (length p) (length m)) p m p' m' a) where
+  module _ (p' m' : List ℕ) (a : Result Reply Refusal) (w : Replied (first_reply N (length p) (length m)) p m p' m' a) where
     answered : (o : Option Refusal) → table_fault N ≡ o → a ≡ answer_of (unless o (first_answer N))
     answered o t = w.reply ∙ ap answer_of (replied o t)
 
     -- the refusal is the table's
-    pub reply-refused : (out : List ℕ) (r : Refusal) → a ≡ A.Refused r → ReplyWritten N out (Unwritten r) out
+    pub reply-refused : (out : List ℕ) (r : Refusal) → a ≡ Err r → ReplyWritten N out (Err r) out
     reply-refused out r e = go (table_fault N) refl
       where
-        go : (o : Option Refusal) → table_fault N ≡ o → ReplyWritten N out (Unwritten r) out
+        go : (o : Option Refusal) → table_fault N ≡ o → ReplyWritten N out (Err r) out
         go none t = absurd (never (first-cases N t) r (sym (answered none t) ∙ e))
         go (some x) t = put_refused (reply_sheet N) out r (ap (λ o. first_of o (room_for (reply_sheet N) (length out))) (t ∙ ap some (refused-inj (sym (answered (some x) t) ∙ e))))
 
@@ -99,7 +97,7 @@ module _ (N : Network) (p m : List ℕ) (lp : length p ≡ max_reaches) (lm : le
 
       -- the sheet of what was given is the network's
       pub reply-put :
-          (out : List ℕ) (r : WriteAnswer) (out' : List ℕ)
+          (out : List ℕ) (r : Result ℕ Refusal) (out' : List ℕ)
           → WroteWhole (verdict_sheet N v p' m') out r out' → ReplyWritten N out r out'
       unfolding reply_sheet
       reply-put out r out' x =

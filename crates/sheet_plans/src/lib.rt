@@ -10,19 +10,23 @@ ghost use Rattle.network.specs.Marks.{mark_bytes};
 ghost use Rattle.tables.specs.Rows.{net_of};
 ghost use Rattle.sheet_format.specs.Answers.{PlanJudged, ReplyWritten};
 
-use file_records::WriteAnswer;
 use network::Refusal;
-use replies::{Answer, CheckAnswer, Verdict};
-use sheet_format::SheetAnswer;
+use replies::Verdict;
 
 // Whether the bytes that a sheet says are a plan of the network. Refuses: 1, 2, 3, 8.
-pub fn judge_plan(basins: u16, kinds: &[u8], a: &[u16], b: &[u16], bytes: &[u8]) -> SheetAnswer
+pub fn judge_plan(
+    basins: u16,
+    kinds: &[u8],
+    a: &[u16],
+    b: &[u16],
+    bytes: &[u8],
+) -> Result<usize, Refusal>
     ensures { PlanJudged (net_of basins kinds.now a.now b.now) bytes.now result }
 {
-    match planner_rows::check(basins, kinds, a, b, bytes) {
-        CheckAnswer::Refused(r) => SheetAnswer::Refused(r),
-        CheckAnswer::No => SheetAnswer::Refused(Refusal::BadSetting),
-        CheckAnswer::Yes => SheetAnswer::Read(bytes.len()),
+    if planner_rows::check(basins, kinds, a, b, bytes)? {
+        Ok(bytes.len())
+    } else {
+        Err(Refusal::BadSetting)
     }
 }
 
@@ -35,20 +39,15 @@ pub fn write_reply_in(
     plan: &mut [u8],
     marks: &mut [u8],
     out: &mut [u8],
-) -> WriteAnswer
+) -> Result<usize, Refusal>
     requires plan_len { length plan.old ≡ max_reaches }
     requires marks_len { length marks.old ≡ mark_bytes }
     ensures { ReplyWritten (net_of basins kinds.now a.now b.now) out.old result out.new }
 {
-    match planner_rows::first_plan(basins, kinds, a, b, plan, marks) {
-        Answer::Refused(r) => WriteAnswer::Refused(r),
-        Answer::Given(reply) => {
-            let verdict = reply.verdict;
-            match verdict {
-                Verdict::Plan => sheet_writing::write_first(kinds, a, b, plan, out),
-                Verdict::ShutIn(_) => sheet_writing::write_shut_in(marks, out),
-                Verdict::Lone(finding) => sheet_writing::write_lone(finding.reach, marks, out),
-            }
-        }
+    let reply = planner_rows::first_plan(basins, kinds, a, b, plan, marks)?;
+    match reply.verdict {
+        Verdict::Plan => sheet_writing::write_first(kinds, a, b, plan, out),
+        Verdict::ShutIn(_) => sheet_writing::write_shut_in(marks, out),
+        Verdict::Lone(finding) => sheet_writing::write_lone(finding.reach, marks, out),
     }
 }

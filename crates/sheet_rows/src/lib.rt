@@ -10,12 +10,8 @@ ghost use Rattle.tables.specs.Rows.{net_of};
 ghost use Rattle.sheet_format.specs.Readings.{sheet_says, read_sheet, sheet_with_room};
 ghost use Rattle.sheet_format.specs.Answers.{Got, Held, SheetRead, SheetWritten, ReplyWritten};
 
-use file_records::WriteAnswer;
 use marks::MARK_BYTES;
 use network::{MAX_REACHES, Refusal};
-use replies::CheckAnswer;
-use sheet_format::SheetAnswer;
-use tables::TableAnswer;
 
 // The sheet of a plan goes to the first bytes of the buffer. Refuses: 1, 2, 3, 8, 7.
 pub fn write_sheet(
@@ -25,19 +21,25 @@ pub fn write_sheet(
     b: &[u16],
     setting: &[u8],
     out: &mut [u8],
-) -> WriteAnswer
+) -> Result<usize, Refusal>
     ensures { SheetWritten (net_of basins kinds.now a.now b.now) setting.now out.old
         result out.new }
 {
-    match planner_rows::check(basins, kinds, a, b, setting) {
-        CheckAnswer::Refused(r) => WriteAnswer::Refused(r),
-        CheckAnswer::No => WriteAnswer::Refused(Refusal::BadSetting),
-        CheckAnswer::Yes => sheet_writing::write_fitting(kinds, a, b, setting, out),
+    if planner_rows::check(basins, kinds, a, b, setting)? {
+        sheet_writing::write_fitting(kinds, a, b, setting, out)
+    } else {
+        Err(Refusal::BadSetting)
     }
 }
 
 // The network's first plan, or the finding that shows why there is none, goes to the first bytes of the buffer as a sheet. Refuses: 1, 2, 3, 7.
-pub fn write_reply(basins: u16, kinds: &[u8], a: &[u16], b: &[u16], out: &mut [u8]) -> WriteAnswer
+pub fn write_reply(
+    basins: u16,
+    kinds: &[u8],
+    a: &[u16],
+    b: &[u16],
+    out: &mut [u8],
+) -> Result<usize, Refusal>
     ensures { ReplyWritten (net_of basins kinds.now a.now b.now) out.old result out.new }
 {
     let mut plan = [0u8; MAX_REACHES];
@@ -54,31 +56,27 @@ pub fn read_plan(
     b: &[u16],
     sheet: &[u8],
     held: &mut [u8],
-) -> SheetAnswer
+) -> Result<usize, Refusal>
     requires { length held.old ≡ max_reaches }
     ensures { Held (read_sheet (net_of basins kinds.now a.now b.now) sheet.now)
         result held.new }
 {
-    if let TableAnswer::Refused(r) = tables::table_check(basins, kinds, a, b) {
-        return SheetAnswer::Refused(r);
-    }
+    tables::table_check(basins, kinds, a, b)?;
     let m = tables::row_count(kinds, a, b);
-    match sheet_reading::read_records(&kinds[..m], sheet, held) {
-        SheetAnswer::Refused(r) => SheetAnswer::Refused(r),
-        SheetAnswer::Read(n) => sheet_plans::judge_plan(basins, kinds, a, b, &held[..n]),
-    }
+    let n = sheet_reading::read_records(&kinds[..m], sheet, held)?;
+    sheet_plans::judge_plan(basins, kinds, a, b, &held[..n])
 }
 
 // The bytes go to the first bytes of the setting's buffer. Refuses: 7.
-fn keep(bytes: &[u8], setting: &mut [u8]) -> SheetAnswer
+fn keep(bytes: &[u8], setting: &mut [u8]) -> Result<usize, Refusal>
     ensures { Got (sheet_with_room (length setting.old) (sheet_says bytes.now)) setting.old
         result setting.new }
 {
     if setting.len() < bytes.len() {
-        return SheetAnswer::Refused(Refusal::ShortBuffer);
+        return Err(Refusal::ShortBuffer);
     }
     file_records::put_bytes(setting, 0, bytes);
-    SheetAnswer::Read(bytes.len())
+    Ok(bytes.len())
 }
 
 // The reader, with lent working memory. What it leaves there is free.
@@ -90,15 +88,13 @@ fn read_sheet_in(
     sheet: &[u8],
     held: &mut [u8],
     setting: &mut [u8],
-) -> SheetAnswer
+) -> Result<usize, Refusal>
     requires { length held.old ≡ max_reaches }
     ensures { SheetRead (net_of basins kinds.now a.now b.now) sheet.now setting.old
         result setting.new }
 {
-    match read_plan(basins, kinds, a, b, sheet, held) {
-        SheetAnswer::Refused(r) => SheetAnswer::Refused(r),
-        SheetAnswer::Read(n) => keep(&held[..n], setting),
-    }
+    let n = read_plan(basins, kinds, a, b, sheet, held)?;
+    keep(&held[..n], setting)
 }
 
 // The setting of a plan sheet goes to the first bytes of the buffer. Refuses: 1, 2, 3, 5, 4, 8, 6, 7. The whole sheet is judged before anything is written.
@@ -109,7 +105,7 @@ pub fn read_sheet(
     b: &[u16],
     sheet: &[u8],
     setting: &mut [u8],
-) -> SheetAnswer
+) -> Result<usize, Refusal>
     ensures { SheetRead (net_of basins kinds.now a.now b.now) sheet.now setting.old
         result setting.new }
 {

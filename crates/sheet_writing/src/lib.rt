@@ -11,7 +11,7 @@ ghost use Rattle.file_records.specs.Puts.{WroteWhole};
 ghost use Rattle.sheet_format.specs.Sheets.{gate_kind, gate_record, sheet_records, plan_sheet, shut_in_sheet, lone_sheet};
 ghost use Rattle.sheet_format.specs.Rows.{gates_row, Records, Fitting, Roomy, table_sheet, first_bytes_sheet};
 
-use file_records::{END, WriteAnswer, put_bytes, put_word};
+use file_records::{END, put_bytes, put_word};
 use network::Refusal;
 use sheet_format::{AS_DRAWN, LONE, PLAN, SHUT_IN, TURNED};
 
@@ -49,19 +49,19 @@ fn put_records(kinds: &[u8], setting: &[u8], out: &mut [u8])
 }
 
 // The sheet of a setting that fits goes to the first bytes of the buffer; 7. The records go into the part of the buffer after the head.
-fn write_sheet(kinds: &[u8], setting: &[u8], out: &mut [u8]) -> WriteAnswer
+fn write_sheet(kinds: &[u8], setting: &[u8], out: &mut [u8]) -> Result<usize, Refusal>
     requires { Records kinds.now setting.now }
     ensures { WroteWhole (plan_sheet (gates_row 0 kinds.now) setting.now) out.old result out.new }
 {
     let count = setting.len();
     let size = 3 * count + 4;
     if out.len() < size {
-        return WriteAnswer::Refused(Refusal::ShortBuffer);
+        return Err(Refusal::ShortBuffer);
     }
     out[0] = PLAN;
     put_word(out, 1, count as u16);
     put_records(kinds, setting, &mut out[3..]);
-    WriteAnswer::Written(size)
+    Ok(size)
 }
 
 // The same over a table, which is as long as the shortest of its rows.
@@ -71,7 +71,7 @@ pub fn write_fitting(
     b: &[u16],
     setting: &[u8],
     out: &mut [u8],
-) -> WriteAnswer
+) -> Result<usize, Refusal>
     requires { Fitting (table_of kinds.now a.now b.now) setting.now }
     ensures { WroteWhole (table_sheet (table_of kinds.now a.now b.now) setting.now) out.old
         result out.new }
@@ -81,7 +81,13 @@ pub fn write_fitting(
 }
 
 // The sheet of the plan that stands in the first bytes of its buffer, one for each gated reach.
-pub fn write_first(kinds: &[u8], a: &[u16], b: &[u16], plan: &[u8], out: &mut [u8]) -> WriteAnswer
+pub fn write_first(
+    kinds: &[u8],
+    a: &[u16],
+    b: &[u16],
+    plan: &[u8],
+    out: &mut [u8],
+) -> Result<usize, Refusal>
     requires { Roomy (table_of kinds.now a.now b.now) plan.now }
     ensures { WroteWhole (first_bytes_sheet (table_of kinds.now a.now b.now) plan.now) out.old
         result out.new }
@@ -92,32 +98,32 @@ pub fn write_first(kinds: &[u8], a: &[u16], b: &[u16], plan: &[u8], out: &mut [u
 }
 
 // The sheet of a shut-in finding goes to the first bytes of the buffer; 7.
-pub fn write_shut_in(marks: &[u8], out: &mut [u8]) -> WriteAnswer
+pub fn write_shut_in(marks: &[u8], out: &mut [u8]) -> Result<usize, Refusal>
     requires { length marks.now ≡ mark_bytes }
     ensures { WroteWhole (shut_in_sheet marks.now) out.old result out.new }
 {
     let size = marks.len() + 2;
     if out.len() < size {
-        return WriteAnswer::Refused(Refusal::ShortBuffer);
+        return Err(Refusal::ShortBuffer);
     }
     out[0] = SHUT_IN;
     put_bytes(out, 1, marks);
     out[size - 1] = END;
-    WriteAnswer::Written(size)
+    Ok(size)
 }
 
 // The sheet of a lone reach goes to the first bytes of the buffer; 7.
-pub fn write_lone(reach: u16, marks: &[u8], out: &mut [u8]) -> WriteAnswer
+pub fn write_lone(reach: u16, marks: &[u8], out: &mut [u8]) -> Result<usize, Refusal>
     requires { length marks.now ≡ mark_bytes }
     ensures { WroteWhole (lone_sheet reach marks.now) out.old result out.new }
 {
     let size = marks.len() + 4;
     if out.len() < size {
-        return WriteAnswer::Refused(Refusal::ShortBuffer);
+        return Err(Refusal::ShortBuffer);
     }
     out[0] = LONE;
     put_word(out, 1, reach);
     put_bytes(out, 3, marks);
     out[size - 1] = END;
-    WriteAnswer::Written(size)
+    Ok(size)
 }

@@ -1,5 +1,6 @@
 -- Which fault a network lent as rows has, by the tests of its table in their order.
 -- Assumes nothing.
+use Rattle.std.specs.Prelude.{Err, Ok}
 use Prim.Native.Nat.{ℕ, ◌≤◌, ◌<◌}
 use native.Mathlib.Omega.{arith}
 use mathlib.Core.Path.{◌≡◌, refl, sym, ap, ◌∙◌}
@@ -17,7 +18,6 @@ use Rattle.network.specs.Tables.{table_of}
 use Rattle.network.specs.Bridges.{no_reach}
 use Rattle.network.specs.Replies.{fault_number}
 use Rattle.network.proofs.Networks.{ends_below}
-use Rattle.tables.specs.declared.TableAnswer.TheVariants as T
 use Rattle.tables.specs.Answers.{table_answer, table_number, TableChecked, StrayEnd}
 use Rattle.tables.proofs.Laws.{table_at}
 
@@ -70,10 +70,10 @@ pub table-checked : (N : Network) {o : Option Refusal} → table_fault N ≡ o �
 table-checked N {o} e = record { answer = ap table_answer (sym e); number = number-faulty o ∙ ap fault_number (sym e) }
 
 -- what the answer says of the fault
-pub answer-refused : (o : Option Refusal) (r : Refusal) → table_answer o ≡ T.Refused r → o ≡ some r
+pub answer-refused : (o : Option Refusal) (r : Refusal) → table_answer o ≡ Err r → o ≡ some r
 answer-refused none r e = cc
 answer-refused (some x) r e = cc
 
-pub answer-accepted : (o : Option Refusal) → table_answer o ≡ T.Accepted → o ≡ none
+pub answer-accepted : (o : Option Refusal) → table_answer o ≡ (Ok tt) → o ≡ none
 answer-accepted none e = refl
 answer-accepted (some x) e = cc

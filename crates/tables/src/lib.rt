@@ -25,13 +25,6 @@ const EITHER: u8 = 2;
 
 const NEITHER: u8 = 3;
 
-// What a table gets: it is accepted, or refused by number only.
-#[derive(Clone, Copy)]
-pub enum TableAnswer {
-    Accepted,
-    Refused(Refusal),
-}
-
 // The smaller of two counts.
 pub fn least(x: usize, y: usize) -> usize
     ensures { result ≡ min x y }
@@ -61,21 +54,21 @@ fn stray_end(basins: u16, kinds: &[u8], a: &[u16], b: &[u16]) -> usize
 }
 
 // What the table gets, in the order of document 01: the basin count, the number of reaches, the ends. Refuses: 1, 2, 3.
-pub fn table_check(basins: u16, kinds: &[u8], a: &[u16], b: &[u16]) -> TableAnswer
+pub fn table_check(basins: u16, kinds: &[u8], a: &[u16], b: &[u16]) -> Result<(), Refusal>
     ensures { TableChecked (net_of basins kinds.now a.now b.now) result }
 {
     if basins == 0 || basins as usize > MAX_BASINS {
-        return TableAnswer::Refused(Refusal::BasinCount);
+        return Err(Refusal::BasinCount);
     }
     let n = row_count(kinds, a, b);
     let i = stray_end(basins, kinds, a, b);
     if n > MAX_REACHES {
-        return TableAnswer::Refused(Refusal::TooManyReaches);
+        return Err(Refusal::TooManyReaches);
     }
     if i < n {
-        return TableAnswer::Refused(Refusal::EndOutOfRange);
+        return Err(Refusal::EndOutOfRange);
     }
-    TableAnswer::Accepted
+    Ok(())
 }
 
 // The number of gated reaches.

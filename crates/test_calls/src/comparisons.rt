@@ -3,17 +3,18 @@ use crate::bounds::{front, rest, word_at};
 use crate::plans::number;
 use crate::show;
 use crate::show::Out;
-use sheet_order::Order;
+use network::Refusal;
+use std::cmp::Ordering;
 use std::io;
 use std::io::Write;
 
 // Which sheet is earlier: 1 the first, 2 the second, 0 neither.
-fn show_order(w: &mut impl Write, o: Out, order: Order) -> io::Result<Out> {
+fn show_order(w: &mut impl Write, o: Out, order: Result<Ordering, Refusal>) -> io::Result<Out> {
     match order {
-        Order::Refused(r) => show::reply(w, o, number(r)),
-        Order::Equal => show::reply_with(w, o, 0, 0),
-        Order::First => show::reply_with(w, o, 0, 1),
-        Order::Second => show::reply_with(w, o, 0, 2),
+        Err(r) => show::reply(w, o, number(r)),
+        Ok(Ordering::Equal) => show::reply_with(w, o, 0, 0),
+        Ok(Ordering::Less) => show::reply_with(w, o, 0, 1),
+        Ok(Ordering::Greater) => show::reply_with(w, o, 0, 2),
     }
 }
 

@@ -2,16 +2,6 @@
 use crate::bounds::{OLD, OLD_WORD, within, within_words};
 use crate::files::{Lengths, Reading};
 use crate::table_rows::ROOM;
-use contraction::ContractAnswer;
-use netfile_format::ReadAnswer;
-
-// The same as a reader's answer, which is printed so.
-fn counts(answer: ContractAnswer) -> ReadAnswer {
-    match answer {
-        ContractAnswer::Refused(r) => ReadAnswer::Refused(r),
-        ContractAnswer::Contracted { basins, reaches } => ReadAnswer::Read { basins, reaches },
-    }
-}
 
 // The answer, and the new rows afterwards.
 pub fn contracted(basins: u16, kinds: &[u8], a: &[u16], b: &[u16], n: Lengths) -> Reading {
@@ -31,7 +21,7 @@ pub fn contracted(basins: u16, kinds: &[u8], a: &[u16], b: &[u16], n: Lengths) -
         &mut b2[..y],
     );
     Reading {
-        answer: counts(answer),
+        answer,
         kinds: kinds2,
         a: a2,
         b: b2,

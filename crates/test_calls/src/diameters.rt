@@ -3,7 +3,6 @@ use crate::bounds::{front, rest, word_at};
 use crate::plans::number;
 use crate::show;
 use crate::show::Out;
-use distances::DiameterAnswer;
 use std::io;
 use std::io::Write;
 
@@ -20,7 +19,7 @@ pub fn longest(
 ) -> io::Result<Out> {
     let setting = front(rest(s, word_at(c, 15) as usize), word_at(c, 9) as usize);
     match diameter::diameter_rows(word_at(c, 1), kinds, a, b, setting) {
-        DiameterAnswer::Refused(r) => show::reply(w, o, number(r)),
-        DiameterAnswer::Longest(count) => show::reply_with(w, o, 0, count as u64),
+        Err(r) => show::reply(w, o, number(r)),
+        Ok(count) => show::reply_with(w, o, 0, count as u64),
     }
 }

@@ -4,11 +4,8 @@ use crate::plans::number;
 use crate::show;
 use crate::show::Out;
 use crate::table_rows::ROOM;
-use file_records::WriteAnswer;
 use listing_state::Lister;
-use netfile_format::ReadAnswer;
-use network::MAX_REACHES;
-use sheet_format::SheetAnswer;
+use network::{Counts, MAX_REACHES, Refusal};
 use std::io;
 use std::io::Write;
 
@@ -23,7 +20,7 @@ pub struct Lengths {
 // A reader's answer, and the rows afterwards.
 #[derive(Drop)]
 pub struct Reading {
-    pub answer: ReadAnswer,
+    pub answer: Result<Counts, Refusal>,
     pub kinds: [u8; ROOM],
     pub a: [u16; ROOM],
     pub b: [u16; ROOM],
@@ -45,10 +42,10 @@ pub fn read(file: &[u8], n: Lengths) -> Reading {
     }
 }
 
-fn show_read(w: &mut impl Write, o: Out, answer: ReadAnswer) -> io::Result<Out> {
+fn show_read(w: &mut impl Write, o: Out, answer: Result<Counts, Refusal>) -> io::Result<Out> {
     match answer {
-        ReadAnswer::Refused(r) => show::reply(w, o, number(r)),
-        ReadAnswer::Read { basins, reaches } => {
+        Err(r) => show::reply(w, o, number(r)),
+        Ok(Counts { basins, reaches }) => {
             let o = show::reply_with(w, o, 0, basins as u64)?;
             show::value(w, o, reaches as u64)
         }
@@ -79,23 +76,13 @@ struct Size {
     length: usize,
 }
 
-fn written(answer: WriteAnswer) -> Size {
+fn size_of(answer: Result<usize, Refusal>) -> Size {
     match answer {
-        WriteAnswer::Refused(r) => Size {
+        Err(r) => Size {
             number: number(r),
             length: 0,
         },
-        WriteAnswer::Written(length) => Size { number: 0, length },
-    }
-}
-
-fn sheet_read(answer: SheetAnswer) -> Size {
-    match answer {
-        SheetAnswer::Refused(r) => Size {
-            number: number(r),
-            length: 0,
-        },
-        SheetAnswer::Read(length) => Size { number: 0, length },
+        Ok(length) => Size { number: 0, length },
     }
 }
 
@@ -126,10 +113,10 @@ fn fill(
     out: &mut [u8],
 ) -> Size {
     match call {
-        WRITE_NETWORK => written(netfile_rows::write_network(basins, kinds, a, b, out)),
-        READ_SHEET => sheet_read(sheet_rows::read_sheet(basins, kinds, a, b, s, out)),
-        WRITE_SHEET => written(sheet_rows::write_sheet(basins, kinds, a, b, s, out)),
-        _ => written(sheet_rows::write_reply(basins, kinds, a, b, out)),
+        WRITE_NETWORK => size_of(netfile_rows::write_network(basins, kinds, a, b, out)),
+        READ_SHEET => size_of(sheet_rows::read_sheet(basins, kinds, a, b, s, out)),
+        WRITE_SHEET => size_of(sheet_rows::write_sheet(basins, kinds, a, b, s, out)),
+        _ => size_of(sheet_rows::write_reply(basins, kinds, a, b, out)),
     }
 }
 

@@ -4,11 +4,10 @@ use crate::show;
 use crate::show::Out;
 use marks::MARK_BYTES;
 use network::{MAX_REACHES, Refusal};
-use replies::{Answer, CheckAnswer, Finding, Verdict};
+use replies::{Finding, Reply, Verdict};
 use std::io;
 use std::io::Write;
-use tables::TableAnswer;
-use walker::{MakeAnswer, Walker};
+use walker::Walker;
 
 // Document 01's number of a refusal.
 pub fn number(r: Refusal) -> u8 {
@@ -28,16 +27,16 @@ pub fn number(r: Refusal) -> u8 {
 // What the table gets, and the check of a setting.
 pub fn table_number(basins: u16, kinds: &[u8], a: &[u16], b: &[u16]) -> u8 {
     match tables::table_check(basins, kinds, a, b) {
-        TableAnswer::Refused(r) => number(r),
-        TableAnswer::Accepted => 0,
+        Err(r) => number(r),
+        Ok(()) => 0,
     }
 }
 
 pub fn check_number(basins: u16, kinds: &[u8], a: &[u16], b: &[u16], setting: &[u8]) -> u8 {
     match planner_rows::check(basins, kinds, a, b, setting) {
-        CheckAnswer::Refused(r) => number(r),
-        CheckAnswer::Yes => show::YES,
-        CheckAnswer::No => show::NO,
+        Err(r) => number(r),
+        Ok(true) => show::YES,
+        Ok(false) => show::NO,
     }
 }
 
@@ -48,17 +47,14 @@ fn show_finding(w: &mut impl Write, o: Out, number: u8, f: Finding) -> io::Resul
 }
 
 // What first and next plan answer: 0 for a plan, else the number.
-fn show_answer(w: &mut impl Write, o: Out, answer: Answer) -> io::Result<Out> {
+fn show_answer(w: &mut impl Write, o: Out, answer: Result<Reply, Refusal>) -> io::Result<Out> {
     match answer {
-        Answer::Refused(r) => show::reply(w, o, number(r)),
-        Answer::Given(reply) => {
-            let verdict = reply.verdict;
-            match verdict {
-                Verdict::Plan => show::reply(w, o, 0),
-                Verdict::ShutIn(f) => show_finding(w, o, 9, f),
-                Verdict::Lone(f) => show_finding(w, o, 10, f),
-            }
-        }
+        Err(r) => show::reply(w, o, number(r)),
+        Ok(reply) => match reply.verdict {
+            Verdict::Plan => show::reply(w, o, 0),
+            Verdict::ShutIn(f) => show_finding(w, o, 9, f),
+            Verdict::Lone(f) => show_finding(w, o, 10, f),
+        },
     }
 }
 
@@ -77,7 +73,7 @@ const MARKS: usize = MARK_BYTES + 8;
 // An answer, and the buffers afterwards.
 #[derive(Clone, Copy)]
 pub struct Got {
-    answer: Answer,
+    answer: Result<Reply, Refusal>,
     plan: [u8; PLAN],
     marks: [u8; MARKS],
 }
@@ -98,7 +94,7 @@ fn fill(
     s: &[u8],
     plan: &mut [u8],
     marks: &mut [u8],
-) -> Answer {
+) -> Result<Reply, Refusal> {
     match call {
         FIRST => planner_rows::first_plan(basins, kinds, a, b, plan, marks),
         BOUND => bound_gates::bound_gates_rows(basins, kinds, a, b, plan, marks),
@@ -213,12 +209,11 @@ pub fn show_made(
     n: usize,
 ) -> io::Result<Out> {
     let made = Walker::make_rows(basins, kinds, a, b, s);
-    let answer = made.answer;
     let walker = made.walker;
     let setting = walker.setting;
-    let number = match answer {
-        MakeAnswer::Refused(r) => number(r),
-        MakeAnswer::Made => 0,
+    let number = match made.answer {
+        Err(r) => number(r),
+        Ok(()) => 0,
     };
     let o = show::reply(w, o, number)?;
     show_setting(w, o, &setting, n)

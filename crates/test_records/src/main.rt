@@ -10,8 +10,7 @@ mod table;
 ghost use Rattle.std.specs.Prelude.{◌≤◌};
 ghost use Rattle.test_records.specs.Rooms.{table_room};
 
-use contraction::ContractAnswer;
-use network::{MAX_BASINS, MAX_REACHES, Reach};
+use network::{Counts, MAX_BASINS, MAX_REACHES, Reach, Refusal};
 use relays::ROOM;
 use std::io;
 use sums::{BYTES, MARKS, mix, sum};
@@ -203,7 +202,7 @@ fn both(call: u8, n: usize, basins: u16, t: Twice, s: &[u8], p: usize) -> Pair
 
 // A file is read into a table, and all of the table is written.
 fn reread_rows(kinds: &mut [u8], a: &mut [u16], b: &mut [u16], walker: Walker, s: &[u8]) -> u64 {
-    let x = sums::of_read(netfile_rows::read_network(s, kinds, a, b));
+    let x = sums::of_counts(netfile_rows::read_network(s, kinds, a, b));
     mix(
         x,
         rows(WRITE_NETWORK, BASINS, kinds, a, b, walker, s, BYTES),
@@ -217,7 +216,7 @@ fn reread_records(n: usize, reaches: [Reach; ROOM], walker: Walker, s: &[u8]) ->
     let answer = r.answer;
     let after = r.reaches;
     mix(
-        sums::of_read(answer),
+        sums::of_counts(answer),
         records(WRITE_NETWORK, n, BASINS, after, walker, s, BYTES),
     )
 }
@@ -243,7 +242,7 @@ fn reread(n: usize, t: Twice, s: &[u8]) -> Pair
 // What contracting answers over rows, and the rows afterwards.
 #[derive(Drop)]
 struct Contracted {
-    answer: ContractAnswer,
+    answer: Result<Counts, Refusal>,
     kinds: [u8; ROOM],
     a: [u16; ROOM],
     b: [u16; ROOM],
@@ -298,7 +297,7 @@ fn contracted_rows(c: Contracted, walker: Walker) -> u64 {
         &s,
         BYTES,
     );
-    mix(sums::of_contracted(answer), written)
+    mix(sums::of_counts(answer), written)
 }
 
 fn contracted_records(
@@ -317,7 +316,7 @@ fn contracted_records(
     let after = c.reaches;
     let s = walker.setting;
     mix(
-        sums::of_contracted(answer),
+        sums::of_counts(answer),
         records(WRITE_NETWORK, MAX_REACHES, BASINS, after, walker, &s, BYTES),
     )
 }

@@ -2,33 +2,32 @@
 ghost use Rattle.std.specs.Prelude.{◌≤◌};
 ghost use Rattle.test_records.specs.Rooms.{table_room};
 
-use contraction::ContractAnswer;
-use distances::DiameterAnswer;
-use file_records::WriteAnswer;
-use netfile_format::ReadAnswer;
-use network::{MAX_REACHES, Reach};
-use replies::{Answer, CheckAnswer};
-use sheet_format::SheetAnswer;
-use sheet_order::Order;
-use tables::TableAnswer;
+use network::{Counts, MAX_REACHES, Reach, Refusal};
+use replies::Reply;
+use std::cmp::Ordering;
 use walker::{Made, Stepped, Walker};
 
 // The records that a table has room for: more than a network may have.
 pub const ROOM: usize = MAX_REACHES + 6;
 
-pub fn table_check(n: usize, basins: u16, reaches: [Reach; ROOM]) -> TableAnswer
+pub fn table_check(n: usize, basins: u16, reaches: [Reach; ROOM]) -> Result<(), Refusal>
     requires { n ≤ table_room }
 {
     planner::table_check(basins, &reaches[..n])
 }
 
-pub fn check(n: usize, basins: u16, reaches: [Reach; ROOM], setting: &[u8]) -> CheckAnswer
+pub fn check(n: usize, basins: u16, reaches: [Reach; ROOM], setting: &[u8]) -> Result<bool, Refusal>
     requires { n ≤ table_room }
 {
     planner::check(basins, &reaches[..n], setting)
 }
 
-pub fn diameter(n: usize, basins: u16, reaches: [Reach; ROOM], setting: &[u8]) -> DiameterAnswer
+pub fn diameter(
+    n: usize,
+    basins: u16,
+    reaches: [Reach; ROOM],
+    setting: &[u8],
+) -> Result<u16, Refusal>
     requires { n ≤ table_room }
 {
     diameter::diameter(basins, &reaches[..n], setting)
@@ -40,7 +39,7 @@ pub fn first_plan(
     reaches: [Reach; ROOM],
     plan: &mut [u8],
     marks: &mut [u8],
-) -> Answer
+) -> Result<Reply, Refusal>
     requires { n ≤ table_room }
 {
     planner::first_plan(basins, &reaches[..n], plan, marks)
@@ -52,7 +51,7 @@ pub fn bound_gates(
     reaches: [Reach; ROOM],
     bytes: &mut [u8],
     marks: &mut [u8],
-) -> Answer
+) -> Result<Reply, Refusal>
     requires { n ≤ table_room }
 {
     bound_gates::bound_gates(basins, &reaches[..n], bytes, marks)
@@ -65,7 +64,7 @@ pub fn next_plan(
     setting: &[u8],
     plan: &mut [u8],
     marks: &mut [u8],
-) -> Answer
+) -> Result<Reply, Refusal>
     requires { n ≤ table_room }
 {
     planner::next_plan(basins, &reaches[..n], setting, plan, marks)
@@ -90,7 +89,12 @@ pub fn step(
     walker.step(basins, &reaches[..n], plan, marks)
 }
 
-pub fn write_network(n: usize, basins: u16, reaches: [Reach; ROOM], out: &mut [u8]) -> WriteAnswer
+pub fn write_network(
+    n: usize,
+    basins: u16,
+    reaches: [Reach; ROOM],
+    out: &mut [u8],
+) -> Result<usize, Refusal>
     requires { n ≤ table_room }
 {
     netfile::write_network(basins, &reaches[..n], out)
@@ -102,7 +106,7 @@ pub fn read_sheet(
     reaches: [Reach; ROOM],
     sheet: &[u8],
     setting: &mut [u8],
-) -> SheetAnswer
+) -> Result<usize, Refusal>
     requires { n ≤ table_room }
 {
     sheet::read_sheet(basins, &reaches[..n], sheet, setting)
@@ -114,13 +118,18 @@ pub fn write_sheet(
     reaches: [Reach; ROOM],
     setting: &[u8],
     out: &mut [u8],
-) -> WriteAnswer
+) -> Result<usize, Refusal>
     requires { n ≤ table_room }
 {
     sheet::write_sheet(basins, &reaches[..n], setting, out)
 }
 
-pub fn write_reply(n: usize, basins: u16, reaches: [Reach; ROOM], out: &mut [u8]) -> WriteAnswer
+pub fn write_reply(
+    n: usize,
+    basins: u16,
+    reaches: [Reach; ROOM],
+    out: &mut [u8],
+) -> Result<usize, Refusal>
     requires { n ≤ table_room }
 {
     sheet::write_reply(basins, &reaches[..n], out)
@@ -129,7 +138,7 @@ pub fn write_reply(n: usize, basins: u16, reaches: [Reach; ROOM], out: &mut [u8]
 // What reading a file over records replies, and the table afterwards.
 #[derive(Drop)]
 pub struct ReadTable {
-    pub answer: ReadAnswer,
+    pub answer: Result<Counts, Refusal>,
     pub reaches: [Reach; ROOM],
 }
 
@@ -143,7 +152,7 @@ pub fn read_network(n: usize, file: &[u8], mut reaches: [Reach; ROOM]) -> ReadTa
 // What contracting over records replies, and the buffer afterwards, of which the first k records are lent.
 #[derive(Drop)]
 pub struct ContractedTable {
-    pub answer: ContractAnswer,
+    pub answer: Result<Counts, Refusal>,
     pub reaches: [Reach; ROOM],
 }
 
@@ -171,7 +180,7 @@ pub fn compare_order<'a>(
     reaches: [Reach; ROOM],
     first: &'a [u8],
     second: &'a [u8],
-) -> Order
+) -> Result<Ordering, Refusal>
     requires { n ≤ table_room }
 {
     comparison::compare(basins, &reaches[..n], first, second).order

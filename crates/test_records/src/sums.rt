@@ -1,15 +1,9 @@
 // What a call replies, as a number, and the sum of all that it leaves.
-use contraction::ContractAnswer;
-use distances::DiameterAnswer;
-use file_records::WriteAnswer;
 use marks::MARK_BYTES;
-use netfile_format::ReadAnswer;
-use network::{MAX_REACHES, Refusal};
-use replies::{Answer, CheckAnswer, Finding, Verdict};
-use sheet_format::SheetAnswer;
-use sheet_order::Order;
-use tables::TableAnswer;
-use walker::{Made, MakeAnswer, Stepped};
+use network::{Counts, MAX_REACHES, Refusal};
+use replies::{Finding, Reply, Verdict};
+use std::cmp::Ordering;
+use walker::{Made, Stepped};
 
 // The bytes of an output: more than a file or a sheet may have.
 pub const BYTES: usize = 6 * MAX_REACHES + 56;
@@ -55,25 +49,25 @@ fn number(r: Refusal) -> u64 {
     }
 }
 
-pub fn of_diameter(answer: DiameterAnswer) -> u64 {
+pub fn of_diameter(answer: Result<u16, Refusal>) -> u64 {
     match answer {
-        DiameterAnswer::Refused(r) => number(r),
-        DiameterAnswer::Longest(d) => 100 + d as u64,
+        Err(r) => number(r),
+        Ok(d) => 100 + d as u64,
     }
 }
 
-pub fn of_table(answer: TableAnswer) -> u64 {
+pub fn of_table(answer: Result<(), Refusal>) -> u64 {
     match answer {
-        TableAnswer::Refused(r) => number(r),
-        TableAnswer::Accepted => 0,
+        Err(r) => number(r),
+        Ok(()) => 0,
     }
 }
 
-pub fn of_check(answer: CheckAnswer) -> u64 {
+pub fn of_check(answer: Result<bool, Refusal>) -> u64 {
     match answer {
-        CheckAnswer::Refused(r) => number(r),
-        CheckAnswer::Yes => 16,
-        CheckAnswer::No => 17,
+        Err(r) => number(r),
+        Ok(true) => 16,
+        Ok(false) => 17,
     }
 }
 
@@ -81,77 +75,52 @@ fn of_finding(number: u64, f: Finding) -> u64 {
     mix(mix(number, f.reach as u64), f.count as u64)
 }
 
-pub fn of_answer(answer: Answer) -> u64 {
+pub fn of_answer(answer: Result<Reply, Refusal>) -> u64 {
     match answer {
-        Answer::Refused(r) => number(r),
-        Answer::Given(reply) => {
-            let verdict = reply.verdict;
-            match verdict {
-                Verdict::Plan => 0,
-                Verdict::ShutIn(f) => of_finding(9, f),
-                Verdict::Lone(f) => of_finding(10, f),
-            }
-        }
+        Err(r) => number(r),
+        Ok(reply) => match reply.verdict {
+            Verdict::Plan => 0,
+            Verdict::ShutIn(f) => of_finding(9, f),
+            Verdict::Lone(f) => of_finding(10, f),
+        },
     }
 }
 
 pub fn of_stepped(s: Stepped) -> u64 {
-    let answer = s.answer;
-    let walker = s.walker;
-    let setting = walker.setting;
-    sum(of_answer(answer), &setting)
-}
-
-fn of_making(answer: MakeAnswer) -> u64 {
-    match answer {
-        MakeAnswer::Refused(r) => number(r),
-        MakeAnswer::Made => 0,
-    }
+    sum(of_answer(s.answer), &s.walker.setting)
 }
 
 pub fn of_made(m: Made) -> u64 {
-    let answer = m.answer;
-    let walker = m.walker;
-    let setting = walker.setting;
-    sum(of_making(answer), &setting)
+    sum(of_table(m.answer), &m.walker.setting)
 }
 
 // Above 100, the length of what was written.
-pub fn of_written(answer: WriteAnswer) -> u64 {
+pub fn of_written(answer: Result<usize, Refusal>) -> u64 {
     match answer {
-        WriteAnswer::Refused(r) => number(r),
-        WriteAnswer::Written(length) => 100 + (length % 65536) as u64,
+        Err(r) => number(r),
+        Ok(length) => 100 + (length % 65536) as u64,
     }
 }
 
-pub fn of_sheet(answer: SheetAnswer) -> u64 {
+pub fn of_sheet(answer: Result<usize, Refusal>) -> u64 {
     match answer {
-        SheetAnswer::Refused(r) => number(r),
-        SheetAnswer::Read(length) => mix(0, length as u64),
+        Err(r) => number(r),
+        Ok(length) => mix(0, length as u64),
     }
 }
 
-pub fn of_read(answer: ReadAnswer) -> u64 {
+pub fn of_counts(answer: Result<Counts, Refusal>) -> u64 {
     match answer {
-        ReadAnswer::Refused(r) => number(r),
-        ReadAnswer::Read { basins, reaches } => mix(mix(0, basins as u64), reaches as u64),
+        Err(r) => number(r),
+        Ok(counts) => mix(mix(0, counts.basins as u64), counts.reaches as u64),
     }
 }
 
-pub fn of_contracted(answer: ContractAnswer) -> u64 {
-    match answer {
-        ContractAnswer::Refused(r) => number(r),
-        ContractAnswer::Contracted { basins, reaches } => {
-            mix(mix(0, basins as u64), reaches as u64)
-        }
-    }
-}
-
-pub fn of_order(order: Order) -> u64 {
+pub fn of_order(order: Result<Ordering, Refusal>) -> u64 {
     match order {
-        Order::Refused(r) => number(r),
-        Order::Equal => 20,
-        Order::First => 21,
-        Order::Second => 22,
+        Err(r) => number(r),
+        Ok(Ordering::Equal) => 20,
+        Ok(Ordering::Less) => 21,
+        Ok(Ordering::Greater) => 22,
     }
 }

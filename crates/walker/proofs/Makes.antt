@@ -1,23 +1,24 @@
--- The making of a walker, and how many bytes of it a table uses.
+-- The making of a walker.
 -- Assumes nothing.
+use Rattle.std.specs.Prelude.{Result, Ok, Err}
 use Prim.Native.Nat.{ℕ, ◌≤◌}
 use native.Mathlib.Omega.{arith}
-use mathlib.Core.Path.{◌≡◌, refl, ap, ◌∙◌}
+use mathlib.Core.Path.{◌≡◌, refl, sym, ap, ◌∙◌}
 use mathlib.Core.Option.{Option, none, some}
-use mathlib.Core.List.{List}
-use lib.ListN.{length, take}
-use lib.Seq.{take-length}
+use mathlib.Core.List.{List, []}
+use lib.ListN.{length}
 use Rattle.network.specs.declared.Refusal.{Refusal}
 use Rattle.network.specs.Networks.{Network, max_reaches}
 use Rattle.network.specs.Replies.{fault_number, check_fault}
 use Rattle.network.proofs.Networks.{gates-fit}
 use Rattle.network.proofs.Order.{setting-length}
+use Rattle.tables.specs.Answers.{table_answer}
+use Rattle.tables.proofs.Faults.{answer-refused, answer-accepted}
 use Rattle.packing.proofs.Packings.{ByTable}
 use Rattle.refusals.proofs.Dues.{unrefused-fits}
-use Rattle.walker.specs.declared.MakeAnswer.{MakeAnswer}
 use Rattle.walker.specs.declared.Walker.{Walker}
 use Rattle.walker.specs.declared.Made.{Made}
-use Rattle.walker.specs.Walkers.{walker_of, make_of, make_number, walker_made, kept_of, Making}
+use Rattle.walker.specs.Walkers.{walker_of, make_of, walker_made, Making}
 
 -- ---- what is made
 
@@ -32,35 +33,21 @@ make-alike s N N' x e e' h =
     let same : check_fault N s ≡ check_fault N' s = rw (e, e') in
     record { answered = h.answered ∙ ap make_of same; number = h.number ∙ ap fault_number same; held = h.held ∙ ap (λ (o : Option Refusal). walker_made o s) same }
 
-number-made : (f : Option Refusal) → make_number (make_of f) ≡ fault_number f
-number-made none = refl
-number-made (some r) = refl
+-- what the check of the setting refuses, the making refuses
+module _ (N : Network) (s : List ℕ) {x : Result (Unit {0}) Refusal} (told : x ≡ table_answer (check_fault N s)) where
+  module _ {r : Refusal} (e : x ≡ Err r) where
+    fault : check_fault N s ≡ some r
+    fault = answer-refused (check_fault N s) r (sym told ∙ e)
 
--- ---- the bytes kept
+    pub make-refused : {w : Walker} → w.setting ≡ walker_of [] → Making N s (record { answer = Err r; walker = w })
+    make-refused z = record { answered = rw fault refl; number = rw fault refl; held = rw fault z }
 
-kept-within : (f : Option Refusal) (n : ℕ) → kept_of (make_of f) n ≤ n
-kept-within none n = omega arith
-kept-within (some r) n = omega arith
+  module _ (e : x ≡ Ok tt) where
+    clear : check_fault N s ≡ none
+    clear = answer-accepted (check_fault N s) (sym told ∙ e)
 
-kept-walker : (f : Option Refusal) (s : List ℕ) → walker_of (take (kept_of (make_of f) (length s)) s) ≡ walker_made f s
-kept-walker none s = ap walker_of (take-length s)
-kept-walker (some r) s = refl
+    pub make-fits : length s ≤ max_reaches
+    make-fits = made_held N s clear
 
-module _ (N : Network) (s : List ℕ) {r : MakeAnswer} {n : ℕ} (e : r ≡ make_of (check_fault N s)) (k : n ≡ kept_of r (length s)) where
-  kept-is : n ≡ kept_of (make_of (check_fault N s)) (length s)
-  kept-is = k ∙ ap (λ (x : MakeAnswer). kept_of x (length s)) e
-
-  -- they are bytes of the setting, and no more than a walker holds
-  pub kept-few : n ≤ length s
-  kept-few = omega (arith, kept-is, kept-within (check_fault N s) (length s))
-
-  pub kept-held : n ≤ max_reaches
-  kept-held = go (check_fault N s) refl
-    where
-      go : (f : Option Refusal) → check_fault N s ≡ f → n ≤ max_reaches
-      go none f = omega (arith, kept-few, made_held N s f)
-      go (some x) f = omega (arith, kept-is ∙ ap (λ (o : Option Refusal). kept_of (make_of o) (length s)) f)
-
-  -- the walker that they make is what the making hands back
-  pub make-made : {w : Walker} → w.setting ≡ walker_of (take n s) → Making N s (record { answer = r; walker = w })
-  make-made z = record { answered = e; number = ap make_number e ∙ number-made (check_fault N s); held = z ∙ ap (λ (x : ℕ). walker_of (take x s)) kept-is ∙ kept-walker (check_fault N s) s }
+    pub make-made : {w : Walker} → w.setting ≡ walker_of s → Making N s (record { answer = Ok tt; walker = w })
+    make-made z = record { answered = rw clear refl; number = rw clear refl; held = rw clear z }

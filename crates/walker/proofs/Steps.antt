@@ -1,5 +1,6 @@
 -- The step: the next plan from the bytes that a table uses, and the walker after it.
 -- Assumes nothing.
+use Rattle.std.specs.Prelude.{Ok, Result}
 use Prim.Native.Nat.{ℕ, ◌≤◌, ◌<◌}
 use native.Mathlib.Omega.{arith}
 use mathlib.Core.Path.{◌≡◌, refl, sym, ap, subst, ◌∙◌}
@@ -18,8 +19,6 @@ use Rattle.network.proofs.Order.{setting-length, plan-setting, next-is-plan}
 use Rattle.network.proofs.Replies.{next-given, unless-plan}
 use Rattle.replies.specs.declared.Verdict.TheVariants.{Plan}
 use Rattle.replies.specs.declared.Reply.{Reply}
-use Rattle.replies.specs.declared.Answer.{Answer}
-use Rattle.replies.specs.declared.Answer.TheVariants as A
 use Rattle.replies.specs.Answers.{Replied}
 use Rattle.replies.proofs.Refusals.{next-faulty}
 use Rattle.packing.proofs.Packings.{ByTable}
@@ -31,7 +30,7 @@ use Rattle.network.proofs.Networks.{gates-fit}
 
 -- ---- the walker after an answer
 
-module _ (g : ℕ) (buffer w : List ℕ) {r : Answer} {y : Reply} (e : r ≡ A.Given y) (v : y.verdict ≡ Plan) where
+module _ (g : ℕ) (buffer w : List ℕ) {r : Result Reply Refusal} {y : Reply} (e : r ≡ Ok y) (v : y.verdict ≡ Plan) where
   -- a plan given moves the walker
   pub advanced-moved : {w' : List ℕ} → g ≤ length buffer → w' ≡ take g buffer ++ drop g w → w' ≡ advanced_by r g buffer w
   advanced-moved l m = rw (e, v, le-leb g (length buffer) l) m
@@ -41,15 +40,15 @@ module _ (g : ℕ) (buffer w : List ℕ) {r : Answer} {y : Reply} (e : r ≡ A.G
   advanced-short l = rw (e, v, lt-leb g (length buffer) l)
 
 -- a reply whose plans have g bytes, once written down, moves the walker to its plan
-walk-on : (o : Outcome) (w : List ℕ) {g : ℕ} {buffer marks buffer' marks' : List ℕ} {r : Answer} → ((p : List ℕ) → o ≡ plan p → length p ≡ g) → Replied o buffer marks buffer' marks' r → advanced_by r g buffer' w ≡ plan_after o w
+walk-on : (o : Outcome) (w : List ℕ) {g : ℕ} {buffer marks buffer' marks' : List ℕ} {r : Result Reply Refusal} → ((p : List ℕ) → o ≡ plan p → length p ≡ g) → Replied o buffer marks buffer' marks' r → advanced_by r g buffer' w ≡ plan_after o w
 walk-on (plan p) w {g} {buffer} {buffer'} sized e =
     let n = sized p refl in
     let there : take g buffer' ≡ p = ap (take g) e.plan-left ∙ take_at p (drop (length p) buffer) g n in
     let long : g ≤ length buffer' = omega (arith, ap length e.plan-left, length-append p (drop (length p) buffer)) in
     sym (advanced-moved g buffer' w e.reply refl long (rw (there, n)))
-walk-on (shut_in m c) w {g} {buffer'} sized e = ap (λ (x : Answer). advanced_by x g buffer' w) e.reply
-walk-on (lone i m c) w {g} {buffer'} sized e = ap (λ (x : Answer). advanced_by x g buffer' w) e.reply
-walk-on (refused x) w {g} {buffer'} sized e = ap (λ (x : Answer). advanced_by x g buffer' w) e.reply
+walk-on (shut_in m c) w {g} {buffer'} sized e = ap (λ (x : Result Reply Refusal). advanced_by x g buffer' w) e.reply
+walk-on (lone i m c) w {g} {buffer'} sized e = ap (λ (x : Result Reply Refusal). advanced_by x g buffer' w) e.reply
+walk-on (refused x) w {g} {buffer'} sized e = ap (λ (x : Result Reply Refusal). advanced_by x g buffer' w) e.reply
 
 -- ---- the reply
 
@@ -78,7 +77,7 @@ module _ (N : Network) where
       let given = unless-plan (room_fault N plan_length marks_length) (next_answer N s) fits.1 in
       (table.0, setting-length N p (plan-setting N p (next-is-plan N s ((next-given N table.0 s p).0 given.1))))
 
-  module _ (w : List ℕ) {buffer marks buffer' marks' : List ℕ} {r : Answer} where
+  module _ (w : List ℕ) {buffer marks buffer' marks' : List ℕ} {r : Result Reply Refusal} where
     -- the walker advanced by the answer has what the reply leaves
     pub step-walk : Replied (step_reply N w (length buffer) (length marks)) buffer marks buffer' marks' r → advanced_by r (gates_held N) buffer' w ≡ plan_after (step_reply N w (length buffer) (length marks)) w
     step-walk = walk-on (step_reply N w (length buffer) (length marks)) w (λ p e. let given = step_given w (length buffer) (length marks) e in given.1 ∙ sym (all_held given.0))

@@ -1,6 +1,7 @@
 -- "A walker over plans carries its setting with it, and each step hands back the walker after it."
 -- Assumes nothing.
-use Rattle.std.specs.Prelude.{ℕ, ◌-◌, ◌≡◌, cond, List, [], ◌++◌, length, take, drop, replicate, leb}
+use Rattle.replies.specs.declared.Reply.{Reply}
+use Rattle.std.specs.Prelude.{ℕ, ◌-◌, ◌≡◌, cond, List, [], ◌++◌, length, take, drop, replicate, leb, Err, Ok, Result}
 use Rattle.std.proofs.Math.Option.{Option, none, some}
 use Rattle.network.specs.declared.Refusal.{Refusal}
 use Rattle.network.specs.Networks.{Network, max_reaches}
@@ -8,11 +9,7 @@ use Rattle.network.specs.Settings.{gate_count}
 use Rattle.network.specs.Replies.{refusal_number, fault_number, Outcome, check_fault, plan_after, next_reply}
 use Rattle.replies.specs.declared.Verdict.{Verdict}
 use Rattle.replies.specs.declared.Verdict.TheVariants.{Plan, ShutIn, Lone}
-use Rattle.replies.specs.declared.Answer.{Answer}
-use Rattle.replies.specs.declared.Answer.TheVariants as A
 use Rattle.replies.specs.Answers.{Replied}
-use Rattle.walker.specs.declared.MakeAnswer.{MakeAnswer}
-use Rattle.walker.specs.declared.MakeAnswer.TheVariants as M
 use Rattle.walker.specs.declared.Made.{Made}
 use Rattle.walker.specs.declared.Stepped.{Stepped}
 
@@ -26,18 +23,18 @@ setting_in N w = take (gate_count N) w
 
 -- "It is made from a table and a setting, with bytes past the setting 0; where the check of that setting would refuse, so does the making, and hands
 -- back a walker of zeros."
-abbrev pub make_of : Option Refusal → MakeAnswer
-make_of (some r) = M.Refused r
-make_of none = M.Made
+abbrev pub make_of : Option Refusal → Result (Unit {0}) Refusal
+make_of (some r) = Err r
+make_of none = (Ok tt)
 
 abbrev pub walker_made : Option Refusal → List ℕ → List ℕ
 walker_made (some r) s = walker_of []
 walker_made none s = walker_of s
 
 -- Document 01's number of the making's answer, 0 where a walker is made.
-abbrev pub make_number : MakeAnswer → ℕ
-make_number (M.Refused r) = refusal_number r
-make_number M.Made = 0
+abbrev pub make_number : Result (Unit {0}) Refusal → ℕ
+make_number (Err r) = refusal_number r
+make_number (Ok tt) = 0
 
 -- What the making answers, its number, and the walker that it hands back.
 pub record Making (N : Network) (s : List ℕ) (r : Made) : Type 0 where
@@ -56,17 +53,12 @@ pub record Stepping (N : Network) (w plan marks plan' marks' : List ℕ) (r : St
 
 -- ---- the parts of a making and of a step
 
--- How many of a setting's n bytes a walker gets.
-abbrev pub kept_of : MakeAnswer → ℕ → ℕ
-kept_of (M.Refused r) n = 0
-kept_of M.Made n = n
-
 -- The walker's bytes after an answer: where it gives a plan, the first g bytes of the plan buffer for its own.
 abbrev pub moved_by : Verdict → ℕ → List ℕ → List ℕ → List ℕ
 moved_by Plan g plan w = cond (leb g (length plan)) (take g plan ++ drop g w) w
 moved_by (ShutIn f) g plan w = w
 moved_by (Lone f) g plan w = w
 
-abbrev pub advanced_by : Answer → ℕ → List ℕ → List ℕ → List ℕ
-advanced_by (A.Refused r) g plan w = w
-advanced_by (A.Given y) g plan w = moved_by y.verdict g plan w
+abbrev pub advanced_by : Result Reply Refusal → ℕ → List ℕ → List ℕ → List ℕ
+advanced_by (Err r) g plan w = w
+advanced_by (Ok y) g plan w = moved_by y.verdict g plan w

@@ -1,11 +1,14 @@
 -- `contraction::contract` meets its contract: rows of its own are lent to the call that contracts the table into rows, and their reaches go into the buffer.
 -- Assumes nothing.
-use Rattle.std.proofs.Common.{ℕ, refl, subst, arith}
-use Rattle.packing.specs.Rows.{UnpackedFrom}
+use Rattle.std.proofs.Common.{refl, arith}
+use Rattle.std.proofs.lemmas.Result.{err_from_is_err_and}
+use Rattle.contraction.proofs.Buffers.{none-unpacked}
 use Rattle.contraction.proofs.contract.Goals as goal
 
+pub returns-in_err-counts : goal.returns-in_err-counts
+returns-in_err-counts c =
+    let p = err_from_is_err_and c.from_residual.result c.from_residual.ensures.1 in
+    rw (p.1, p.2) (c.in_err-counts.ensures.said (omega arith) c.args.out.now c.args.out.now refl (none-unpacked _ _ _ _))
+
 pub returns : goal.returns
-returns c =
-    let k = c.contract_table-answer in
-    let into = subst (λ (n : ℕ). UnpackedFrom n k.new.kinds2 k.new.a2 k.new.b2 c.args.out.now c.unpack_from.new.t) c.count.ensures c.unpack_from.ensures in
-    k.ensures.said (omega arith) c.args.out.now c.unpack_from.new.t refl into
+returns c = c.in_ok-counts.ensures.said (omega arith) c.args.out.now c.unpack_from.new.t refl c.unpack_from.ensures

@@ -4,6 +4,7 @@ use native.Mathlib.Omega.{arith}
 use mathlib.Core.Path.{◌≡◌, sym, ◌∙◌}
 use mathlib.Core.Option.{some}
 use lib.Seq.{length-take-le}
+use Rattle.std.proofs.lemmas.Result.{err_from_is_err_and}
 use Rattle.network.specs.Networks.{Network, Accepted, table_fault}
 use Rattle.tables.specs.Rows.{net_of}
 use Rattle.tables.proofs.Cuts.{cut-kinds, cut-a, cut-b}
@@ -11,16 +12,17 @@ use Rattle.tables.proofs.Faults.{answer-refused, answer-accepted}
 use Rattle.contraction.proofs.Answers.{fault-table, rows-refused, cut_short, contractible, cut-given}
 use Rattle.contraction.proofs.contract_rows.Goals as goal
 
-pub returns-in-Refused : goal.returns-in-Refused
-returns-in-Refused c =
+pub returns-in_err-table_check : goal.returns-in_err-table_check
+returns-in_err-table_check c =
     let net : Network = net_of c.args.basins c.args.kinds.now c.args.a.now c.args.b.now in
-    let stopped : table_fault (net) ≡ some c.in-Refused.r = answer-refused (table_fault (net)) _ (sym c.table_check.ensures.answer ∙ c.in-Refused.is) in
-    rows-refused (net) (fault-table (net) _ (stopped))
+    let stopped : table_fault (net) ≡ some c.in_err-table_check.field-0.0 = answer-refused (table_fault (net)) _ (sym c.table_check.ensures.answer ∙ c.in_err-table_check.was) in
+    let p = err_from_is_err_and c.from_residual.result c.from_residual.ensures.1 in
+    rw (p.1, p.2) (rows-refused (net) (fault-table (net) _ (stopped)))
 
 pub returns-then-row_count-m : goal.returns-then-row_count-m
 returns-then-row_count-m c =
     let net : Network = net_of c.args.basins c.args.kinds.now c.args.a.now c.args.b.now in
-    let sound : Accepted (net) = answer-accepted (table_fault (net)) (sym c.table_check.ensures.answer ∙ c.in_default.is) in
+    let sound : Accepted (net) = answer-accepted (table_fault (net)) (sym c.table_check.ensures.answer ∙ c.in_ok-table_check.was) in
     cut_short c.args.basins c.args.kinds.now c.args.a.now c.args.b.now c.row_count-m.result c.row_count-m.ensures (sound) c.args.kinds2.now c.args.a2.now c.args.b2.now c.row_count.result c.row_count.ensures (omega (arith, c.if-row_count-m.true))
 
 pub slice_bounds-contract_accepted-end : goal.slice_bounds-contract_accepted-end
@@ -38,12 +40,12 @@ slice_bounds-contract_accepted-end-3 c =
 pub contract_accepted-requires : goal.contract_accepted-requires
 contract_accepted-requires c =
     let net : Network = net_of c.args.basins c.args.kinds.now c.args.a.now c.args.b.now in
-    let sound : Accepted (net) = answer-accepted (table_fault (net)) (sym c.table_check.ensures.answer ∙ c.in_default.is) in
+    let sound : Accepted (net) = answer-accepted (table_fault (net)) (sym c.table_check.ensures.answer ∙ c.in_ok-table_check.was) in
     contractible c.args.basins c.args.kinds.now c.args.a.now c.args.b.now c.row_count-m.result c.row_count-m.ensures (sound) c.args.kinds2.now c.args.a2.now c.args.b2.now c.row_count.result c.row_count.ensures (omega (arith, c.if-row_count-m.false))
 
 pub returns : goal.returns
 returns c =
     let net : Network = net_of c.args.basins c.args.kinds.now c.args.a.now c.args.b.now in
-    let sound : Accepted (net) = answer-accepted (table_fault (net)) (sym c.table_check.ensures.answer ∙ c.in_default.is) in
+    let sound : Accepted (net) = answer-accepted (table_fault (net)) (sym c.table_check.ensures.answer ∙ c.in_ok-table_check.was) in
     cut-given c.args.basins c.args.kinds.now c.args.a.now c.args.b.now c.row_count-m.result c.row_count-m.ensures (sound) c.args.kinds2.now c.args.a2.now c.args.b2.now c.row_count.result c.row_count.ensures (omega (arith, c.if-row_count-m.false))
     c.contract_accepted.ensures

@@ -5,7 +5,7 @@ use Rattle.tables.specs.Rows.{net_of}
 use Rattle.contraction_laws.proofs.Contractions.{again-given}
 use Rattle.contraction_laws.proofs.contract_again.Goals as goal
 
-pub returns-in-Contracted : goal.returns-in-Contracted
-returns-in-Contracted c =
+pub returns-in-Ok : goal.returns-in-Ok
+returns-in-Ok c =
     let N : Network = net_of c.args.basins c.args.kinds.now c.args.a.now c.args.b.now in
-    again-given (N) c.contracted-c.ensures c.in-Contracted.n c.in-Contracted.m c.in-Contracted.is c.contracted.ensures
+    again-given (N) c.contracted-c.ensures c.in-Ok.counts.basins c.in-Ok.counts.reaches c.in-Ok.is c.contracted.ensures

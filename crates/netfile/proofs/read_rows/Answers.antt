@@ -52,7 +52,7 @@ returns c =
             arith,
             big,
             c.least-m.ensures,
-            c.usable.ensures,
+            c.least.ensures,
             c.row_count.ensures,
             table-short c.args.kinds.now c.args.a.now c.args.b.now,
             length-take-le c.least-m.result c.args.kinds.now (omega (arith, cut)),

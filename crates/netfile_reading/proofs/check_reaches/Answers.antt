@@ -1,5 +1,6 @@
 -- `netfile_reading::check_reaches` meets its contract. The loop's invariant: the reading of what is left decides that of the whole.
 -- The measure is what is left of the file. Assumes nothing.
+use Rattle.std.proofs.lemmas.Result.{err_from_is_err_and}
 use Prim.Native.Nat.{◌+◌, ◌≤◌}
 use native.Mathlib.Omega.{arith}
 use mathlib.Core.Path.{◌≡◌, sym, ◌∙◌}
@@ -11,89 +12,89 @@ use Rattle.netfile_format.proofs.Steps.{record-long, ReachAt, reach-at}
 use Rattle.netfile_format.proofs.Scan.{ReachStood, scan-broken, scan-over, scan-end, scan-values, scan-full, scan-stray, scan-next}
 use Rattle.netfile_reading.proofs.check_reaches.Goals as goal
 
-pub returns-in-Broken : goal.returns-in-Broken
-returns-in-Broken c =
-    scan-broken c.loop-r.invariant c.in-Broken.r
-    (sym c.reach_or_end.ensures ∙ c.in-Broken.is)
+pub returns-in_err-kind : goal.returns-in_err-kind
+returns-in_err-kind c =
+    let p = err_from_is_err_and c.from_residual.result c.from_residual.ensures.1 in
+    rw (p.1, p.2) (scan-broken c.loop-kind.invariant c.in_err-kind.field-0.0 (sym c.reach_or_end.ensures ∙ c.in_err-kind.was))
 
 pub returns-then-at-file : goal.returns-then-at-file
 returns-then-at-file c =
-    let here : ReachStood c.args.file.now c.loop-r.at c.in-Whole.kind = sym c.reach_or_end.ensures ∙ c.in-Whole.is in
-    scan-over c.loop-r.invariant (here) c.if-kind-eq-END.true c.if-at-file.true
+    let here : ReachStood c.args.file.now c.loop-kind.at c.in_ok-kind.kind = sym c.reach_or_end.ensures ∙ c.in_ok-kind.was in
+    scan-over c.loop-kind.invariant (here) c.if-kind-eq-END.true c.if-at-file.true
 
 pub returns-then-kind-eq-END : goal.returns-then-kind-eq-END
 returns-then-kind-eq-END c =
-    let here : ReachStood c.args.file.now c.loop-r.at c.in-Whole.kind = sym c.reach_or_end.ensures ∙ c.in-Whole.is in
-    scan-end c.loop-r.invariant (here) c.if-kind-eq-END.true c.if-at-file.false
+    let here : ReachStood c.args.file.now c.loop-kind.at c.in_ok-kind.kind = sym c.reach_or_end.ensures ∙ c.in_ok-kind.was in
+    scan-end c.loop-kind.invariant (here) c.if-kind-eq-END.true c.if-at-file.false
 
 pub record_front-front-requires : goal.record_front-front-requires
 record_front-front-requires c =
-    let here : ReachStood c.args.file.now c.loop-r.at c.in-Whole.kind = sym c.reach_or_end.ensures ∙ c.in-Whole.is in
-    let reach : ReachAt c.args.basins c.args.file.now c.loop-r.at c.in-Whole.kind = reach-at c.args.basins c.args.file.now c.loop-r.at c.in-Whole.kind (here) c.if-kind-eq-END.false in
+    let here : ReachStood c.args.file.now c.loop-kind.at c.in_ok-kind.kind = sym c.reach_or_end.ensures ∙ c.in_ok-kind.was in
+    let reach : ReachAt c.args.basins c.args.file.now c.loop-kind.at c.in_ok-kind.kind = reach-at c.args.basins c.args.file.now c.loop-kind.at c.in_ok-kind.kind (here) c.if-kind-eq-END.false in
     reach.fits
 
 pub returns-then-wrong : goal.returns-then-wrong
 returns-then-wrong c =
-    let here : ReachStood c.args.file.now c.loop-r.at c.in-Whole.kind = sym c.reach_or_end.ensures ∙ c.in-Whole.is in
+    let here : ReachStood c.args.file.now c.loop-kind.at c.in_ok-kind.kind = sym c.reach_or_end.ensures ∙ c.in_ok-kind.was in
     sym
-    (scan-values c.loop-r.invariant (here)
+    (scan-values c.loop-kind.invariant (here)
     c.if-kind-eq-END.false c.record_front-front.ensures.known_value
     ∙ rw c.if-wrong.true)
 
 pub returns-then-full : goal.returns-then-full
 returns-then-full c =
-    let here : ReachStood c.args.file.now c.loop-r.at c.in-Whole.kind = sym c.reach_or_end.ensures ∙ c.in-Whole.is in
-    let good : good_inner c.in-Whole.kind
-    (drop (c.loop-r.at + 1) c.args.file.now)
+    let here : ReachStood c.args.file.now c.loop-kind.at c.in_ok-kind.kind = sym c.reach_or_end.ensures ∙ c.in_ok-kind.was in
+    let good : good_inner c.in_ok-kind.kind
+    (drop (c.loop-kind.at + 1) c.args.file.now)
     ≡ true = sym c.record_front-front.ensures.known_value ∙ not-false _ c.if-wrong.false in
-    scan-full c.loop-r.invariant (here) c.if-kind-eq-END.false
+    scan-full c.loop-kind.invariant (here) c.if-kind-eq-END.false
     (good) (omega (arith, eqb-true, c.if-full.true))
 
 pub word_at-requires : goal.word_at-requires
 word_at-requires c =
-    let here : ReachStood c.args.file.now c.loop-r.at c.in-Whole.kind = sym c.reach_or_end.ensures ∙ c.in-Whole.is in
-    let reach : ReachAt c.args.basins c.args.file.now c.loop-r.at c.in-Whole.kind = reach-at c.args.basins c.args.file.now c.loop-r.at c.in-Whole.kind (here) c.if-kind-eq-END.false in
-    let whole : c.loop-r.at + 5 ≤ length c.args.file.now = omega (arith, reach.fits, record-long c.in-Whole.kind) in
+    let here : ReachStood c.args.file.now c.loop-kind.at c.in_ok-kind.kind = sym c.reach_or_end.ensures ∙ c.in_ok-kind.was in
+    let reach : ReachAt c.args.basins c.args.file.now c.loop-kind.at c.in_ok-kind.kind = reach-at c.args.basins c.args.file.now c.loop-kind.at c.in_ok-kind.kind (here) c.if-kind-eq-END.false in
+    let whole : c.loop-kind.at + 5 ≤ length c.args.file.now = omega (arith, reach.fits, record-long c.in_ok-kind.kind) in
     omega (arith, whole)
 
 pub returns-then-basins-word_at : goal.returns-then-basins-word_at
 returns-then-basins-word_at c =
-    let here : ReachStood c.args.file.now c.loop-r.at c.in-Whole.kind = sym c.reach_or_end.ensures ∙ c.in-Whole.is in
-    let good : good_inner c.in-Whole.kind
-    (drop (c.loop-r.at + 1) c.args.file.now)
+    let here : ReachStood c.args.file.now c.loop-kind.at c.in_ok-kind.kind = sym c.reach_or_end.ensures ∙ c.in_ok-kind.was in
+    let good : good_inner c.in_ok-kind.kind
+    (drop (c.loop-kind.at + 1) c.args.file.now)
     ≡ true = sym c.record_front-front.ensures.known_value ∙ not-false _ c.if-wrong.false in
-    scan-stray c.loop-r.invariant
+    scan-stray c.loop-kind.invariant
     (here) c.if-kind-eq-END.false
     (good) (λ e. omega (arith, eqb-false, c.if-full.false))
     (λ p _. omega (arith, c.word_at.ensures, c.if-basins-word_at.true))
 
-pub word_at-requires-in-loop-r : goal.word_at-requires-in-loop-r
-word_at-requires-in-loop-r c =
-    let here : ReachStood c.args.file.now c.loop-r.at c.in-Whole.kind = sym c.reach_or_end.ensures ∙ c.in-Whole.is in
-    let reach : ReachAt c.args.basins c.args.file.now c.loop-r.at c.in-Whole.kind = reach-at c.args.basins c.args.file.now c.loop-r.at c.in-Whole.kind (here) c.if-kind-eq-END.false in
-    let whole : c.loop-r.at + 5 ≤ length c.args.file.now = omega (arith, reach.fits, record-long c.in-Whole.kind) in
+pub word_at-requires-in-loop-kind : goal.word_at-requires-in-loop-kind
+word_at-requires-in-loop-kind c =
+    let here : ReachStood c.args.file.now c.loop-kind.at c.in_ok-kind.kind = sym c.reach_or_end.ensures ∙ c.in_ok-kind.was in
+    let reach : ReachAt c.args.basins c.args.file.now c.loop-kind.at c.in_ok-kind.kind = reach-at c.args.basins c.args.file.now c.loop-kind.at c.in_ok-kind.kind (here) c.if-kind-eq-END.false in
+    let whole : c.loop-kind.at + 5 ≤ length c.args.file.now = omega (arith, reach.fits, record-long c.in_ok-kind.kind) in
     omega (arith, whole)
 
 pub returns-then-basins-word_at-2 : goal.returns-then-basins-word_at-2
 returns-then-basins-word_at-2 c =
-    let here : ReachStood c.args.file.now c.loop-r.at c.in-Whole.kind = sym c.reach_or_end.ensures ∙ c.in-Whole.is in
-    let good : good_inner c.in-Whole.kind
-    (drop (c.loop-r.at + 1) c.args.file.now)
+    let here : ReachStood c.args.file.now c.loop-kind.at c.in_ok-kind.kind = sym c.reach_or_end.ensures ∙ c.in_ok-kind.was in
+    let good : good_inner c.in_ok-kind.kind
+    (drop (c.loop-kind.at + 1) c.args.file.now)
     ≡ true = sym c.record_front-front.ensures.known_value ∙ not-false _ c.if-wrong.false in
-    scan-stray c.loop-r.invariant
+    scan-stray c.loop-kind.invariant
     (here) c.if-kind-eq-END.false
     (good) (λ e. omega (arith, eqb-false, c.if-full.false))
-    (λ _ p. omega (arith, c.word_at-in-loop-r.ensures, c.if-basins-word_at-2.true))
+    (λ _ p. omega (arith, c.word_at-in-loop-kind.ensures, c.if-basins-word_at-2.true))
 
-pub loop-r-preserved : goal.loop-r-preserved
-loop-r-preserved c =
-    let here : ReachStood c.args.file.now c.loop-r.at c.in-Whole.kind = sym c.reach_or_end.ensures ∙ c.in-Whole.is in
-    let good : good_inner c.in-Whole.kind
-    (drop (c.loop-r.at + 1) c.args.file.now)
+pub loop-kind-preserved : goal.loop-kind-preserved
+loop-kind-preserved c =
+    let here : ReachStood c.args.file.now c.loop-kind.at c.in_ok-kind.kind = sym c.reach_or_end.ensures ∙ c.in_ok-kind.was in
+    let good : good_inner c.in_ok-kind.kind
+    (drop (c.loop-kind.at + 1) c.args.file.now)
     ≡ true = sym c.record_front-front.ensures.known_value ∙ not-false _ c.if-wrong.false in
-    scan-next c.loop-r.invariant
+    scan-next c.loop-kind.invariant
     (here) c.if-kind-eq-END.false
     (good) (λ e. omega (arith, eqb-false, c.if-full.false))
     (omega (arith, c.word_at.ensures, c.if-basins-word_at.false))
-    (omega (arith, c.word_at-in-loop-r.ensures, c.if-basins-word_at-2.false))
+    (omega (arith, c.word_at-in-loop-kind.ensures, c.if-basins-word_at-2.false))
     c.record_front-front.result.size c.record_front-front.ensures.size_value

@@ -5,8 +5,8 @@ use lib.ListN.{length}
 use Rattle.netfile_format.proofs.Scan.{FileScanned}
 use Rattle.netfile_reading.proofs.check_reaches.Given as goal
 
-abbrev pub invariant-loop-r : goal.invariant-loop-r
-invariant-loop-r l = FileScanned l.basins l.file l.at l.reaches
+abbrev pub invariant-loop-kind : goal.invariant-loop-kind
+invariant-loop-kind l = FileScanned l.basins l.file l.at l.reaches
 
-abbrev pub decreases-loop-r : goal.decreases-loop-r
-decreases-loop-r l = length l.file - l.at
+abbrev pub decreases-loop-kind : goal.decreases-loop-kind
+decreases-loop-kind l = length l.file - l.at

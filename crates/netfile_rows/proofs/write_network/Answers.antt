@@ -14,14 +14,14 @@ use Rattle.netfile_rows.proofs.write_network.Goals as goal
 pub file_length-size-requires : goal.file_length-size-requires
 file_length-size-requires c =
     let net : Network = net_of c.args.basins c.args.kinds.now c.args.a.now c.args.b.now in
-    let sound : Accepted (net) = answer-accepted (table_fault (net)) (sym c.table_check.ensures.answer ∙ c.in_default.is) in
+    let sound : Accepted (net) = answer-accepted (table_fault (net)) (sym c.table_check.ensures.answer ∙ c.in_ok-table_check.was) in
     let few : length (net).reaches ≤ max_reaches = (accepted (net) (sound)).few-reaches in
     few
 
 pub returns : goal.returns
 returns c =
     let net : Network = net_of c.args.basins c.args.kinds.now c.args.a.now c.args.b.now in
-    let sound : Accepted (net) = answer-accepted (table_fault (net)) (sym c.table_check.ensures.answer ∙ c.in_default.is) in
+    let sound : Accepted (net) = answer-accepted (table_fault (net)) (sym c.table_check.ensures.answer ∙ c.in_ok-table_check.was) in
     let size : c.file_length-size.result ≡ length (file_of (net)) = c.file_length-size.ensures in
     write_done (net) c.args.out.now (sound) c.file_length-size.result (size) c.put_word.new.out c.put_reaches.new.out
     c.if-out-size.false c.put_word.ensures c.put_reaches.ensures

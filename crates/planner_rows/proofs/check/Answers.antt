@@ -3,6 +3,7 @@
 use mathlib.Core.Path.{◌≡◌, sym, ◌∙◌}
 use mathlib.Core.Option.{none}
 use lib.Seq.{length-take-le}
+use Rattle.std.proofs.lemmas.Result.{err_from_is_err_and}
 use Rattle.network.specs.Networks.{Network}
 use Rattle.network.specs.Replies.{check_fault}
 use Rattle.tables.specs.Rows.{net_of}
@@ -14,10 +15,11 @@ use Rattle.planning.proofs.Calls.{check-given}
 use Rattle.replies.proofs.Refusals.{check-refused}
 use Rattle.planner_rows.proofs.check.Goals as goal
 
-pub returns-in-Refused : goal.returns-in-Refused
-returns-in-Refused c =
+pub returns-in_err-check_refusal : goal.returns-in_err-check_refusal
+returns-in_err-check_refusal c =
     let net : Network = net_of c.args.basins c.args.kinds.now c.args.a.now c.args.b.now in
-    check-refused (net) c.args.setting.now _ (answer-refused (check_fault (net) c.args.setting.now) _ (sym c.check_refusal.ensures ∙ c.in-Refused.is))
+    let p = err_from_is_err_and c.from_residual.result c.from_residual.ensures.1 in
+    rw (p.1, p.2) (check-refused (net) c.args.setting.now _ (answer-refused (check_fault (net) c.args.setting.now) _ (sym c.check_refusal.ensures ∙ c.in_err-check_refusal.was)))
 
 pub slice_bounds-check_accepted-end : goal.slice_bounds-check_accepted-end
 slice_bounds-check_accepted-end c =
@@ -34,11 +36,11 @@ slice_bounds-check_accepted-end-3 c =
 pub check_accepted-requires : goal.check_accepted-requires
 check_accepted-requires c =
     let net : Network = net_of c.args.basins c.args.kinds.now c.args.a.now c.args.b.now in
-    let clear : check_fault (net) c.args.setting.now ≡ none = answer-accepted _ (sym c.check_refusal.ensures ∙ c.in_default.is) in
+    let clear : check_fault (net) c.args.setting.now ≡ none = answer-accepted _ (sym c.check_refusal.ensures ∙ c.in_ok-check_refusal.was) in
     cut_level c.args.basins c.args.kinds.now c.args.a.now c.args.b.now c.row_count-m.result c.row_count-m.ensures (unrefused-fits (net) c.args.setting.now (clear)).0
 
 pub returns : goal.returns
 returns c =
     let net : Network = net_of c.args.basins c.args.kinds.now c.args.a.now c.args.b.now in
-    let clear : check_fault (net) c.args.setting.now ≡ none = answer-accepted _ (sym c.check_refusal.ensures ∙ c.in_default.is) in
-    check-given (cut-net c.args.kinds.now c.args.a.now c.args.b.now c.row_count-m.result c.row_count-m.ensures c.args.basins) c.args.setting.now (clear) c.check_accepted.ensures c.yes_or.ensures
+    let clear : check_fault (net) c.args.setting.now ≡ none = answer-accepted _ (sym c.check_refusal.ensures ∙ c.in_ok-check_refusal.was) in
+    check-given (cut-net c.args.kinds.now c.args.a.now c.args.b.now c.row_count-m.result c.row_count-m.ensures c.args.basins) c.args.setting.now (clear) c.check_accepted.ensures

@@ -3,6 +3,7 @@
 use native.Mathlib.Omega.{arith}
 use mathlib.Core.Path.{◌≡◌, refl, sym, ap, ◌∙◌}
 use lib.ListN.{length}
+use Rattle.std.specs.Prelude.{Ok}
 use Rattle.tables.specs.Rows.{net_of}
 use Rattle.seeking.specs.Levels.{Level}
 use Rattle.replies.specs.Answers.{says_yes}
@@ -15,7 +16,7 @@ orient-requires c =
     let long-a : length c.args.a.now ≡ length c.args.kinds.now = omega (arith, c.if-a-kinds.false) in
     let long-b : length c.args.b.now ≡ length c.args.kinds.now = omega (arith, c.if-b-kinds.false) in
     let level : Level c.args.basins c.args.kinds.now c.args.a.now c.args.b.now = record {
-      accepted = (yes-plan (net_of c.args.basins c.args.kinds.now c.args.a.now c.args.b.now) c.args.setting.now (sym c.check.ensures.answer ∙ c.in-Yes.is)).0;
+      accepted = (yes-plan (net_of c.args.basins c.args.kinds.now c.args.a.now c.args.b.now) c.args.setting.now (sym c.check.ensures.answer ∙ c.in-Ok-true.is ∙ ap Ok c.in-Ok-true.field-0-test)).0;
       ends-a = long-a;
       ends-b = long-b;
     } in
@@ -26,25 +27,25 @@ index-requires c =
     let long-a : length c.args.a.now ≡ length c.args.kinds.now = omega (arith, c.if-a-kinds.false) in
     let long-b : length c.args.b.now ≡ length c.args.kinds.now = omega (arith, c.if-b-kinds.false) in
     let level : Level c.args.basins c.args.kinds.now c.args.a.now c.args.b.now = record {
-      accepted = (yes-plan (net_of c.args.basins c.args.kinds.now c.args.a.now c.args.b.now) c.args.setting.now (sym c.check.ensures.answer ∙ c.in-Yes.is)).0;
+      accepted = (yes-plan (net_of c.args.basins c.args.kinds.now c.args.a.now c.args.b.now) c.args.setting.now (sym c.check.ensures.answer ∙ c.in-Ok-true.is ∙ ap Ok c.in-Ok-true.field-0-test)).0;
       ends-a = long-a;
       ends-b = long-b;
     } in
     spare-index (level) c.requires refl refl
 
-pub returns-in-Yes : goal.returns-in-Yes
-returns-in-Yes c =
+pub returns-in-Ok-true : goal.returns-in-Ok-true
+returns-in-Ok-true c =
     let long-a : length c.args.a.now ≡ length c.args.kinds.now = omega (arith, c.if-a-kinds.false) in
     let long-b : length c.args.b.now ≡ length c.args.kinds.now = omega (arith, c.if-b-kinds.false) in
     let level : Level c.args.basins c.args.kinds.now c.args.a.now c.args.b.now = record {
-      accepted = (yes-plan (net_of c.args.basins c.args.kinds.now c.args.a.now c.args.b.now) c.args.setting.now (sym c.check.ensures.answer ∙ c.in-Yes.is)).0;
+      accepted = (yes-plan (net_of c.args.basins c.args.kinds.now c.args.a.now c.args.b.now) c.args.setting.now (sym c.check.ensures.answer ∙ c.in-Ok-true.is ∙ ap Ok c.in-Ok-true.field-0-test)).0;
       ends-a = long-a;
       ends-b = long-b;
     } in
-    said-yes (long-a) (long-b) c.check.ensures.answer (ap says_yes c.in-Yes.is)
+    said-yes (long-a) (long-b) c.check.ensures.answer (ap says_yes (c.in-Ok-true.is ∙ ap Ok c.in-Ok-true.field-0-test))
     record {
       level = level;
-      is-plan = (yes-plan (net_of c.args.basins c.args.kinds.now c.args.a.now c.args.b.now) c.args.setting.now (sym c.check.ensures.answer ∙ c.in-Yes.is)).1;
+      is-plan = (yes-plan (net_of c.args.basins c.args.kinds.now c.args.a.now c.args.b.now) c.args.setting.now (sym c.check.ensures.answer ∙ c.in-Ok-true.is ∙ ap Ok c.in-Ok-true.field-0-test)).1;
       oriented = c.orient.ensures;
     }
     c.index.ensures

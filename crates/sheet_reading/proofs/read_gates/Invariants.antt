@@ -5,8 +5,8 @@ use lib.ListN.{length}
 use Rattle.sheet_format.proofs.Scan.{SheetScanned}
 use Rattle.sheet_reading.proofs.read_gates.Given as goal
 
-abbrev pub invariant-loop-r : goal.invariant-loop-r
-invariant-loop-r l = SheetScanned l.kinds l.sheet l.initial.held l.held l.at l.i l.k
+abbrev pub invariant-loop-kind : goal.invariant-loop-kind
+invariant-loop-kind l = SheetScanned l.kinds l.sheet l.initial.held l.held l.at l.i l.k
 
-abbrev pub decreases-loop-r : goal.decreases-loop-r
-decreases-loop-r l = length l.sheet - l.at
+abbrev pub decreases-loop-kind : goal.decreases-loop-kind
+decreases-loop-kind l = length l.sheet - l.at

@@ -1,5 +1,6 @@
 -- `sheet_rows::read_plan` meets its contract: the table, the whole sheet into the working memory, and then the planner's check.
 -- Assumes nothing.
+use Rattle.std.proofs.lemmas.Result.{err_from_is_err_and}
 use native.Mathlib.Omega.{arith}
 use mathlib.Core.Path.{sym, ◌∙◌}
 use lib.ListN.{take}
@@ -14,10 +15,10 @@ use Rattle.sheet_format.proofs.Puts.{cut-gates-row}
 use Rattle.sheet_format.proofs.Getting.{held-table, held-torn, held-judged}
 use Rattle.sheet_rows.proofs.read_plan.Goals as goal
 
-pub returns-in-Refused : goal.returns-in-Refused
-returns-in-Refused c =
-    let net : Network = net_of c.args.basins c.args.kinds.now c.args.a.now c.args.b.now in
-    held-table (net) c.args.sheet.now (answer-refused (table_fault (net)) _ (sym c.table_check.ensures.answer ∙ c.in-Refused.is))
+pub returns-in_err-table_check : goal.returns-in_err-table_check
+returns-in_err-table_check c =
+    let p = err_from_is_err_and c.from_residual.result c.from_residual.ensures.1 in
+    rw (p.1, p.2) (let net : Network = net_of c.args.basins c.args.kinds.now c.args.a.now c.args.b.now in held-table (net) c.args.sheet.now (answer-refused (table_fault (net)) _ (sym c.table_check.ensures.answer ∙ c.in_err-table_check.was)))
 
 pub slice_bounds-read_records-end : goal.slice_bounds-read_records-end
 slice_bounds-read_records-end c =
@@ -26,7 +27,7 @@ slice_bounds-read_records-end c =
 pub read_records-requires : goal.read_records-requires
 read_records-requires c =
     let net : Network = net_of c.args.basins c.args.kinds.now c.args.a.now c.args.b.now in
-    let sound : Accepted (net) = answer-accepted (table_fault (net)) (sym c.table_check.ensures.answer ∙ c.in_default.is) in
+    let sound : Accepted (net) = answer-accepted (table_fault (net)) (sym c.table_check.ensures.answer ∙ c.in_ok-table_check.was) in
     omega (
       arith,
       c.requires,
@@ -36,16 +37,14 @@ read_records-requires c =
       (accepted (net) (sound)).few-reaches,
     )
 
-pub returns-in-Refused-read_records : goal.returns-in-Refused-read_records
-returns-in-Refused-read_records c =
-    let net : Network = net_of c.args.basins c.args.kinds.now c.args.a.now c.args.b.now in
-    let sound : Accepted (net) = answer-accepted (table_fault (net)) (sym c.table_check.ensures.answer ∙ c.in_default.is) in
-    held-torn (net) c.args.sheet.now (sound) (cut-gates-row c.args.kinds.now c.args.a.now c.args.b.now c.row_count-m.result c.row_count-m.ensures)
-    c.read_records.ensures c.in-Refused-read_records.is
+pub returns-in_err-n : goal.returns-in_err-n
+returns-in_err-n c =
+    let p = err_from_is_err_and c.from_residual-in_err-n.result c.from_residual-in_err-n.ensures.1 in
+    rw (p.1, p.2) (let net : Network = net_of c.args.basins c.args.kinds.now c.args.a.now c.args.b.now in let sound : Accepted (net) = answer-accepted (table_fault (net)) (sym c.table_check.ensures.answer ∙ c.in_ok-table_check.was) in held-torn (net) c.args.sheet.now (sound) (cut-gates-row c.args.kinds.now c.args.a.now c.args.b.now c.row_count-m.result c.row_count-m.ensures) c.read_records.ensures c.in_err-n.was)
 
-pub returns-in-Read : goal.returns-in-Read
-returns-in-Read c =
+pub returns : goal.returns
+returns c =
     let net : Network = net_of c.args.basins c.args.kinds.now c.args.a.now c.args.b.now in
-    let sound : Accepted (net) = answer-accepted (table_fault (net)) (sym c.table_check.ensures.answer ∙ c.in_default.is) in
+    let sound : Accepted (net) = answer-accepted (table_fault (net)) (sym c.table_check.ensures.answer ∙ c.in_ok-table_check.was) in
     held-judged (net) c.args.sheet.now (sound) (cut-gates-row c.args.kinds.now c.args.a.now c.args.b.now c.row_count-m.result c.row_count-m.ensures)
-    c.read_records.ensures c.in-Read.is c.judge_plan.ensures
+    c.read_records.ensures c.in_ok-n.was c.judge_plan.ensures

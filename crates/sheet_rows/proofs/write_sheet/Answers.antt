@@ -1,6 +1,8 @@
 -- `sheet_rows::write_sheet` meets its contract: the planner's check, and then the sheet.
 -- Assumes nothing.
-use mathlib.Core.Path.{refl, sym, ◌∙◌}
+use Rattle.std.proofs.lemmas.Result.{err_from_is_err_and}
+use Rattle.std.specs.Prelude.{Ok}
+use mathlib.Core.Path.{refl, sym, ap, ◌∙◌}
 use Rattle.network.specs.Networks.{Network}
 use Rattle.tables.specs.Rows.{net_of}
 use Rattle.sheet_plans.proofs.Calls.{yes-fits, wrote-refused, wrote-plan}
@@ -9,20 +11,20 @@ use Rattle.sheet_rows.proofs.write_sheet.Goals as goal
 pub write_fitting-requires : goal.write_fitting-requires
 write_fitting-requires c =
     let net : Network = net_of c.args.basins c.args.kinds.now c.args.a.now c.args.b.now in
-    yes-fits (net) c.args.setting.now (sym c.check.ensures.answer ∙ c.in-Yes.is)
+    yes-fits (net) c.args.setting.now (sym c.check.ensures.answer ∙ c.in_ok-check.was ∙ ap Ok c.if-branch.true)
 
-pub returns-in-Refused : goal.returns-in-Refused
-returns-in-Refused c =
+pub returns-in_err-check : goal.returns-in_err-check
+returns-in_err-check c =
+    let p = err_from_is_err_and c.from_residual.result c.from_residual.ensures.1 in
+    rw (p.1, p.2) (let net : Network = net_of c.args.basins c.args.kinds.now c.args.a.now c.args.b.now in wrote-refused (net) c.args.setting.now c.args.out.now _ _ (sym c.check.ensures.answer ∙ c.in_err-check.was) refl)
+
+pub returns-else-branch : goal.returns-else-branch
+returns-else-branch c =
     let net : Network = net_of c.args.basins c.args.kinds.now c.args.a.now c.args.b.now in
-    wrote-refused (net) c.args.setting.now c.args.out.now _ _ (sym c.check.ensures.answer ∙ c.in-Refused.is) refl
+    wrote-refused (net) c.args.setting.now c.args.out.now _ _ (sym c.check.ensures.answer ∙ c.in_ok-check.was ∙ ap Ok c.if-branch.false) refl
 
-pub returns-in-No : goal.returns-in-No
-returns-in-No c =
-    let net : Network = net_of c.args.basins c.args.kinds.now c.args.a.now c.args.b.now in
-    wrote-refused (net) c.args.setting.now c.args.out.now _ _ (sym c.check.ensures.answer ∙ c.in-No.is) refl
-
-pub returns-in-Yes : goal.returns-in-Yes
-returns-in-Yes c =
+pub returns-then-branch : goal.returns-then-branch
+returns-then-branch c =
     let net : Network = net_of c.args.basins c.args.kinds.now c.args.a.now c.args.b.now in
     wrote-plan (net) c.args.setting.now c.args.out.now c.write_fitting.result c.write_fitting.new.out
-    (sym c.check.ensures.answer ∙ c.in-Yes.is) c.write_fitting.ensures
+    (sym c.check.ensures.answer ∙ c.in_ok-check.was ∙ ap Ok c.if-branch.true) c.write_fitting.ensures

@@ -1,16 +1,14 @@
--- `walker::Walker::make_rows` meets its contract: the walker gets the bytes that the answer lets it keep.
+-- `walker::Walker::make_rows` meets its contract: a walker of zeros where the setting is refused, else one of the setting.
 -- Assumes nothing.
-use native.Mathlib.Omega.{arith}
-use mathlib.Core.Path.{◌≡◌}
-use lib.ListN.{length, take}
-use lib.Seq.{length-take-le}
-use Rattle.network.specs.Networks.{Network}
 use Rattle.tables.specs.Rows.{net_of}
-use Rattle.walker.proofs.Makes.{kept-few, kept-held}
+use Rattle.walker.proofs.Makes.{make-refused, make-fits, make-made}
 use Rattle.walker.proofs.Walker.make_rows.Goals as goal
 
-pub padded-walker-requires : goal.padded-walker-requires
-padded-walker-requires c =
-    let net : Network = net_of c.args.basins c.args.kinds.now c.args.a.now c.args.b.now in
-    let part_length : length (take c.kept-n.result c.args.setting.now) ≡ c.kept-n.result = length-take-le _ c.args.setting.now (kept-few (net) c.args.setting.now c.make_answer-answer.ensures c.kept-n.ensures) in
-    omega (arith, part_length, kept-held (net) c.args.setting.now c.make_answer-answer.ensures c.kept-n.ensures)
+pub returns-in-Err : goal.returns-in-Err
+returns-in-Err c = make-refused (net_of c.args.basins c.args.kinds.now c.args.a.now c.args.b.now) c.args.setting.now c.check_refusal.ensures c.in-Err.is c.padded.ensures
+
+pub padded-requires-in-Ok : goal.padded-requires-in-Ok
+padded-requires-in-Ok c = make-fits (net_of c.args.basins c.args.kinds.now c.args.a.now c.args.b.now) c.args.setting.now c.check_refusal.ensures c.in-Ok.is
+
+pub returns-in-Ok : goal.returns-in-Ok
+returns-in-Ok c = make-made (net_of c.args.basins c.args.kinds.now c.args.a.now c.args.b.now) c.args.setting.now c.check_refusal.ensures c.in-Ok.is c.padded-in-Ok.ensures

@@ -1,2 +1,0 @@
--- The first of two answers.
-pub mod Firsts
