@@ -22,33 +22,12 @@ pub enum Due {
     Refused(u8),
 }
 
-// The number of a refusal.
-fn number_of(r: Refusal) -> u8
-    ensures { result ≡ refusal_number r }
-{
-    match r {
-        Refusal::BasinCount => 1,
-        Refusal::TooManyReaches => 2,
-        Refusal::EndOutOfRange => 3,
-        Refusal::Truncated => 4,
-        Refusal::UnknownKind => 5,
-        Refusal::TrailingBytes => 6,
-        Refusal::ShortBuffer => 7,
-        Refusal::BadSetting => 8,
-        Refusal::LastPlan => 11,
-    }
-}
-
 // Puts the first bytes of a text to the front of the buffer, as many as it holds.
 fn put(text: &[u8], out: &mut [u8]) -> usize
     ensures { Put text.now out.old out.new result }
 {
     let n = least(text.len(), out.len());
-    let mut i = 0;
-    while i < n {
-        out[i] = text[i];
-        i += 1;
-    }
+    out[..n].copy_from_slice(&text[..n]);
     n
 }
 
@@ -75,10 +54,8 @@ fn put_digits(setting: &[u8], out: &mut [u8]) -> usize
     ensures { Put (map character setting.now) out.old out.new result }
 {
     let n = least(setting.len(), out.len());
-    let mut i = 0;
-    while i < n {
-        out[i] = digit(setting[i]);
-        i += 1;
+    for (i, &x) in setting[..n].iter().enumerate() {
+        out[i] = digit(x);
     }
     n
 }
@@ -87,7 +64,7 @@ fn put_digits(setting: &[u8], out: &mut [u8]) -> usize
 pub fn put_plan(plan: &[u8], at: usize, out: &mut [u8]) -> usize
     ensures { Put (drop at (line (plan_text plan.now))) out.old out.new result }
 {
-    if plan.len() == 0 {
+    if plan.is_empty() {
         return put_from(b"-\n", at, out);
     }
     if plan.len() < at {
@@ -106,33 +83,13 @@ pub fn put_refused(number: u8, at: usize, out: &mut [u8]) -> usize
     ensures { Put (drop at (line (refused_text number))) out.old out.new result }
 {
     if number < 10 {
-        let text = [
-            b'r',
-            b'e',
-            b'f',
-            b'u',
-            b's',
-            b'e',
-            b'd',
-            b' ',
-            b'0' + number,
-            b'\n',
-        ];
+        let mut text = *b"refused 0\n";
+        text[8] = b'0' + number;
         return put_from(&text, at, out);
     }
-    let text = [
-        b'r',
-        b'e',
-        b'f',
-        b'u',
-        b's',
-        b'e',
-        b'd',
-        b' ',
-        b'0' + number / 10,
-        b'0' + number % 10,
-        b'\n',
-    ];
+    let mut text = *b"refused 00\n";
+    text[8] = b'0' + number / 10;
+    text[9] = b'0' + number % 10;
     put_from(&text, at, out)
 }
 
@@ -154,7 +111,7 @@ pub fn put_end(at: usize, out: &mut [u8]) -> usize
 pub fn due_refused(r: Refusal) -> Due
     ensures { result ≡ refusal_due (refusal_number r) }
 {
-    let n = number_of(r);
+    let n = u8::from(r);
     if n == 11 { Due::End } else { Due::Refused(n) }
 }
 

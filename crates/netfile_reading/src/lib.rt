@@ -4,7 +4,7 @@
 #![tactic(auto)]
 
 ghost use Rattle.tables.specs.Rows.{RowsFilled};
-ghost use Rattle.std.specs.Prelude.{◌≡◌, ◌+◌, ◌≤◌, length, drop};
+ghost use Rattle.std.specs.Prelude.{◌≡◌, ◌+◌, ◌≤◌, true, false, length, drop, MatchOption};
 ghost use Rattle.network.specs.Networks.{max_reaches};
 ghost use Rattle.network.specs.declared.State.TheVariants.{InService};
 ghost use Rattle.network.specs.Tables.{state_number};
@@ -50,37 +50,42 @@ fn kind_number(kind: u8) -> u8
     2
 }
 
-// What a reach's record says: whether its inner kind, which only a shut reach has, is known; the number of the reach's state; the record's length.
+// The length of the record of this kind at a position, if its inner kind, which only a shut reach has, is known.
+fn known_length(file: &[u8], at: usize, kind: u8) -> Option<usize>
+    requires { at + record_length kind ≤ length file.now }
+    ensures { MatchOption result (good_inner kind (drop (at + 1) file.now) ≡ false)
+        (λ size. (good_inner kind (drop (at + 1) file.now) ≡ true) × (size ≡ record_length kind)) }
+{
+    if kind != SHUT {
+        return Some(5);
+    }
+    if known_kind(file[at + 5]) {
+        Some(6)
+    } else {
+        None
+    }
+}
+
+// The number of a reach's state, and the length of its record.
 #[derive(Drop)]
-struct RecordFront {
-    known: bool,
+struct Front {
     state: u8,
     size: usize,
 }
 
-// What the record of this kind at a position says.
-fn record_front(file: &[u8], at: usize, kind: u8) -> RecordFront
+// What the record of this kind at a position says of its reach's state.
+fn record_front(file: &[u8], at: usize, kind: u8) -> Front
     requires { at + record_length kind ≤ length file.now }
-    ensures known_value { result.known ≡ good_inner kind (drop (at + 1) file.now) }
     ensures state_value { result.state ≡ state_number (record_state kind (drop (at + 1) file.now)) }
     ensures size_value { result.size ≡ record_length kind }
 {
     if kind == SHUT {
         let inner = file[at + 5];
-        let known = known_kind(inner);
         let state = kind_number(inner) + SHUT_OFFSET;
-        return RecordFront {
-            known,
-            state,
-            size: 6,
-        };
+        return Front { state, size: 6 };
     }
     let state = kind_number(kind);
-    RecordFront {
-        known: true,
-        state,
-        size: 5,
-    }
+    Front { state, size: 5 }
 }
 
 // The reaches and the end, which start after the head. Per record: its kind (5), its body (4), its inner kind (5), one reach too many (2), its ends (3); after
@@ -99,13 +104,10 @@ fn check_reaches(file: &[u8], basins: u16) -> Result<Counts, Refusal>
             }
             return Ok(Counts { basins, reaches });
         }
-        let front = record_front(file, at, kind);
-        let wrong = !front.known;
-        let full = reaches == MAX_REACHES;
-        if wrong {
+        let Some(size) = known_length(file, at, kind) else {
             return Err(Refusal::UnknownKind);
-        }
-        if full {
+        };
+        if reaches == MAX_REACHES {
             return Err(Refusal::TooManyReaches);
         }
         if basins <= word_at(file, at + 1) {
@@ -114,7 +116,7 @@ fn check_reaches(file: &[u8], basins: u16) -> Result<Counts, Refusal>
         if basins <= word_at(file, at + 3) {
             return Err(Refusal::EndOutOfRange);
         }
-        at += front.size;
+        at += size;
         reaches += 1;
     }
 }
@@ -140,15 +142,13 @@ pub fn fill_rows(file: &[u8], n: usize, kinds: &mut [u8], a: &mut [u16], b: &mut
     ensures { RowsFilled (reaches_at n (drop 3 file.now)) kinds.old a.old b.old
         kinds.new a.new b.new }
 {
-    let mut i: usize = 0;
     let mut at: usize = 3;
-    while i < n {
+    for i in 0..n {
         let kind = file[at];
         let front = record_front(file, at, kind);
         kinds[i] = front.state;
         a[i] = word_at(file, at + 1);
         b[i] = word_at(file, at + 3);
         at += front.size;
-        i += 1;
     }
 }

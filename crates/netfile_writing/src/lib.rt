@@ -38,11 +38,9 @@ pub fn file_length(kinds: &[u8], a: &[u16], b: &[u16]) -> usize
     ensures { result ≡ length (file_of (net_of 0 kinds.now a.now b.now)) }
 {
     let n = tables::row_count(kinds, a, b);
-    let mut i: usize = 0;
     let mut size: usize = 4;
-    while i < n {
-        size += state_length(kinds[i]);
-        i += 1;
+    for &state in &kinds[..n] {
+        size += state_length(state);
     }
     size
 }
@@ -76,13 +74,9 @@ pub fn put_reaches(kinds: &[u8], a: &[u16], b: &[u16], out: &mut [u8])
     requires { 3 + length (reach_records (table_of kinds.now a.now b.now)) < length out.old }
     ensures { out.new ≡ sets out.old 3 (reach_records (table_of kinds.now a.now b.now)) }
 {
-    let n = tables::row_count(kinds, a, b);
-    let mut i: usize = 0;
     let mut at: usize = 3;
-    while i < n {
-        let state = kinds[i];
-        put_reach(out, at, state, a[i], b[i]);
+    for ((&state, &a), &b) in kinds.iter().zip(a).zip(b) {
+        put_reach(out, at, state, a, b);
         at += state_length(state);
-        i += 1;
     }
 }

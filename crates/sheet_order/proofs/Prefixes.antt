@@ -1,18 +1,17 @@
--- Laws of the longest common prefix of two rows: it is no longer than either, a scan finds it, and the entries behind it decide the order.
+-- Laws of the longest common prefix of two rows: it is no longer than either, counting the pairs that are alike finds it, and the entries behind it decide the order.
 -- Assumes nothing.
 use Rattle.std.specs.declared.cmp.Ordering.{Ordering}
 use Rattle.std.specs.declared.cmp.Ordering.TheVariants.{Equal, Greater, Less}
 use Prim.Native.Nat.{ℕ, suc, ◌+◌, ◌≤◌, ◌<◌}
 use native.Mathlib.Omega.{arith}
-use native.Mathlib.Numerals.{add-one}
 use mathlib.Core.Path.{◌≡◌, refl, sym, ap, ◌∙◌}
 use mathlib.Core.Bool.{Bool, true, false, cond}
 use mathlib.Core.List.{List, [], ◌∷◌, ◌++◌}
 use mathlib.Core.Logic.{◌⊎◌, inl, inr, ⊎_elim}
 use lib.Dec.{eqb, ltb}
-use lib.ListN.{length, get_or, take, drop, drop_of_length-le}
-use lib.Seq.{drop-cons}
+use lib.ListN.{length, get_or, take}
 use borrow.Author.Tests.{eqb-true, eq-eqb, ne_eqb, lt-ltb, le-ltb, ltb-true, ltb-false}
+use Rattle.std.specs.List.{prefix_len, zip}
 use Rattle.sheet_order.specs.Orders.{setting_order}
 use Rattle.sheet_order.specs.Parts.{common_prefix}
 
@@ -30,34 +29,15 @@ none_right : (xs : List ℕ) → common_prefix xs [] ≡ 0
 none_right [] = refl
 none_right (x ∷ xs) = refl
 
--- ---- the scan: the first i entries are the same
+-- as many pairs as are alike from the front on
+abbrev pub alike : ℕ × ℕ → Bool
+alike p = eqb p.0 p.1
 
-pub record CommonTo (xs ys : List ℕ) (i : ℕ) : Type 0 where
-  pub within : i ≤ length xs
-  pub rest : common_prefix xs ys ≡ i + common_prefix (drop i xs) (drop i ys)
-
-pub common-start : (xs ys : List ℕ) → CommonTo xs ys 0
-common-start xs ys = record { within = omega arith; rest = omega arith }
-
-module _ {xs ys : List ℕ} {i : ℕ} (a : CommonTo xs ys i) where
-  stops : common_prefix (drop i xs) (drop i ys) ≡ 0 → i ≡ common_prefix xs ys
-  stops e = omega (arith, a.rest, e)
-
-  pub ends-left : length xs ≤ i → i ≡ common_prefix xs ys
-  ends-left h = stops (rw (drop_of_length-le xs h))
-
-  pub ends-right : length ys ≤ i → i ≡ common_prefix xs ys
-  ends-right h = stops (rw (drop_of_length-le ys h) (none_right (drop i xs)))
-
-  module _ (l : i < length xs) (m : i < length ys) where
-    pub ends-apart : eqb (get_or xs i 0) (get_or ys i 0) ≡ false → i ≡ common_prefix xs ys
-    ends-apart e = stops (rw (drop-cons xs i 0 l, drop-cons ys i 0 m, e))
-
-    goes : eqb (get_or xs i 0) (get_or ys i 0) ≡ true → common_prefix (drop i xs) (drop i ys) ≡ suc (common_prefix (drop (suc i) xs) (drop (suc i) ys))
-    goes e = rw (drop-cons xs i 0 l, drop-cons ys i 0 m, e)
-
-    pub goes_on : eqb (get_or xs i 0) (get_or ys i 0) ≡ true → CommonTo xs ys (i + 1)
-    goes_on e = record { within = omega arith; rest = rw add-one (omega (arith, a.rest, goes e)) }
+pub prefix-counted : (xs ys : List ℕ) → prefix_len alike (zip xs ys) ≡ common_prefix xs ys
+prefix-counted [] ys = refl
+prefix-counted (x ∷ xs) [] = refl
+prefix-counted (x ∷ xs) (y ∷ ys) =
+    elim (eqb x y) as (λ t. cond t (1 + prefix_len alike (zip xs ys)) 0 ≡ cond t (suc (common_prefix xs ys)) 0) [ true ↦ omega (arith, prefix-counted xs ys) | false ↦ refl ]
 
 -- ---- one entry more in front
 

@@ -22,17 +22,7 @@ pub struct Parting<'a> {
 fn common_prefix(first: &[u8], second: &[u8]) -> usize
     ensures { result ≡ common_prefix first.now second.now }
 {
-    let mut i = 0;
-    while i < first.len() {
-        if i >= second.len() {
-            return i;
-        }
-        if first[i] != second[i] {
-            return i;
-        }
-        i += 1;
-    }
-    i
+    first.iter().zip(second).take_while(|(x, y)| x == y).count()
 }
 
 // The order of two sheets by their bytes: the first byte that differs decides, and where one is the start of the other they are equal.

@@ -38,14 +38,12 @@ fn put_records(kinds: &[u8], setting: &[u8], out: &mut [u8])
     ensures { out.new ≡ sets out.old 0 (sheet_records (gates_row 0 kinds.now) setting.now) }
 {
     let mut i: usize = 0;
-    let mut k: usize = 0;
-    while k < setting.len() {
+    for (k, &byte) in setting.iter().enumerate() {
         i = sheet_format::next_gate(kinds, i);
-        put_gate(out, 3 * k, i as u16, setting[k]);
+        put_gate(out, 3 * k, i as u16, byte);
         i += 1;
-        k += 1;
     }
-    out[3 * k] = END;
+    out[3 * setting.len()] = END;
 }
 
 // The sheet of a setting that fits goes to the first bytes of the buffer; 7. The records go into the part of the buffer after the head.

@@ -188,9 +188,7 @@ fn parts(
 ) -> io::Result<Out> {
     let mut p = take_part(lister, kinds, a, b, room);
     let mut o = show_part(w, o, p, room)?;
-    let mut left = n;
-    while left > 0 {
-        left -= 1;
+    for _ in 0..n {
         let lister = p.lister;
         p = take_part(lister, kinds, a, b, room);
         o = show_part(w, o, p, room)?;

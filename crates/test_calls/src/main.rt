@@ -216,10 +216,7 @@ fn number_left(v: usize, variation: &[u8]) -> usize {
 fn varied(c: Row, variations: &[u8], v: usize) -> Row {
     let mut x = c;
     let mut left = v;
-    let mut n = variations.len() / 5;
-    while n > 0 {
-        n -= 1;
-        let variation = rest(variations, 5 * (n % 256));
+    for variation in variations.chunks_exact(5).rev() {
         let i = word_at(variation, 0) as usize;
         if i < runs::SIZE {
             x.bytes[i] = value(variation, left);
@@ -239,10 +236,8 @@ fn play_all(
     file: &[u8],
 ) -> io::Result<Out> {
     let mut o = o;
-    let mut v: usize = 0;
-    while v < count {
+    for v in 0..count {
         o = play(w, o, varied(case, variations, v), file)?;
-        v += 1;
     }
     Ok(o)
 }
@@ -269,12 +264,9 @@ fn play_case(w: &mut impl Write, file: &[u8], at: usize) -> io::Result<usize> {
 
 // The file: the number of cases, where the first stands, where each table stands, from number 1 on; the tables; the cases.
 fn play_cases(w: &mut impl Write, file: &[u8]) -> io::Result<()> {
-    let n = word_at(file, 0) as usize;
     let mut at = long_at(file, 2);
-    let mut i: usize = 0;
-    while i < n {
+    for _ in 0..word_at(file, 0) {
         at = play_case(w, file, at)?;
-        i += 1;
     }
     Ok(())
 }

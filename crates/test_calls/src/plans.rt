@@ -11,17 +11,7 @@ use walker::Walker;
 
 // Document 01's number of a refusal.
 pub fn number(r: Refusal) -> u8 {
-    match r {
-        Refusal::BasinCount => 1,
-        Refusal::TooManyReaches => 2,
-        Refusal::EndOutOfRange => 3,
-        Refusal::Truncated => 4,
-        Refusal::UnknownKind => 5,
-        Refusal::TrailingBytes => 6,
-        Refusal::ShortBuffer => 7,
-        Refusal::BadSetting => 8,
-        Refusal::LastPlan => 11,
-    }
+    u8::from(r)
 }
 
 // What the table gets, and the check of a setting.
@@ -187,12 +177,8 @@ fn show_step(w: &mut impl Write, o: Out, s: Step, room: Room) -> io::Result<Out>
 // The walker of these bytes, with untouched ones after them.
 pub fn walker_of(s: &[u8]) -> Walker {
     let mut setting = [OLD; MAX_REACHES];
-    let mut i: usize = 0;
-    while i < MAX_REACHES {
-        if i < s.len() {
-            setting[i] = s[i];
-        }
-        i += 1;
+    for (to, &x) in setting.iter_mut().zip(s) {
+        *to = x;
     }
     Walker { setting }
 }
@@ -246,9 +232,7 @@ pub fn walk(
 ) -> io::Result<Out> {
     let mut g = filled(FIRST, basins, kinds, a, b, kinds, room);
     let mut o = show_got(w, o, g, room)?;
-    let mut left = n;
-    while left > 0 {
-        left -= 1;
+    for _ in 0..n {
         if o.number != 0 {
             return Ok(o);
         }
@@ -272,9 +256,7 @@ pub fn steps(
 ) -> io::Result<Out> {
     let mut s = take_step(walker, basins, kinds, a, b, room);
     let mut o = show_step(w, o, s, room)?;
-    let mut left = n;
-    while left > 0 {
-        left -= 1;
+    for _ in 0..n {
         if o.number != 0 {
             return Ok(o);
         }

@@ -58,13 +58,11 @@ fn with_run(x: Row, file: &[u8]) -> Row {
     let mut x = x;
     let s = rest(file, x.next);
     let n = byte_at(s, 0) as usize + word_at(s, 1) as usize;
-    let mut i: usize = 0;
-    while i < n {
+    for i in 0..n {
         let k = sum(x.length, i);
         if k < SIZE {
             x.bytes[k] = run_byte(file, x.next, i);
         }
-        i += 1;
     }
     x.length = sum(x.length, n);
     x.next = sum(x.next, run_size(s));
@@ -78,9 +76,7 @@ pub fn row_at(file: &[u8], at: usize) -> Row {
         length: 0,
         next: sum(at, 2),
     };
-    let mut left = word_at(file, at);
-    while left > 0 {
-        left -= 1;
+    for _ in 0..word_at(file, at) {
         x = with_run(x, file);
     }
     x

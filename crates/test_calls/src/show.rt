@@ -87,10 +87,8 @@ fn word(w: &mut impl Write, o: Out, shown: bool, x: u16) -> io::Result<Out> {
 pub fn bytes(w: &mut impl Write, o: Out, s: &[u8]) -> io::Result<Out> {
     let shown = opens(w, o, s.len())?;
     let mut o = o;
-    let mut i: usize = 0;
-    while i < s.len() {
-        o = byte(w, o, shown, s[i])?;
-        i += 1;
+    for &x in s {
+        o = byte(w, o, shown, x)?;
     }
     close(w, shown)?;
     Ok(o)
@@ -99,10 +97,8 @@ pub fn bytes(w: &mut impl Write, o: Out, s: &[u8]) -> io::Result<Out> {
 pub fn words(w: &mut impl Write, o: Out, s: &[u16]) -> io::Result<Out> {
     let shown = opens(w, o, s.len())?;
     let mut o = o;
-    let mut i: usize = 0;
-    while i < s.len() {
-        o = word(w, o, shown, s[i])?;
-        i += 1;
+    for &x in s {
+        o = word(w, o, shown, x)?;
     }
     close(w, shown)?;
     Ok(o)

@@ -24,13 +24,9 @@ pub fn load(s: &[u8]) -> Ends {
     let n = word_at(s, 0) as usize;
     let low = rest(s, n + 2);
     let high = rest(low, 2 * n);
-    let mut i: usize = 0;
-    while i < n {
-        if i < ROOM {
-            t.a[i] = end_at(low, high, 2 * i);
-            t.b[i] = end_at(low, high, 2 * i + 1);
-        }
-        i += 1;
+    for i in 0..n.min(ROOM) {
+        t.a[i] = end_at(low, high, 2 * i);
+        t.b[i] = end_at(low, high, 2 * i + 1);
     }
     t
 }

@@ -536,10 +536,8 @@ fn play_all(call: u8) -> Pair {
         rows: 0,
         records: 0,
     };
-    let mut left: u64 = 256;
-    while left > 0 {
-        left -= 1;
-        let x = play(call, left);
+    for seed in (0..256).rev() {
+        let x = play(call, seed);
         o = Pair {
             rows: mix(o.rows, x.rows),
             records: mix(o.records, x.records),

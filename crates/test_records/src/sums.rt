@@ -20,13 +20,7 @@ fn added(x: u64, y: u8) -> u64 {
 }
 
 pub fn sum(x: u64, s: &[u8]) -> u64 {
-    let mut x = x;
-    let mut i: usize = 0;
-    while i < s.len() {
-        x = added(x, s[i]);
-        i += 1;
-    }
-    x
+    s.iter().fold(x, |x, &y| added(x, y))
 }
 
 // What a call replied, and its buffers.
@@ -36,17 +30,7 @@ pub fn total(x: u64, out: &[u8; BYTES], marks: &[u8; MARKS]) -> u64 {
 
 // Document 01's number of a refusal.
 fn number(r: Refusal) -> u64 {
-    match r {
-        Refusal::BasinCount => 1,
-        Refusal::TooManyReaches => 2,
-        Refusal::EndOutOfRange => 3,
-        Refusal::Truncated => 4,
-        Refusal::UnknownKind => 5,
-        Refusal::TrailingBytes => 6,
-        Refusal::ShortBuffer => 7,
-        Refusal::BadSetting => 8,
-        Refusal::LastPlan => 11,
-    }
+    u64::from(u8::from(r))
 }
 
 pub fn of_diameter(answer: Result<u16, Refusal>) -> u64 {

@@ -68,11 +68,9 @@ pub fn next(x: u64) -> u64 {
 pub fn table(seed: u64, n: usize, ends: u64) -> Twice {
     let mut t = empty();
     let mut x = seed;
-    let mut left = n;
-    while left > 0 {
-        left -= 1;
+    for i in (0..n).rev() {
         x = next(x);
-        t = with_reach(t, left, x, ends);
+        t = with_reach(t, i, x, ends);
     }
     t
 }

@@ -4,9 +4,8 @@ use Rattle.std.proofs.lemmas.Result.{err_from_is_err_and}
 use Prim.Native.Nat.{◌+◌, ◌≤◌}
 use native.Mathlib.Omega.{arith}
 use mathlib.Core.Path.{◌≡◌, sym, ◌∙◌}
-use mathlib.Core.Bool.{true}
+use mathlib.Core.Bool.{true, false}
 use lib.ListN.{length, drop}
-use borrow.Author.Tests.{eqb-true, eqb-false, not-false}
 use Rattle.netfile_format.specs.Files.{good_inner}
 use Rattle.netfile_format.proofs.Steps.{record-long, ReachAt, reach-at}
 use Rattle.netfile_format.proofs.Scan.{ReachStood, scan-broken, scan-over, scan-end, scan-values, scan-full, scan-stray, scan-next}
@@ -27,28 +26,27 @@ returns-then-kind-eq-END c =
     let here : ReachStood c.args.file.now c.loop-kind.at c.in_ok-kind.kind = sym c.reach_or_end.ensures ∙ c.in_ok-kind.was in
     scan-end c.loop-kind.invariant (here) c.if-kind-eq-END.true c.if-at-file.false
 
-pub record_front-front-requires : goal.record_front-front-requires
-record_front-front-requires c =
+pub known_length-requires : goal.known_length-requires
+known_length-requires c =
     let here : ReachStood c.args.file.now c.loop-kind.at c.in_ok-kind.kind = sym c.reach_or_end.ensures ∙ c.in_ok-kind.was in
     let reach : ReachAt c.args.basins c.args.file.now c.loop-kind.at c.in_ok-kind.kind = reach-at c.args.basins c.args.file.now c.loop-kind.at c.in_ok-kind.kind (here) c.if-kind-eq-END.false in
     reach.fits
 
-pub returns-then-wrong : goal.returns-then-wrong
-returns-then-wrong c =
+pub returns-in_default : goal.returns-in_default
+returns-in_default c =
     let here : ReachStood c.args.file.now c.loop-kind.at c.in_ok-kind.kind = sym c.reach_or_end.ensures ∙ c.in_ok-kind.was in
     sym
     (scan-values c.loop-kind.invariant (here)
-    c.if-kind-eq-END.false c.record_front-front.ensures.known_value
-    ∙ rw c.if-wrong.true)
+    c.if-kind-eq-END.false {g = false} (sym c.in_default.ensures))
 
-pub returns-then-full : goal.returns-then-full
-returns-then-full c =
+pub returns-then-reaches-eq-MAX_REACHES : goal.returns-then-reaches-eq-MAX_REACHES
+returns-then-reaches-eq-MAX_REACHES c =
     let here : ReachStood c.args.file.now c.loop-kind.at c.in_ok-kind.kind = sym c.reach_or_end.ensures ∙ c.in_ok-kind.was in
     let good : good_inner c.in_ok-kind.kind
     (drop (c.loop-kind.at + 1) c.args.file.now)
-    ≡ true = sym c.record_front-front.ensures.known_value ∙ not-false _ c.if-wrong.false in
+    ≡ true = c.in-Some.ensures.0 in
     scan-full c.loop-kind.invariant (here) c.if-kind-eq-END.false
-    (good) (omega (arith, eqb-true, c.if-full.true))
+    (good) c.if-reaches-eq-MAX_REACHES.true
 
 pub word_at-requires : goal.word_at-requires
 word_at-requires c =
@@ -62,10 +60,10 @@ returns-then-basins-word_at c =
     let here : ReachStood c.args.file.now c.loop-kind.at c.in_ok-kind.kind = sym c.reach_or_end.ensures ∙ c.in_ok-kind.was in
     let good : good_inner c.in_ok-kind.kind
     (drop (c.loop-kind.at + 1) c.args.file.now)
-    ≡ true = sym c.record_front-front.ensures.known_value ∙ not-false _ c.if-wrong.false in
+    ≡ true = c.in-Some.ensures.0 in
     scan-stray c.loop-kind.invariant
     (here) c.if-kind-eq-END.false
-    (good) (λ e. omega (arith, eqb-false, c.if-full.false))
+    (good) c.if-reaches-eq-MAX_REACHES.false
     (λ p _. omega (arith, c.word_at.ensures, c.if-basins-word_at.true))
 
 pub word_at-requires-in-loop-kind : goal.word_at-requires-in-loop-kind
@@ -80,10 +78,10 @@ returns-then-basins-word_at-2 c =
     let here : ReachStood c.args.file.now c.loop-kind.at c.in_ok-kind.kind = sym c.reach_or_end.ensures ∙ c.in_ok-kind.was in
     let good : good_inner c.in_ok-kind.kind
     (drop (c.loop-kind.at + 1) c.args.file.now)
-    ≡ true = sym c.record_front-front.ensures.known_value ∙ not-false _ c.if-wrong.false in
+    ≡ true = c.in-Some.ensures.0 in
     scan-stray c.loop-kind.invariant
     (here) c.if-kind-eq-END.false
-    (good) (λ e. omega (arith, eqb-false, c.if-full.false))
+    (good) c.if-reaches-eq-MAX_REACHES.false
     (λ _ p. omega (arith, c.word_at-in-loop-kind.ensures, c.if-basins-word_at-2.true))
 
 pub loop-kind-preserved : goal.loop-kind-preserved
@@ -91,10 +89,10 @@ loop-kind-preserved c =
     let here : ReachStood c.args.file.now c.loop-kind.at c.in_ok-kind.kind = sym c.reach_or_end.ensures ∙ c.in_ok-kind.was in
     let good : good_inner c.in_ok-kind.kind
     (drop (c.loop-kind.at + 1) c.args.file.now)
-    ≡ true = sym c.record_front-front.ensures.known_value ∙ not-false _ c.if-wrong.false in
+    ≡ true = c.in-Some.ensures.0 in
     scan-next c.loop-kind.invariant
     (here) c.if-kind-eq-END.false
-    (good) (λ e. omega (arith, eqb-false, c.if-full.false))
+    (good) c.if-reaches-eq-MAX_REACHES.false
     (omega (arith, c.word_at.ensures, c.if-basins-word_at.false))
     (omega (arith, c.word_at-in-loop-kind.ensures, c.if-basins-word_at-2.false))
-    c.record_front-front.result.size c.record_front-front.ensures.size_value
+    c.in-Some.size c.in-Some.ensures.1

@@ -1,0 +1,2 @@
+-- The rows of a table, gone over side by side.
+pub mod Rows
