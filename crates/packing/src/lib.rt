@@ -1,12 +1,15 @@
 // The lent reach table, a slice of records, taken apart into rows of numbers.
 // Two functions have the slice in hand: `pack_into` and `unpack_from`. They go over the table once, in place, and leave one record to `reach_numbers`.
+// `Packed` holds the rows of one call over records: `Packed::of(table).rows()` is what the call over rows is lent.
 
 #![tactic(auto)]
 
-ghost use Rattle.packing.specs.Rows.{PackedInto, UnpackedFrom};
+ghost use Rattle.std.specs.Prelude.{◌≤◌};
+ghost use Rattle.packing.specs.Rows.{PackedInto, UnpackedFrom, max_rows};
 
 use network::Reach;
 use reach_numbers::{filling, fitting, numbers_of, reach_of};
+use tables::Rows;
 
 // The length of a call's own rows.
 pub const MAX_ROWS: usize = reach_numbers::MAX_ROWS;
@@ -32,5 +35,42 @@ pub fn unpack_from(n: usize, kinds: &[u8], a: &[u16], b: &[u16], t: &mut [Reach]
     let end = filling(n, kinds.len(), a.len(), b.len(), t.len());
     for i in 0..end {
         t[i] = reach_of(kinds[i], a[i], b[i]);
+    }
+}
+
+// A table of records packed into rows of its own: its front, which is all of a table that is not over-full.
+#[derive(Drop)]
+pub struct Packed {
+    kinds: [u8; MAX_ROWS],
+    a: [u16; MAX_ROWS],
+    b: [u16; MAX_ROWS],
+    count: usize,
+    ghost within: { count ≤ max_rows },
+}
+
+impl Packed {
+    ghost use Rattle.packing.specs.Packs.{Packs, Lends};
+
+    // Packs a table.
+    pub fn of(table: &[Reach]) -> Packed
+        ensures { Packs table.now result }
+    {
+        let mut kinds = [0u8; MAX_ROWS];
+        let mut a = [0u16; MAX_ROWS];
+        let mut b = [0u16; MAX_ROWS];
+        let count = pack_into(table, &mut kinds, &mut a, &mut b);
+        Packed { kinds, a, b, count }
+    }
+
+    // The rows that were filled.
+    pub fn rows(&self) -> Rows<'_>
+        ensures { Lends self.now result }
+    {
+        let n = self.count;
+        Rows {
+            kinds: &self.kinds[..n],
+            a: &self.a[..n],
+            b: &self.b[..n],
+        }
     }
 }

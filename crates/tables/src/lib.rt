@@ -25,6 +25,14 @@ const EITHER: u8 = 2;
 
 const NEITHER: u8 = 3;
 
+// A table lent as rows of numbers.
+#[derive(Clone, Copy)]
+pub struct Rows<'a> {
+    pub kinds: &'a [u8],
+    pub a: &'a [u16],
+    pub b: &'a [u16],
+}
+
 // The smaller of two counts.
 pub fn least(x: usize, y: usize) -> usize
     ensures { result ≡ min x y }

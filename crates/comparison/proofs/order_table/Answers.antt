@@ -1,9 +1,8 @@
 -- `comparison::order_table` meets its contract: the table goes into rows of its own, which are lent to the call over rows.
 -- Assumes nothing.
-use Rattle.std.proofs.Common.{arith}
 use Rattle.sheet_order.specs.Calls.{Ordered}
 use Rattle.sheet_order.proofs.Orders.{ordered_at}
-use Rattle.packing.proofs.Packings.{of_packed}
+use Rattle.packing.proofs.Packings.{of-lent}
 use Rattle.comparison.proofs.Faults.{order_alike}
 use Rattle.comparison.proofs.order_table.Goals as goal
 
@@ -11,4 +10,4 @@ pub returns : goal.returns
 returns c =
     let o = c.order_lent in
     ordered_at _ c.args.first.now c.args.second.now o.ensures.first-bytes o.ensures.second-bytes
-    (of_packed {P = λ N. Ordered N c.args.first.now c.args.second.now o.result} c.pack_into-n.ensures (omega arith) (omega arith) (omega arith) (order_alike c.args.first.now c.args.second.now) o.ensures.ordered)
+    (of-lent {P = λ N. Ordered N c.args.first.now c.args.second.now o.result} c.of-packed.ensures c.rows-rows.ensures (order_alike c.args.first.now c.args.second.now) o.ensures.ordered)

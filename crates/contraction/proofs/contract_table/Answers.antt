@@ -1,9 +1,8 @@
 -- `contraction::contract_table` meets its contract: the table goes into rows of its own, which are lent to the call over rows, and the new rows are passed on.
 -- Assumes nothing.
-use Rattle.std.proofs.Common.{arith}
-use Rattle.packing.proofs.Packings.{of_packed}
+use Rattle.packing.proofs.Packings.{of-lent}
 use Rattle.contraction.proofs.Buffers.{contract-alike}
 use Rattle.contraction.proofs.contract_table.Goals as goal
 
 pub returns : goal.returns
-returns c = of_packed c.pack_into-n.ensures (omega arith) (omega arith) (omega arith) (contract-alike c.args.room _ _ _ _ _ _ _) c.contract_room.ensures
+returns c = of-lent c.of-packed.ensures c.rows-rows.ensures (contract-alike c.args.room _ _ _ _ _ _ _) c.contract_room.ensures

@@ -1,10 +1,9 @@
 -- `planner::first_plan` meets its contract: the table goes into rows of its own, which are lent to the call over rows.
 -- Assumes nothing.
-use Rattle.std.proofs.Common.{arith}
-use Rattle.packing.proofs.Packings.{of_packed}
+use Rattle.packing.proofs.Packings.{of-lent}
 use Rattle.replies.specs.Answers.{FirstCall}
 use Rattle.planner.proofs.Refusals.{first_alike}
 use Rattle.planner.proofs.first_plan.Goals as goal
 
 pub returns : goal.returns
-returns c = of_packed {P = λ N. FirstCall N c.args.plan.now c.args.marks.now c.first_plan.result c.first_plan.new.plan c.first_plan.new.marks} c.pack_into-n.ensures (omega arith) (omega arith) (omega arith) (first_alike _ _) c.first_plan.ensures
+returns c = of-lent {P = λ N. FirstCall N c.args.plan.now c.args.marks.now c.first_plan.result c.first_plan.new.plan c.first_plan.new.marks} c.of-packed.ensures c.rows-rows.ensures (first_alike _ _) c.first_plan.ensures

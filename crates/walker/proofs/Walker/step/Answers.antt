@@ -1,10 +1,9 @@
 -- `walker::Walker::step` meets its contract: the table goes into rows of its own, which are lent to the call over rows.
 -- Assumes nothing.
-use Rattle.std.proofs.Common.{arith}
-use Rattle.packing.proofs.Packings.{of_packed}
+use Rattle.packing.proofs.Packings.{of-lent}
 use Rattle.walker.specs.Walkers.{Stepping}
 use Rattle.walker.proofs.Steps.{step-alike}
 use Rattle.walker.proofs.Walker.step.Goals as goal
 
 pub returns : goal.returns
-returns c = of_packed {P = λ N. Stepping N c.args.self.setting c.args.plan.now c.args.marks.now c.step_rows.new.plan c.step_rows.new.marks c.step_rows.result} c.pack_into-n.ensures (omega arith) (omega arith) (omega arith) (step-alike c.args.self.setting) c.step_rows.ensures
+returns c = of-lent {P = λ N. Stepping N c.args.self.setting c.args.plan.now c.args.marks.now c.step_rows.new.plan c.step_rows.new.marks c.step_rows.result} c.of-packed.ensures c.rows-rows.ensures (step-alike c.args.self.setting) c.step_rows.ensures
