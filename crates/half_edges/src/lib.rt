@@ -5,7 +5,8 @@
 #![tactic(auto)]
 
 ghost use Rattle.std.specs.Prelude.{◌≡◌, ◌++◌, ◌≤◌, ◌<◌, length, get_or, set, replicate, drop};
-ghost use Rattle.half_edges.specs.Chains.{Index, Indexable};
+ghost use Rattle.half_edges.specs.Chains.{Index, Indexable, Table};
+ghost use Rattle.half_edges.specs.Graphs.{Index-prop, Table-prop};
 
 use network::MAX_REACHES;
 
@@ -14,6 +15,20 @@ pub const HALF_EDGES: usize = 2 * MAX_REACHES;
 
 // What stands where there is no half-edge: a 16-bit number and no Option, since the index is lent rows, and their memory is fixed and small.
 pub const NO_HALF: u16 = 65535;
+
+// The graph of a table: how many basins it has, the ends of its reaches, and the index of its half-edges. What kinds the reaches are and which way each passes
+// stands beside it.
+#[derive(Clone, Copy)]
+pub struct Graph<'a> {
+    pub basins: usize,
+    pub a: &'a [u16],
+    pub b: &'a [u16],
+    // The last half-edge at each basin, and the one before each at the same basin.
+    pub head: &'a [u16],
+    pub next: &'a [u16],
+    ghost table: { Table basins a.now b.now } by { Table-prop basins a.now b.now },
+    ghost index: { Index basins a.now b.now head.now next.now } by { Index-prop basins a.now b.now head.now next.now },
+}
 
 // Fills row[0..n] with x.
 pub fn fill_row(n: usize, x: u16, row: &mut [u16])

@@ -13,13 +13,12 @@ use Rattle.distances.specs.Distances.{unreached}
 use Rattle.network.specs.Orientations.{Arc, reached}
 use Rattle.network.proofs.Walks.{walk-trans, walk-arc, walk-reached, reached-walk}
 use Rattle.half_edges.specs.Ends.{Next}
-use Rattle.half_edges.specs.Chains.{Index, Table}
 use Rattle.search.specs.Searches.{Unseen, unseen, first}
 use Rattle.search.specs.Fronts.{Searching}
 use Rattle.search.proofs.Counts.{unseen-le, unseen-set}
 use Rattle.search.proofs.Fronts.{fresh-cleared, begins, scans, unseen-unreached}
 use Rattle.std.proofs.Common.{Option, None, Some}
-use Rattle.leading.specs.Leads.{own_seen, lane, Sided, Spreadable, Spread, met, on, BothBegun, BothSearching}
+use Rattle.leading.specs.Leads.{own_seen, lane, Sided, Spread, met, on, BothBegun, BothSearching}
 use Rattle.leading.proofs.Lanes.{own-seen, own-unseen, own-noted, own-blank, own-set, own_same, lane-length, lane-set}
 
 -- a search goes on if what it queued stands in another queue of the same length
@@ -54,25 +53,6 @@ swapped p =
     }
 
 module _ {A B : List Arc} {n c d : ℕ} {up : Bool} {seen queue : List ℕ} {done tail done' tail' : ℕ} (p : BothSearching A B n c d up (not up) seen queue done tail done' tail') where
-  -- what a scan of the basin in hand requires
-  pub spreadable : {xs ys head next : List ℕ} (ws : List ℕ) → Table n xs ys → length xs ≤ length ws → Index n xs ys head next → done < tail → c < unreached → (c ≡ d → ⊥)
-      → Spreadable n xs ys ws head next seen queue done tail up c d
-  spreadable ws t r i l low apart =
-      record {
-        table = t;
-        ways-room = r;
-        index = i;
-        seen-length = p.seen-length;
-        queue-length = p.queue-length;
-        waiting = l;
-        basin = p.mine.sound.basins done l;
-        sides = p.sides;
-        room = omega (arith, p.room);
-        lane_room = p.mine.sound.room;
-        low = low;
-        other = apart;
-      }
-
   module _ {seen' queue' : List ℕ} {r : Option ℕ} where
     -- a turn of the one, in which they have not met
     pub both-on : {t : ℕ} → ((u w : ℕ) → Next A u w → w < n) → done < tail → length seen' ≡ length seen → length queue' ≡ length queue

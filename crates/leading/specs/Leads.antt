@@ -4,7 +4,7 @@ use Rattle.std.specs.Prelude.{ℕ, ◌+◌, ◌-◌, ◌≤◌, ◌<◌, ◌≡�
 use Rattle.lists.specs.Lists.{range}
 use Rattle.network.specs.Orientations.{Arc}
 use Rattle.half_edges.specs.Ends.{arcs_of, flip_way, Next}
-use Rattle.half_edges.specs.Chains.{Index, Table}
+use Rattle.half_edges.specs.declared.Graph.{Graph}
 use Rattle.distances.specs.Distances.{unreached}
 use Rattle.search.specs.Searches.{Seen, Unseen, unseen, Scanned}
 use Rattle.search.specs.Fronts.{QueueRoom, Searching}
@@ -32,16 +32,14 @@ pub data NotedBy (up : Bool) (n w c : ℕ) (seen queue : List ℕ) (tail : ℕ) 
   again : Seen seen w → NotedBy up n w c seen queue tail seen queue tail
 
 -- What a scan by the search from c of the basin that it queued k-th requires, where d is noted for what the other search sees.
-pub record Spreadable (n : ℕ) (xs ys ws head next seen queue : List ℕ) (k tail : ℕ) (up : Bool) (c d : ℕ) : Type 0 where
-  pub table : Table n xs ys
-  pub ways-room : length xs ≤ length ws
-  pub index : Index n xs ys head next
-  pub seen-length : length seen ≡ n
-  pub queue-length : length queue ≡ n
+pub record Spreadable (g : Graph) (ws seen queue : List ℕ) (k tail : ℕ) (up : Bool) (c d : ℕ) : Type 0 where
+  pub ways-room : length g.a.now ≤ length ws
+  pub seen-length : length seen ≡ g.basins
+  pub queue-length : length queue ≡ g.basins
   pub waiting : k < tail
-  pub basin : get_or (lane up queue) k 0 < n
-  pub sides : Sided n c d seen
-  pub room : tail + unseen seen ≤ n
+  pub basin : get_or (lane up queue) k 0 < g.basins
+  pub sides : Sided g.basins c d seen
+  pub room : tail + unseen seen ≤ g.basins
   pub lane_room : QueueRoom (own_seen c seen) (lane up queue) tail
   pub low : c < unreached
   pub other : c ≡ d → ⊥
@@ -74,12 +72,10 @@ pub record BothSearching (A B : List Arc) (n c d : ℕ) (up down : Bool) (seen q
   pub queue-length : length queue ≡ n
 
 -- What going on with two searches that have begun requires.
-pub record Underway (n : ℕ) (xs ys ws head next : List ℕ) (start goal : ℕ) (seen queue : List ℕ) : Type 0 where
-  pub table : Table n xs ys
-  pub ways-room : length xs ≤ length ws
-  pub index : Index n xs ys head next
-  pub few-basins : n < unreached
-  pub starts : start < n
-  pub goals : goal < n
+pub record Underway (g : Graph) (ws : List ℕ) (start goal : ℕ) (seen queue : List ℕ) : Type 0 where
+  pub ways-room : length g.a.now ≤ length ws
+  pub few-basins : g.basins < unreached
+  pub starts : start < g.basins
+  pub goals : goal < g.basins
   pub apart : start ≡ goal → ⊥
-  pub both : BothSearching (arcs_of xs ys ws) (arcs_of xs ys (map flip_way ws)) n start goal false true seen queue 0 1 0 1
+  pub both : BothSearching (arcs_of g.a.now g.b.now ws) (arcs_of g.a.now g.b.now (map flip_way ws)) g.basins start goal false true seen queue 0 1 0 1

@@ -13,7 +13,7 @@ ghost use Rattle.search.specs.Searches.{Searchable, unseen};
 ghost use Rattle.leading.specs.Leads.{place_of, lane, NotedBy, BothBegun, Spreadable, Spread, Underway};
 
 use distances::UNREACHED;
-use half_edges::NO_HALF;
+use half_edges::{Graph, NO_HALF};
 
 // The place in a queue of n of what a search queued k-th: from the front or, upstream, from the back.
 fn place(n: usize, k: usize, up: bool) -> usize
@@ -52,12 +52,8 @@ fn visit(
 // The search from c visits each basin to which a half-edge passes from the one that it queued k-th, or upstream passes from there to it. Returns how many it has queued
 // then, or None as soon as one of these basins is seen by the search from d: the two have met.
 fn scan(
-    n: usize,
-    a: &[u16],
-    b: &[u16],
+    graph: &Graph,
     ways: &[u8],
-    head: &[u16],
-    next: &[u16],
     seen: &mut [u16],
     queue: &mut [u16],
     k: usize,
@@ -66,19 +62,21 @@ fn scan(
     c: u16,
     d: u16,
 ) -> Option<usize>
-    requires { Spreadable n a.now b.now ways.now head.now next.now seen.old queue.old k tail up c d }
-    ensures { Spread (arcs_of a.now b.now (sided up ways.now)) (get_or (lane up queue.old) k 0) up n c d
+    requires { Spreadable graph.now ways.now seen.old queue.old k tail up c d }
+    ensures { Spread (arcs_of graph.now.a.now graph.now.b.now (sided up ways.now))
+        (get_or (lane up queue.old) k 0) up graph.now.basins c d
         seen.old queue.old tail seen.new queue.new result }
 {
+    let n = graph.basins;
     let mut end = tail;
-    let mut h = head[queue[place(n, k, up)] as usize];
+    let mut h = graph.head[queue[place(n, k, up)] as usize];
     while h != NO_HALF {
         let half = h;
-        h = next[half as usize];
+        h = graph.next[half as usize];
         if !search::passes(ways, half, up) {
             continue;
         }
-        let w = search::far(a, b, half);
+        let w = search::far(graph, half);
         if seen[w as usize] == d {
             return None;
         }
@@ -90,19 +88,15 @@ fn scan(
 // Goes on with two searches that have begun, by turns, until the two meet or one of them has nothing left to search from. Says whether they met: whether the goal
 // is reached from start. What it leaves in the two rows is free.
 fn search_on(
-    n: usize,
-    a: &[u16],
-    b: &[u16],
+    graph: &Graph,
     ways: &[u8],
-    head: &[u16],
-    next: &[u16],
     start: u16,
     goal: u16,
     seen: &mut [u16],
     queue: &mut [u16],
 ) -> bool
-    requires { Underway n a.now b.now ways.now head.now next.now start goal seen.old queue.old }
-    ensures { result ≡ reached (arcs_of a.now b.now ways.now) start goal }
+    requires { Underway graph.now ways.now start goal seen.old queue.old }
+    ensures { result ≡ reached (arcs_of graph.now.a.now graph.now.b.now ways.now) start goal }
 {
     let mut tail = 1;
     let mut uptail = 1;
@@ -114,17 +108,13 @@ fn search_on(
         }
         // Which of the two goes on is free: the one with fewer basins waiting, and each by turns where these are equal.
         if tail - done + (done + updone) % 2 <= uptail - updone {
-            let Some(end) = scan(
-                n, a, b, ways, head, next, seen, queue, done, tail, false, start, goal,
-            ) else {
+            let Some(end) = scan(graph, ways, seen, queue, done, tail, false, start, goal) else {
                 return true;
             };
             tail = end;
             done += 1;
         } else {
-            let Some(end) = scan(
-                n, a, b, ways, head, next, seen, queue, updone, uptail, true, goal, start,
-            ) else {
+            let Some(end) = scan(graph, ways, seen, queue, updone, uptail, true, goal, start) else {
                 return true;
             };
             uptail = end;
@@ -151,26 +141,23 @@ fn begin(n: usize, start: u16, goal: u16, seen: &mut [u16], queue: &mut [u16])
 
 // Whether the goal is reached from start, searched for from both ends. What is left in seen and in the queue is free.
 pub fn leads(
-    n: usize,
-    a: &[u16],
-    b: &[u16],
+    graph: &Graph,
     ways: &[u8],
-    head: &[u16],
-    next: &[u16],
     start: u16,
     goal: u16,
     seen: &mut [u16],
     queue: &mut [u16],
 ) -> bool
-    requires searchable { Searchable n a.now b.now ways.now head.now next.now start seen.old queue.old }
-    requires goal_lt_n { goal < n }
-    ensures { result ≡ reached (arcs_of a.now b.now ways.now) start goal }
+    requires searchable { Searchable graph.now ways.now start seen.old queue.old }
+    requires goal_lt_n { goal < graph.now.basins }
+    ensures { result ≡ reached (arcs_of graph.now.a.now graph.now.b.now ways.now) start goal }
 {
     if start == goal {
         return true;
     }
+    let n = graph.basins;
     let notes = &mut seen[..n];
     let waiting = &mut queue[..n];
     begin(n, start, goal, notes, waiting);
-    search_on(n, a, b, ways, head, next, start, goal, notes, waiting)
+    search_on(graph, ways, start, goal, notes, waiting)
 }

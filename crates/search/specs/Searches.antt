@@ -4,7 +4,7 @@ use Rattle.std.specs.Prelude.{ℕ, suc, ◌+◌, ◌≤◌, ◌<◌, ◌≡◌, 
 use Rattle.network.specs.Orientations.{Arc}
 use Rattle.distances.specs.Distances.{unreached, fewest}
 use Rattle.half_edges.specs.Ends.{Next}
-use Rattle.half_edges.specs.Chains.{Index, Table}
+use Rattle.half_edges.specs.declared.Graph.{Graph}
 
 -- A basin is seen where its count is below 65,535.
 abbrev pub Seen : List ℕ → ℕ → Type 0
@@ -31,14 +31,11 @@ pub data Grown (P : ℕ → Type 0) (count : ℕ) (seen queue : List ℕ) (tail 
       → Visited w count seen' queue' tail' seen'' queue'' tail'' → Grown P count seen queue tail seen'' queue'' tail''
 
 -- What a scan of the basin at place `at` of the queue requires.
-pub record Scannable (xs ys ws head next seen queue : List ℕ) (at tail count : ℕ) : Type 0 where
-  pub basins : ℕ
-  pub table : Table basins xs ys
-  pub ways-room : length xs ≤ length ws
-  pub index : Index basins xs ys head next
-  pub seen-room : basins ≤ length seen
+pub record Scannable (g : Graph) (ws seen queue : List ℕ) (at tail count : ℕ) : Type 0 where
+  pub ways-room : length g.a.now ≤ length ws
+  pub seen-room : g.basins ≤ length seen
   pub waiting : at < tail
-  pub basin : get_or queue at 0 < basins
+  pub basin : get_or queue at 0 < g.basins
   pub room : tail + unseen seen ≤ length queue
   pub counts : count < unreached
 
@@ -47,14 +44,12 @@ pub record Scanned (A : List Arc) (u count : ℕ) (seen queue : List ℕ) (tail 
   pub grown : Grown (Next A u) count seen queue tail seen' queue' tail'
   pub closed : (w : ℕ) → Next A u w → Seen seen' w
 
--- What a search requires: a table with its index and its ways, fewer basins than 65,535, so that no count is 65,535, a basin to start at, and room.
-pub record Searchable (n : ℕ) (xs ys ws head next : List ℕ) (start : ℕ) (seen queue : List ℕ) : Type 0 where
-  pub table : Table n xs ys
-  pub ways-room : length xs ≤ length ws
-  pub index : Index n xs ys head next
-  pub few-basins : n < unreached
-  pub starts : start < n
-  pub seen-room : n ≤ length seen
+-- What a search requires: ways for the reaches of the graph, fewer basins than 65,535, so that no count is 65,535, a basin to start at, and room.
+pub record Searchable (g : Graph) (ws : List ℕ) (start : ℕ) (seen queue : List ℕ) : Type 0 where
+  pub ways-room : length g.a.now ≤ length ws
+  pub few-basins : g.basins < unreached
+  pub starts : start < g.basins
+  pub seen-room : g.basins ≤ length seen
   pub queue-room : length seen ≤ length queue
 
 -- What it leaves. Document 02, item 6: "The search for the basins reached from one basin now promises for each the fewest reaches, or 65,535 if it isn't

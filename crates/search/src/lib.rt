@@ -9,7 +9,7 @@ ghost use Rattle.half_edges.specs.Ends.{arcs_of, other_of, sided, leaves};
 ghost use Rattle.search.specs.Searches.{unseen, Visited, Scannable, Scanned, Searchable, Noted};
 
 use distances::UNREACHED;
-use half_edges::NO_HALF;
+use half_edges::{Graph, NO_HALF};
 
 // Whether the reach of half-edge h passes away from the basin at which h stands or, against the arrows, towards it.
 pub fn passes(ways: &[u8], h: u16, against: bool) -> bool
@@ -24,13 +24,12 @@ pub fn passes(ways: &[u8], h: u16, against: bool) -> bool
 }
 
 // The basin at the far end of the reach of half-edge h.
-pub fn far(a: &[u16], b: &[u16], h: u16) -> u16
-    requires h_in_bounds { h / 2 < length a.now }
-    requires h_in_bounds_2 { h / 2 < length b.now }
-    ensures { result ≡ other_of a.now b.now h }
+pub fn far(graph: &Graph, h: u16) -> u16
+    requires { h / 2 < length graph.now.a.now }
+    ensures { result ≡ other_of graph.now.a.now graph.now.b.now h }
 {
     let i = h as usize / 2;
-    if h % 2 == 0 { b[i] } else { a[i] }
+    if h % 2 == 0 { graph.b[i] } else { graph.a[i] }
 }
 
 // Notes the count for basin w and puts it at the end of the queue, unless it is seen already. Returns the queue's end.
@@ -65,11 +64,8 @@ pub fn begin(n: usize, start: u16, seen: &mut [u16], queue: &mut [u16]) -> usize
 
 // Visits, with the count, each basin to which a half-edge passes from the basin at place `at` of the queue, or passes to it from there. Returns the queue's end.
 pub fn scan(
-    a: &[u16],
-    b: &[u16],
+    graph: &Graph,
     ways: &[u8],
-    head: &[u16],
-    next: &[u16],
     seen: &mut [u16],
     queue: &mut [u16],
     at: usize,
@@ -77,17 +73,17 @@ pub fn scan(
     against: bool,
     count: u16,
 ) -> usize
-    requires { Scannable a.now b.now ways.now head.now next.now seen.old queue.old at tail count }
-    ensures { Scanned (arcs_of a.now b.now (sided against ways.now)) (get_or queue.old at 0)
-        count seen.old queue.old tail seen.new queue.new result }
+    requires { Scannable graph.now ways.now seen.old queue.old at tail count }
+    ensures { Scanned (arcs_of graph.now.a.now graph.now.b.now (sided against ways.now))
+        (get_or queue.old at 0) count seen.old queue.old tail seen.new queue.new result }
 {
     let mut end = tail;
-    let mut h = head[queue[at] as usize];
+    let mut h = graph.head[queue[at] as usize];
     while h != NO_HALF {
         if passes(ways, h, against) {
-            end = visit(far(a, b, h), count, seen, queue, end);
+            end = visit(far(graph, h), count, seen, queue, end);
         }
-        h = next[h as usize];
+        h = graph.next[h as usize];
     }
     end
 }
@@ -103,29 +99,24 @@ fn count_after(seen: &[u16], queue: &[u16], at: usize) -> u16
 }
 
 // Notes how far the water goes from start along the arrows or, if so asked, against them: seen holds for each basin the fewest reaches that are crossed to get
-// there, or UNREACHED. What it holds past the n basins, and what the queue holds, is free.
+// there, or UNREACHED. What it holds past the graph's basins, and what the queue holds, is free.
 pub fn search(
-    n: usize,
-    a: &[u16],
-    b: &[u16],
+    graph: &Graph,
     ways: &[u8],
-    head: &[u16],
-    next: &[u16],
     start: u16,
     against: bool,
     seen: &mut [u16],
     queue: &mut [u16],
 )
-    requires { Searchable n a.now b.now ways.now head.now next.now start seen.old queue.old }
-    ensures { Noted (arcs_of a.now b.now (sided against ways.now)) n start seen.new }
+    requires { Searchable graph.now ways.now start seen.old queue.old }
+    ensures { Noted (arcs_of graph.now.a.now graph.now.b.now (sided against ways.now))
+        graph.now.basins start seen.new }
 {
-    let mut tail = begin(n, start, seen, queue);
+    let mut tail = begin(graph.basins, start, seen, queue);
     let mut at = 0;
     while at < tail {
         let count = count_after(seen, queue, at);
-        tail = scan(
-            a, b, ways, head, next, seen, queue, at, tail, against, count,
-        );
+        tail = scan(graph, ways, seen, queue, at, tail, against, count);
         at += 1;
     }
 }

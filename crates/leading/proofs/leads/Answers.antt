@@ -19,18 +19,16 @@ from_itself A {u} e = subst (λ (w : ℕ). reached A u w ≡ true) e (reached-re
 -- a basin is reached from itself
 pub returns-then-start-goal : goal.returns-then-start-goal
 returns-then-start-goal c =
-    sym (from_itself (arcs_of c.args.a.now c.args.b.now c.args.ways.now) c.if-start-goal.true)
+    sym (from_itself (arcs_of c.args.graph.now.a.now c.args.graph.now.b.now c.args.ways.now) c.if-start-goal.true)
 
 pub search_on-requires : goal.search_on-requires
 search_on-requires c =
-    let queue-room : c.args.n ≤ length c.args.queue.now = omega (arith, c.requires.searchable.seen-room, c.requires.searchable.queue-room) in
+    let queue-room : c.args.graph.now.basins ≤ length c.args.queue.now = omega (arith, c.requires.searchable.seen-room, c.requires.searchable.queue-room) in
     record {
-      table = c.requires.searchable.table;
       ways-room = c.requires.searchable.ways-room;
-      index = c.requires.searchable.index;
       few-basins = c.requires.searchable.few-basins;
       starts = c.requires.searchable.starts;
       goals = c.requires.goal_lt_n;
       apart = c.if-start-goal.false;
-      both = begun _ c.begin.ensures c.requires.searchable.starts c.requires.goal_lt_n c.if-start-goal.false c.requires.searchable.few-basins (length-take-le c.args.n c.args.queue.now (queue-room));
+      both = begun _ c.begin.ensures c.requires.searchable.starts c.requires.goal_lt_n c.if-start-goal.false c.requires.searchable.few-basins (length-take-le c.args.graph.now.basins c.args.queue.now (queue-room));
     }

@@ -10,7 +10,7 @@ use Rattle.leading.proofs.scan.Given as goal
 
 abbrev pub invariant-loop-h : goal.invariant-loop-h
 invariant-loop-h l =
-    Spreading l.a l.b (sided l.up l.ways) (get_or (lane l.up l.initial.queue) l.k 0) l.up l.n l.c l.d l.initial.seen l.initial.queue l.tail l.seen l.queue l.end l.h
+    Spreading l.graph.a.now l.graph.b.now (sided l.up l.ways) (get_or (lane l.up l.initial.queue) l.k 0) l.up l.graph.basins l.c l.d l.initial.seen l.initial.queue l.tail l.seen l.queue l.end l.h
 
 abbrev pub decreases-loop-h : goal.decreases-loop-h
 decreases-loop-h l = (l.h + 1) % 65536

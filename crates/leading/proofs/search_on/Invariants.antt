@@ -9,7 +9,7 @@ use Rattle.leading.proofs.search_on.Given as goal
 
 abbrev pub invariant-loop-done : goal.invariant-loop-done
 invariant-loop-done l =
-    BothSearching (arcs_of l.a l.b l.ways) (arcs_of l.a l.b (map flip_way l.ways)) l.n l.start l.goal false true l.seen l.queue l.done l.tail l.updone l.uptail
+    BothSearching (arcs_of l.graph.a.now l.graph.b.now l.ways) (arcs_of l.graph.a.now l.graph.b.now (map flip_way l.ways)) l.graph.basins l.start l.goal false true l.seen l.queue l.done l.tail l.updone l.uptail
 
 abbrev pub decreases-loop-done : goal.decreases-loop-done
-decreases-loop-done l = (l.n - l.done) + (l.n - l.updone)
+decreases-loop-done l = (l.graph.basins - l.done) + (l.graph.basins - l.updone)

@@ -9,7 +9,7 @@ use Rattle.search.proofs.scan.Given as goal
 
 abbrev pub invariant-loop-h : goal.invariant-loop-h
 invariant-loop-h l =
-    Scanning l.a l.b (sided l.against l.ways) (get_or l.initial.queue l.at 0) l.count l.initial.seen l.initial.queue l.tail l.seen l.queue l.end l.h
+    Scanning l.graph.a.now l.graph.b.now (sided l.against l.ways) (get_or l.initial.queue l.at 0) l.count l.initial.seen l.initial.queue l.tail l.seen l.queue l.end l.h
 
 abbrev pub decreases-loop-h : goal.decreases-loop-h
 decreases-loop-h l = (l.h + 1) % 65536

@@ -24,10 +24,7 @@ pub scan-tail-requires : goal.scan-tail-requires
 scan-tail-requires c =
     let count_fits : get_or c.loop-at.seen (get_or c.loop-at.queue c.loop-at.at 0) 0 + 1 < unreached = omega (arith, count-below c.loop-at.invariant.1 (get_or c.loop-at.queue c.loop-at.at 0) (c.loop-at.invariant.0.sound.basins c.loop-at.at c.loop-at-test.true) (c.loop-at.invariant.1.queued c.loop-at.at c.loop-at-test.true), c.requires.few-basins) in
     record {
-      basins = c.args.n;
-      table = c.requires.table;
       ways-room = c.requires.ways-room;
-      index = c.requires.index;
       seen-room = c.loop-at.invariant.0.sound.long;
       waiting = c.loop-at-test.true;
       basin = c.loop-at.invariant.0.sound.basins c.loop-at.at c.loop-at-test.true;
@@ -37,7 +34,7 @@ scan-tail-requires c =
 
 pub loop-at-preserved : goal.loop-at-preserved
 loop-at-preserved c =
-    let leads-in : (u w : ℕ) → Next (arcs_of c.args.a.now c.args.b.now (sided c.args.against c.args.ways.now)) u w → w < c.args.n = λ u. λ w. λ m. arc-below c.args.a.now c.args.b.now (sided c.args.against c.args.ways.now) c.args.n u w c.requires.table m in
+    let leads-in : (u w : ℕ) → Next (arcs_of c.args.graph.now.a.now c.args.graph.now.b.now (sided c.args.against c.args.ways.now)) u w → w < c.args.graph.now.basins = λ u. λ w. λ m. arc-below c.args.graph.now.a.now c.args.graph.now.b.now (sided c.args.against c.args.ways.now) c.args.graph.now.basins u w c.args.graph.now.table m in
     let count_fits : get_or c.loop-at.seen (get_or c.loop-at.queue c.loop-at.at 0) 0 + 1 < unreached = omega (arith, count-below c.loop-at.invariant.1 (get_or c.loop-at.queue c.loop-at.at 0) (c.loop-at.invariant.0.sound.basins c.loop-at.at c.loop-at-test.true) (c.loop-at.invariant.1.queued c.loop-at.at c.loop-at-test.true), c.requires.few-basins) in
     let few : c.count_after-count.result < unreached = omega (arith, c.count_after-count.ensures, count_fits) in (
       scans (leads-in) few c.loop-at-test.true c.loop-at.invariant.0 c.scan-tail.ensures,
@@ -48,5 +45,5 @@ loop-at-preserved c =
 
 pub returns : goal.returns
 returns c =
-    let leads-in : (u w : ℕ) → Next (arcs_of c.args.a.now c.args.b.now (sided c.args.against c.args.ways.now)) u w → w < c.args.n = λ u. λ w. λ m. arc-below c.args.a.now c.args.b.now (sided c.args.against c.args.ways.now) c.args.n u w c.requires.table m in
+    let leads-in : (u w : ℕ) → Next (arcs_of c.args.graph.now.a.now c.args.graph.now.b.now (sided c.args.against c.args.ways.now)) u w → w < c.args.graph.now.basins = λ u. λ w. λ m. arc-below c.args.graph.now.a.now c.args.graph.now.b.now (sided c.args.against c.args.ways.now) c.args.graph.now.basins u w c.args.graph.now.table m in
     counts_end (leads-in) c.requires.starts c.loop-at-test.false c.loop-at.invariant.0 c.loop-at.invariant.1

@@ -11,7 +11,7 @@ use Rattle.search.proofs.search.Given as goal
 
 abbrev pub invariant-loop-at : goal.invariant-loop-at
 invariant-loop-at l =
-    Searching (arcs_of l.a l.b (sided l.against l.ways)) l.n l.start l.seen l.queue l.at l.tail × Counting (arcs_of l.a l.b (sided l.against l.ways)) l.n l.start l.seen l.queue l.at l.tail
+    Searching (arcs_of l.graph.a.now l.graph.b.now (sided l.against l.ways)) l.graph.basins l.start l.seen l.queue l.at l.tail × Counting (arcs_of l.graph.a.now l.graph.b.now (sided l.against l.ways)) l.graph.basins l.start l.seen l.queue l.at l.tail
     × (length l.seen ≡ length l.initial.seen) × (length l.queue ≡ length l.initial.queue)
 
 abbrev pub decreases-loop-at : goal.decreases-loop-at
