@@ -2,3 +2,4 @@
 pub mod Wets
 pub mod Lows
 pub mod Notes
+pub mod Graphs

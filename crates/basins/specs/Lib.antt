@@ -1,2 +1,3 @@
 -- Which basins are wet.
 pub mod Wet
+pub mod Graphs

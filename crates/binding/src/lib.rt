@@ -6,33 +6,24 @@
 
 ghost use Rattle.std.specs.Prelude.{◌≡◌, cond, not, ◌++◌, ◌-◌, ◌≤◌, ◌<◌, length, set, drop};
 ghost use Rattle.network.specs.Choices.{bound_bytes};
-ghost use Rattle.tables.specs.Rows.{net_of, gates_in};
+ghost use Rattle.basins.specs.Graphs.{net_on};
+ghost use Rattle.tables.specs.Rows.{gates_in};
 ghost use Rattle.orienting.specs.Ready.{Ready};
 ghost use Rattle.orienting.specs.Tries.{left_out, led_round};
 ghost use Rattle.binding.specs.Tellings.{Tellable};
 
+use half_edges::Graph;
 use tables::GATED;
 
 // Whether reach i, which a plan hangs in the way, can get no other. Afterwards it is usable either way. What it leaves in seen and in the queue is free.
-pub fn bound_at(
-    n: usize,
-    a: &[u16],
-    b: &[u16],
-    ways: &mut [u8],
-    head: &[u16],
-    next: &[u16],
-    i: usize,
-    way: u8,
-    seen: &mut [u16],
-    queue: &mut [u16],
-) -> bool
-    requires ready { Ready n a.now b.now ways.old head.now next.now seen.old queue.old }
-    requires i_in_bounds { i < length a.now }
+pub fn bound_at(graph: &Graph, ways: &mut [u8], i: usize, way: u8, seen: &mut [u16], queue: &mut [u16]) -> bool
+    requires ready { Ready graph.now ways.old seen.old queue.old }
+    requires i_in_bounds { i < length graph.now.a.now }
     requires way_bound { way ≤ 1 }
     ensures ways_after { ways.new ≡ set ways.old i 2 }
-    ensures value { result ≡ not (led_round (left_out a.now b.now ways.old i) a.now b.now i (1 - way)) }
+    ensures value { result ≡ not (led_round (left_out graph.now.a.now graph.now.b.now ways.old i) graph.now.a.now graph.now.b.now i (1 - way)) }
 {
-    let open = orienting::try_way(n, a, b, ways, head, next, i, 1 - way, seen, queue);
+    let open = orienting::try_way(graph, ways, i, 1 - way, seen, queue);
     ways[i] = 2;
     !open
 }
@@ -49,21 +40,10 @@ fn told(bound: bool, way: u8) -> u8
 }
 
 // Puts the bytes of all gates where those of a plan stand. No gate is oriented in the ways. What it leaves in seen and in the queue is free.
-pub fn tell_bound(
-    n: usize,
-    kinds: &[u8],
-    a: &[u16],
-    b: &[u16],
-    ways: &mut [u8],
-    head: &[u16],
-    next: &[u16],
-    bytes: &mut [u8],
-    seen: &mut [u16],
-    queue: &mut [u16],
-)
-    requires ready { Ready n a.now b.now ways.old head.now next.now seen.old queue.old }
-    requires tellable { Tellable n kinds.now a.now b.now ways.old bytes.old }
-    ensures { bytes.new ≡ bound_bytes (net_of n kinds.now a.now b.now)
+pub fn tell_bound(graph: &Graph, kinds: &[u8], ways: &mut [u8], bytes: &mut [u8], seen: &mut [u16], queue: &mut [u16])
+    requires ready { Ready graph.now ways.old seen.old queue.old }
+    requires tellable { Tellable graph.now.basins kinds.now graph.now.a.now graph.now.b.now ways.old bytes.old }
+    ensures { bytes.new ≡ bound_bytes (net_on graph.now kinds.now)
         ++ drop (gates_in kinds.now) bytes.old }
 {
     let mut k = 0;
@@ -72,7 +52,7 @@ pub fn tell_bound(
             continue;
         }
         let way = bytes[k];
-        let bound = bound_at(n, a, b, ways, head, next, i, way, seen, queue);
+        let bound = bound_at(graph, ways, i, way, seen, queue);
         bytes[k] = told(bound, way);
         k += 1;
     }

@@ -8,15 +8,13 @@ use Rattle.half_edges.specs.Chains.{Index, Indexable}
 use Rattle.tables.specs.Rows.{net_of, ways_row}
 
 -- The rows with the working memory that they need.
-pub record Room (n : ℕ) (ks xs ys ws head next seen queue : List ℕ) : Type 0 where
+pub record Room (n : ℕ) (ks xs ys ws head next : List ℕ) : Type 0 where
   pub accepted : Accepted (net_of n ks xs ys)
   pub ends-a : length xs ≡ length ks
   pub ends-b : length ys ≡ length ks
   pub ways-room : length ws ≡ length ks
   pub head-room : n ≤ length head
   pub next-room : halves xs ≤ length next
-  pub seen-room : n ≤ length seen
-  pub queue-room : length seen ≤ length queue
 
 -- What filling it requires, and what it then holds.
 pub record Preparable (n : ℕ) (ks xs ys ws head next : List ℕ) : Type 0 where
@@ -28,15 +26,13 @@ pub record Prepared (n : ℕ) (ks xs ys s ws head next : List ℕ) : Type 0 wher
   pub index : Index n xs ys head next
 
 -- A setting and working memory, with room for its ways.
-pub record Seekable (n : ℕ) (ks xs ys s us ws head next seen queue : List ℕ) : Type 0 where
-  pub room : Room n ks xs ys ws head next seen queue
+pub record Seekable (n : ℕ) (ks xs ys s us ws head next : List ℕ) : Type 0 where
+  pub room : Room n ks xs ys ws head next
   pub under-room : length us ≡ length ks
   pub fits : is_setting (net_of n ks xs ys) s ≡ true
 
 -- Working memory for the largest table.
-pub record Space (ws head next seen queue : List ℕ) : Type 0 where
+pub record Space (ws head next : List ℕ) : Type 0 where
   pub ways-space : length ws ≡ max_reaches
   pub head-space : length head ≡ max_basins
   pub next-space : length next ≡ 2 * max_reaches
-  pub seen-space : length seen ≡ max_basins
-  pub queue-space : length queue ≡ max_basins

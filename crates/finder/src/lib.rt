@@ -10,7 +10,7 @@ ghost use Rattle.tables.specs.Rows.{net_of};
 ghost use Rattle.seeking.specs.Found.{FirstFound, NextFound};
 ghost use Rattle.finder.specs.Rooms.{Room, Preparable, Prepared, Seekable};
 
-use half_edges::HALF_EDGES;
+use half_edges::{Graph, HALF_EDGES};
 use network::MAX_BASINS;
 use seeking::Found;
 
@@ -46,11 +46,18 @@ pub fn strongly_connected_under(
     seen: &mut [u16; MAX_BASINS],
     queue: &mut [u16; MAX_BASINS],
 ) -> bool
-    requires { Room n kinds.now a.now b.now ways.old head.old next.old seen.old queue.old }
+    requires { Room n kinds.now a.now b.now ways.old head.old next.old }
     ensures { result ≡ strongly_connected_under (net_of n kinds.now a.now b.now) setting.now }
 {
     prepare(n, kinds, a, b, setting, ways, head, next);
-    orienting::shut_in_basin(n, kinds, a, b, ways, head, next, seen, queue).is_none()
+    let graph = Graph {
+        basins: n,
+        a,
+        b,
+        head,
+        next,
+    };
+    orienting::shut_in_basin(&graph, kinds, ways, seen, queue).is_none()
 }
 
 // Searches for the first plan, in lent working memory: the ways that it leaves are the plan's, and what it notes is the side of a finding.
@@ -65,11 +72,18 @@ pub fn find_first(
     seen: &mut [u16; MAX_BASINS],
     queue: &mut [u16; MAX_BASINS],
 ) -> Found
-    requires { Room n kinds.now a.now b.now ways.old head.old next.old seen.old queue.old }
+    requires { Room n kinds.now a.now b.now ways.old head.old next.old }
     ensures { FirstFound (net_of n kinds.now a.now b.now) ways.new seen.new result }
 {
     prepare(n, kinds, a, b, &[], ways, head, next);
-    seeking::first_from(n, kinds, a, b, ways, head, next, seen, queue)
+    let graph = Graph {
+        basins: n,
+        a,
+        b,
+        head,
+        next,
+    };
+    seeking::first_from(&graph, kinds, ways, seen, queue)
 }
 
 // Searches for the next plan of a setting, in lent working memory: the ways that it leaves are the plan's, and what it notes is the side of a finding.
@@ -86,12 +100,17 @@ pub fn find_next(
     seen: &mut [u16; MAX_BASINS],
     queue: &mut [u16; MAX_BASINS],
 ) -> Option<Found>
-    requires { Seekable n kinds.now a.now b.now setting.now under.old ways.old head.old next.old seen.old queue.old }
+    requires { Seekable n kinds.now a.now b.now setting.now under.old ways.old head.old next.old }
     ensures { NextFound (net_of n kinds.now a.now b.now) setting.now
         ways.new seen.new result }
 {
     prepare(n, kinds, a, b, setting, under, head, next);
-    following::next_of(
-        n, kinds, a, b, setting, under, ways, head, next, seen, queue,
-    )
+    let graph = Graph {
+        basins: n,
+        a,
+        b,
+        head,
+        next,
+    };
+    following::next_of(&graph, kinds, setting, under, ways, seen, queue)
 }

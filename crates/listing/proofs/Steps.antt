@@ -10,7 +10,7 @@ use lib.ListN.{length, get_or, take, drop}
 use lib.Seq.{take-take, take_all}
 use Rattle.std.specs.Prelude.{Option, IfSome}
 use Rattle.network.specs.declared.Refusal.TheVariants.{LastPlan}
-use Rattle.network.specs.Networks.{Network, max_basins, max_reaches}
+use Rattle.network.specs.Networks.{Network, max_reaches}
 use Rattle.network.specs.Settings.{setting_fault}
 use Rattle.network.specs.Plans.{is_plan}
 use Rattle.network.specs.Marks.{mark_bytes}
@@ -21,7 +21,6 @@ use Rattle.network.proofs.Order.{setting-length, plan-setting}
 use Rattle.tables.specs.Rows.{net_of, gates_in, ways_row, bytes_row, gates_held}
 use Rattle.tables.proofs.Laws.{row-gates}
 use Rattle.orientations.specs.Partials.{Binds}
-use Rattle.orienting.specs.Ready.{Ready}
 use Rattle.seeking.specs.Seeks.{AtPlan}
 use Rattle.seeking.proofs.Levels.{under-row}
 use Rattle.seeking.proofs.Seeks.{plan-binds}
@@ -29,7 +28,7 @@ use Rattle.skipping.specs.Skips.{BindsStill}
 use Rattle.stepping.specs.Advances.{gates_before, PartsAt, Advanced, moved, at_last}
 use Rattle.priming.specs.Priming.{Spare, Primed}
 use Rattle.stepping.proofs.Rewrites.{gates-split}
-use Rattle.priming.proofs.Priming.{spare-ways, spare-index, spare-ready}
+use Rattle.priming.proofs.Priming.{spare-ways, spare-index}
 use Rattle.series_channels.specs.Channels.{FindableIf}
 use Rattle.lines.specs.declared.Due.{Due}
 use Rattle.lines.specs.declared.Due.TheVariants as D
@@ -38,7 +37,7 @@ use Rattle.lines.specs.Listings.{reply_lines}
 use Rattle.lines.specs.Dues.{plan_due}
 use Rattle.listing_state.specs.Pending.{pending_of, state_net}
 use Rattle.listing_state.specs.Parts.{LineAfter}
-use Rattle.listing.specs.Keeping.{Placed, Standing, Kept, unknown, kept}
+use Rattle.listing.specs.Keeping.{Indexed, Placed, Standing, Kept, unknown, kept}
 use Rattle.line_steps.specs.Steps.{after_step, FrontStands}
 use Rattle.listing_state.proofs.States.{GivenPlan, roomy, plan-held, reply-pending}
 
@@ -153,21 +152,21 @@ module _ (l : Lister) (ks xs ys ws : List ℕ) (left g : ℕ) (held : g ≡ gate
 
 -- ---- working memory that is kept
 
-pub record Known (n : ℕ) (ks fs xs ys : List ℕ) (d : Due) (s us ws head next seen queue : List ℕ) : Type 0 where
-  pub ready : Ready n xs ys ws head next seen queue
+pub record Known (n : ℕ) (ks fs xs ys : List ℕ) (d : Due) (s us ws head next : List ℕ) : Type 0 where
+  pub indexed : Indexed n ks xs ys ws head next
   pub tried-row : length fs ≡ length xs
   pub spare : length us ≡ length ws
   pub stands : Standing n ks fs xs ys d s ws
 
-pub kept-known : {n : ℕ} {ks fs xs ys : List ℕ} {d : Due} {s us ws head next seen queue : List ℕ} {r : Bool} → Kept n ks fs xs ys d s us ws head next seen queue r → r ≡ true
-    → Known n ks fs xs ys d s us ws head next seen queue
+pub kept-known : {n : ℕ} {ks fs xs ys : List ℕ} {d : Due} {s us ws head next : List ℕ} {r : Bool} → Kept n ks fs xs ys d s us ws head next r → r ≡ true
+    → Known n ks fs xs ys d s us ws head next
 kept-known (unknown y) t = clash t y
-kept-known (kept y ready full spare stands) t = record { ready = ready; tried-row = full; spare = spare; stands = stands }
+kept-known (kept y indexed full spare stands) t = record { indexed = indexed; tried-row = full; spare = spare; stands = stands }
 
 -- working memory that was prepared, with all gates tried
-pub primed-kept : {n : ℕ} {ks fs xs ys s us ws ws₀ head head₀ next next₀ seen queue : List ℕ} {r : Bool} (d : Due) → Spare ks ws₀ head₀ next₀ → length ws ≡ length ws₀ → length us ≡ length ws
-    → length seen ≡ max_basins → length queue ≡ max_basins → fs ≡ take (length ws₀) ks → Primed n ks xs ys s ws head next r → Kept n ks fs xs ys d s us ws head next seen queue r
-primed-kept {n} {ks} {fs} {xs} {ys} {s} {us} {ws} {ws₀} {head} {head₀} {next} {next₀} {seen} {queue} {r} d z e f seen-long queue_long all p = ⊎_elim stood unknown (decide r)
+pub primed-kept : {n : ℕ} {ks fs xs ys s us ws ws₀ head head₀ next next₀ : List ℕ} {r : Bool} (d : Due) → Spare ks ws₀ head₀ next₀ → length ws ≡ length ws₀ → length us ≡ length ws
+    → fs ≡ take (length ws₀) ks → Primed n ks xs ys s ws head next r → Kept n ks fs xs ys d s us ws head next r
+primed-kept {n} {ks} {fs} {xs} {ys} {s} {us} {ws} {ws₀} {head} {head₀} {next} {next₀} {r} d z e f all p = ⊎_elim stood unknown (decide r)
   where
     stands : (c : Due) → Placed n ks fs xs ys s ws → Standing n ks fs xs ys c s ws
     stands (D.Plan left) h = h
@@ -175,18 +174,18 @@ primed-kept {n} {ks} {fs} {xs} {ys} {s} {us} {ws} {ws₀} {head} {head₀} {next
     stands D.End h = tt
     stands (D.Refused k) h = tt
 
-    stood : r ≡ true → Kept n ks fs xs ys d s us ws head next seen queue r
+    stood : r ≡ true → Kept n ks fs xs ys d s us ws head next r
     stood y =
         let v = (p.at-plan y).level in
         let whole : fs ≡ ks = all ∙ ap (λ (k : ℕ). take k ks) (spare-ways v z) ∙ take_all (length ks) ks (omega arith) in
-        kept y (spare-ready v z e (p.indexed y) (omega (arith, seen-long, (accepted (net_of n ks xs ys) v.accepted).few-basins)) (omega (arith, seen-long, queue_long)))
+        kept y (record { level = v; ways-full = e ∙ spare-ways v z ∙ sym v.ends-a; index = p.indexed y })
         (ap length whole ∙ sym v.ends-a) f
         (stands d (record { at-plan = p.at-plan y; binds = subst⁻¹ (λ (w : List ℕ). Binds (net_of n ks xs ys) w ws) whole (plan-binds n ks xs ys (p.at-plan y)) }))
 
 -- and with it the table is indexed, so that channels can be looked for
 pub primed-findable : {n : ℕ} {ks xs ys s ws ws₀ head head₀ next next₀ guide : List ℕ} {r : Bool} → Spare ks ws₀ head₀ next₀ → length ws₀ ≤ length guide → Primed n ks xs ys s ws head next r
     → FindableIf n ks xs ys head next guide r
-primed-findable {head₀ = head₀} {next₀ = next₀} z e p =
+primed-findable {n} {ks} {xs} {ys} {head₀ = head₀} {next₀ = next₀} z e p =
     record {
       tabled = λ y. record { table = (spare-index (p.at-plan y).level z {head' = head₀} {next' = next₀} refl refl).table; kinds-full = sym (p.at-plan y).level.ends-a; index = p.indexed y };
       row_room = λ y. omega (arith, e, spare-ways (p.at-plan y).level z, (p.at-plan y).level.ends-a);

@@ -3,7 +3,8 @@
 use Rattle.std.specs.Prelude.{ℕ, ◌≡◌, Bool, true, false, List, length}
 use Rattle.tables.specs.Rows.{net_of}
 use Rattle.orientations.specs.Partials.{Binds}
-use Rattle.orienting.specs.Ready.{Ready}
+use Rattle.half_edges.specs.Chains.{Index}
+use Rattle.seeking.specs.Levels.{Level}
 use Rattle.seeking.specs.Seeks.{AtPlan}
 use Rattle.lines.specs.declared.Due.{Due}
 use Rattle.lines.specs.declared.Due.TheVariants as D
@@ -20,8 +21,14 @@ Standing n ks fs xs ys D.More s ws = Unit {0}
 Standing n ks fs xs ys D.End s ws = Unit {0}
 Standing n ks fs xs ys (D.Refused k) s ws = Unit {0}
 
+-- An accepted table, a way for each of its reaches, and the index of its half-edges.
+pub record Indexed (n : ℕ) (ks xs ys ws head next : List ℕ) : Type 0 where
+  pub level : Level n ks xs ys
+  pub ways-full : length ws ≡ length xs
+  pub index : Index n xs ys head next
+
 -- The working memory stands at the plan in hand, or it is not known to.
-pub data Kept (n : ℕ) (ks fs xs ys : List ℕ) (d : Due) (s us ws head next seen queue : List ℕ) : Bool → Type 0 where
-  unknown : {r : Bool} → r ≡ false → Kept n ks fs xs ys d s us ws head next seen queue r
-  kept : {r : Bool} → r ≡ true → Ready n xs ys ws head next seen queue → length fs ≡ length xs → length us ≡ length ws → Standing n ks fs xs ys d s ws
-      → Kept n ks fs xs ys d s us ws head next seen queue r
+pub data Kept (n : ℕ) (ks fs xs ys : List ℕ) (d : Due) (s us ws head next : List ℕ) : Bool → Type 0 where
+  unknown : {r : Bool} → r ≡ false → Kept n ks fs xs ys d s us ws head next r
+  kept : {r : Bool} → r ≡ true → Indexed n ks xs ys ws head next → length fs ≡ length xs → length us ≡ length ws → Standing n ks fs xs ys d s ws
+      → Kept n ks fs xs ys d s us ws head next r

@@ -16,7 +16,7 @@ ghost use Rattle.listing_state.specs.Pending.{holding, line_of, Filling};
 ghost use Rattle.tables.specs.Rows.{net_of, gates_held};
 ghost use Rattle.listing_state.specs.Parts.{LineAfter, Turned};
 
-use half_edges::HALF_EDGES;
+use half_edges::{Graph, HALF_EDGES};
 use line_steps::{after_step, asked, plan_length};
 use lines::{Due, put_end, put_more, put_plan, put_refused};
 use listing_state::{Filled, Line, Lister};
@@ -74,23 +74,27 @@ fn line_after(
     queue: &mut [u16; MAX_BASINS],
 ) -> Turn
     requires g_value { g ≡ gates_held (net_of l.basins kinds.now a.now b.now) }
-    requires kept { Kept l.basins kinds.now tried.old a.now b.now (Due.Plan left) (take g setting.old) under.old ways.old head.now next.now
-        seen.old queue.old standing }
+    requires kept { Kept l.basins kinds.now tried.old a.now b.now (Due.Plan left) (take g setting.old) under.old ways.old head.now
+        next.now standing }
     requires setting_len { length setting.old ≡ max_reaches }
     requires guiding { Guiding kinds.now a.now b.now guide.now }
     ensures line_after { LineAfter (net_of l.basins kinds.now a.now b.now) (holding l setting.old) left
         (holding result.line setting.new) }
     ensures kept_2 { Kept l.basins kinds.now tried.new a.now b.now result.line.due (take g setting.new)
-        under.new ways.new head.now next.now seen.new queue.new standing }
+        under.new ways.new head.now next.now standing }
 {
     if standing {
-        let n = l.basins as usize;
-        let parted = stepping::advance(n, guide, tried, a, b, under, ways, head, next, seen, queue);
+        let graph = Graph {
+            basins: l.basins as usize,
+            a,
+            b,
+            head,
+            next,
+        };
+        let parted = stepping::advance(&graph, guide, tried, under, ways, seen, queue);
         let line = after_step(l, setting, left, g, parted, kinds, ways);
         let known = match parted {
-            Some(r) => skipping::note_bound(
-                n, guide, kinds, a, b, tried, under, ways, head, next, r, known, seen, queue,
-            ),
+            Some(r) => skipping::note_bound(&graph, guide, kinds, tried, under, ways, r, known, seen, queue),
             None => known,
         };
         return Turn { line, known };
@@ -120,14 +124,14 @@ fn turned(
     queue: &mut [u16; MAX_BASINS],
 ) -> Turn
     requires g_value { g ≡ gates_held (net_of l.basins kinds.now a.now b.now) }
-    requires kept { Kept l.basins kinds.now tried.old a.now b.now l.due (take g setting.old) under.old ways.old head.now next.now
-        seen.old queue.old standing }
+    requires kept { Kept l.basins kinds.now tried.old a.now b.now l.due (take g setting.old) under.old ways.old head.now
+        next.now standing }
     requires setting_len { length setting.old ≡ max_reaches }
     requires guiding { Guiding kinds.now a.now b.now guide.now }
     ensures turned { Turned (net_of l.basins kinds.now a.now b.now) (holding l setting.old)
         (holding result.line setting.new) }
     ensures kept_2 { Kept l.basins kinds.now tried.new a.now b.now result.line.due (take g setting.new)
-        under.new ways.new head.now next.now seen.new queue.new standing }
+        under.new ways.new head.now next.now standing }
 {
     match l.due {
         Due::Plan(left) => if l.at < plan_length(g) {
@@ -164,8 +168,8 @@ fn print_lines(
     queue: &mut [u16; MAX_BASINS],
 ) -> Laid
     requires g_value { g ≡ gates_held (net_of l.basins kinds.now a.now b.now) }
-    requires kept { Kept l.basins kinds.now tried.old a.now b.now l.due (take g setting.old) under.old ways.old head.now next.now
-        seen.old queue.old standing }
+    requires kept { Kept l.basins kinds.now tried.old a.now b.now l.due (take g setting.old) under.old ways.old head.now
+        next.now standing }
     requires setting_len { length setting.old ≡ max_reaches }
     requires guiding { Guiding kinds.now a.now b.now guide.now }
     ensures { Filling (holding l setting.old) kinds.now a.now b.now out.old out.new
@@ -209,7 +213,7 @@ fn fill_in(
     seen: &mut [u16; MAX_BASINS],
     queue: &mut [u16; MAX_BASINS],
 ) -> Laid
-    requires space { Space ways.old head.old next.old seen.old queue.old }
+    requires space { Space ways.old head.old next.old }
     requires setting_len { length setting.old ≡ max_reaches }
     requires guide_len { length guide.old ≡ max_reaches }
     requires tried_len { length tried.old ≡ max_reaches }
@@ -240,8 +244,7 @@ fn fill_in(
         oriented,
         head,
         next,
-        seen,
-        queue,
+        seen, queue,
     )
 }
 
@@ -267,8 +270,19 @@ fn fill_lines(
     let mut seen = [0u16; MAX_BASINS];
     let mut queue = [0u16; MAX_BASINS];
     fill_in(
-        l, setting, kinds, a, b, out, &mut guide, &mut tried, &mut under, &mut ways, &mut head,
-        &mut next, &mut seen, &mut queue,
+        l,
+        setting,
+        kinds,
+        a,
+        b,
+        out,
+        &mut guide,
+        &mut tried,
+        &mut under,
+        &mut ways,
+        &mut head,
+        &mut next,
+        &mut seen, &mut queue,
     )
 }
 

@@ -1,4 +1,4 @@
--- What follows from a table that is ready, and what single searches over it show.
+-- What follows from a graph that is ready, and what single searches over it show.
 -- Assumes nothing.
 use Prim.Native.Nat.{ℕ, zero, suc, ◌≤◌, ◌<◌}
 use native.Mathlib.Omega.{arith}
@@ -22,9 +22,10 @@ use Rattle.network.proofs.Walks.{walk-trans, walk-reached, reached-walk}
 use Rattle.distances.specs.Distances.{unreached, noted}
 use Rattle.half_edges.specs.Ends.{arcs_of}
 use Rattle.half_edges.proofs.Halves.{arc-below}
+use Rattle.half_edges.specs.declared.Graph.{Graph}
 use Rattle.search.specs.Searches.{Searchable, Noted}
 use Rattle.search.proofs.Fronts.{noted-reached}
-use Rattle.basins.specs.Wet.{Tabled, any_basin, is_unnoted, Lowest}
+use Rattle.basins.specs.Wet.{any_basin, is_unnoted, Lowest}
 use Rattle.orienting.specs.Ready.{Ready, FirstUnreached, ShutInBasin}
 use Rattle.orienting.specs.Tries.{left_out, led_round, Tried, oriented, undecided}
 
@@ -32,27 +33,22 @@ use Rattle.orienting.specs.Tries.{left_out, led_round, Tried, oriented, undecide
 few-counts : {n : ℕ} → n ≤ max_basins → n < unreached
 few-counts l = omega arith
 
-pub searchable : {n : ℕ} {xs ys ws head next seen queue : List ℕ} (start : ℕ) → Ready n xs ys ws head next seen queue → start < n → Searchable n xs ys ws head next start seen queue
+pub searchable : {g : Graph} {ws seen queue : List ℕ} (start : ℕ) → Ready g ws seen queue → start < g.basins → Searchable g ws start seen queue
 searchable start r l =
-    record { table = r.table; ways-room = omega (arith, r.ways-full); index = r.index; few-basins = few-counts r.few-basins; starts = l; seen-room = r.seen-room; queue-room = r.queue-room }
+    record { ways-room = omega (arith, r.ways-full); few-basins = few-counts r.few-basins; starts = l; seen-room = r.seen-room; queue-room = r.queue-room }
 
 -- what a search over it notes below 65,535, whatever the ways, is what is reached
-pub ready-noted : {n start : ℕ} {xs ys ws₀ head next seen queue : List ℕ} (ws seen' : List ℕ) → Ready n xs ys ws₀ head next seen queue → start < n
-    → Noted (arcs_of xs ys ws) n start seen' → (v : ℕ) → v < n → noted seen' v ≡ reached (arcs_of xs ys ws) start v
-ready-noted {n} {xs = xs} {ys} ws seen' r l m = noted-reached seen' (λ u w e. arc-below xs ys ws n u w r.table e) l (omega (arith, few-counts r.few-basins)) m
+pub ready-noted : {g : Graph} {start : ℕ} {ws₀ seen queue : List ℕ} (ws seen' : List ℕ) → Ready g ws₀ seen queue → start < g.basins
+    → Noted (arcs_of g.a.now g.b.now ws) g.basins start seen' → (v : ℕ) → v < g.basins → noted seen' v ≡ reached (arcs_of g.a.now g.b.now ws) start v
+ready-noted {g} ws seen' r l m = noted-reached seen' (λ u w e. arc-below g.a.now g.b.now ws g.basins u w g.table e) l (omega (arith, few-counts r.few-basins)) m
 
--- it is one whose wet basins can be told
-pub tabled : {n : ℕ} {ks xs ys ws head next seen queue : List ℕ} → Ready n xs ys ws head next seen queue → length ks ≡ length xs → Tabled n ks xs ys head next
-tabled r e = record { table = r.table; kinds-full = e; index = r.index }
+-- a graph stays ready if its ways change, or what a search notes
+pub ready-ways : {g : Graph} {ws seen queue : List ℕ} (ws' : List ℕ) → Ready g ws seen queue → length ws' ≡ length ws → Ready g ws' seen queue
+ready-ways ws' r e = record { some-basin = r.some-basin; few-basins = r.few-basins; ways-full = e ∙ r.ways-full; seen-room = r.seen-room; queue-room = r.queue-room }
 
--- a table stays ready if its ways change, or what a search notes
-pub ready-ways : {n : ℕ} {xs ys ws head next seen queue : List ℕ} (ws' : List ℕ) → Ready n xs ys ws head next seen queue → length ws' ≡ length ws → Ready n xs ys ws' head next seen queue
-ready-ways ws' r e =
-    record { some-basin = r.some-basin; few-basins = r.few-basins; table = r.table; ways-full = e ∙ r.ways-full; index = r.index; seen-room = r.seen-room; queue-room = r.queue-room }
-
-pub ready-notes : {n : ℕ} {xs ys ws head next seen queue : List ℕ} (seen' queue' : List ℕ) → Ready n xs ys ws head next seen queue → length seen' ≡ length seen → length queue' ≡ length queue → Ready n xs ys ws head next seen' queue'
+pub ready-notes : {g : Graph} {ws seen queue : List ℕ} (seen' queue' : List ℕ) → Ready g ws seen queue → length seen' ≡ length seen → length queue' ≡ length queue → Ready g ws seen' queue'
 ready-notes seen' queue' r e f =
-    record { some-basin = r.some-basin; few-basins = r.few-basins; table = r.table; ways-full = r.ways-full; index = r.index; seen-room = omega (arith, r.seen-room); queue-room = omega (arith, r.queue-room) }
+    record { some-basin = r.some-basin; few-basins = r.few-basins; ways-full = r.ways-full; seen-room = omega (arith, r.seen-room); queue-room = omega (arith, r.queue-room) }
 
 -- a reach that was left out gets its way, or is usable either way again
 tried : {xs ys ws' : List ℕ} {r : Bool} (ws : List ℕ) (i way : ℕ) (led : Bool) → led ≡ led_round (left_out xs ys ws i) xs ys i way

@@ -1,4 +1,4 @@
--- A table ready to be searched, and what single searches find.
+-- A graph ready to be searched, and what single searches find.
 -- Assumes nothing.
 use Rattle.std.specs.Prelude.{ℕ, ◌≤◌, ◌<◌, ◌≡◌, true, false, length, Option, IfSome}
 use Rattle.std.specs.Option.{unwrap_or}
@@ -6,23 +6,21 @@ use mathlib.Core.List.{List, Memᴰ}
 use Rattle.network.specs.Networks.{Network, max_basins, basins_of}
 use Rattle.network.specs.Orientations.{Arc, reached}
 use Rattle.network.specs.Plans.{reaches_all}
-use Rattle.half_edges.specs.Chains.{Index, Table}
+use Rattle.half_edges.specs.declared.Graph.{Graph}
 
--- A table of n basins, one at least and no more than the limit, with ends xs and ys, a way for each reach, an index of its half-edges, and room for a search.
-pub record Ready (n : ℕ) (xs ys ws head next seen queue : List ℕ) : Type 0 where
-  pub some-basin : 0 < n
-  pub few-basins : n ≤ max_basins
-  pub table : Table n xs ys
-  pub ways-full : length ws ≡ length xs
-  pub index : Index n xs ys head next
-  pub seen-room : n ≤ length seen
+-- A graph of one basin at least and no more than the limit, with a way for each reach, and room for a search.
+pub record Ready (g : Graph) (ws seen queue : List ℕ) : Type 0 where
+  pub some-basin : 0 < g.basins
+  pub few-basins : g.basins ≤ max_basins
+  pub ways-full : length ws ≡ length g.a.now
+  pub seen-room : g.basins ≤ length seen
   pub queue-room : length seen ≤ length queue
 
--- Such a table with a kind for each reach, and one of its reaches.
-pub record AtReach (n : ℕ) (ks xs ys ws head next : List ℕ) (i : ℕ) (seen queue : List ℕ) : Type 0 where
-  pub ready : Ready n xs ys ws head next seen queue
-  pub kinds-full : length ks ≡ length xs
-  pub below : i < length xs
+-- Such a graph with a kind for each reach, and one of its reaches.
+pub record AtReach (g : Graph) (ks ws : List ℕ) (i : ℕ) (seen queue : List ℕ) : Type 0 where
+  pub ready : Ready g ws seen queue
+  pub kinds-full : length ks ≡ length g.a.now
+  pub below : i < length g.a.now
 
 -- r is the lowest wet basin that is not reached from start along A, or none if all are.
 pub record FirstUnreached (N : Network) (A : List Arc) (start : ℕ) (r : Option ℕ) : Type 0 where

@@ -32,7 +32,7 @@ pub fn first_in(
     queue: &mut [u16; MAX_BASINS],
 ) -> Reply
     requires lent { Lent n kinds.now a.now b.now plan.old marks.old }
-    requires space { Space ways.old head.old next.old seen.old queue.old }
+    requires space { Space ways.old head.old next.old }
     ensures { Replied (first_answer (net_of n kinds.now a.now b.now)) plan.old
         marks.old plan.new marks.new (Ok result) }
 {
@@ -56,7 +56,7 @@ pub fn first_plan_in(
     seen: &mut [u16; MAX_BASINS],
     queue: &mut [u16; MAX_BASINS],
 ) -> Result<Reply, Refusal>
-    requires { Space ways.old head.old next.old seen.old queue.old }
+    requires { Space ways.old head.old next.old }
     ensures { FirstCall (net_of basins kinds.now a.now b.now) plan.old marks.old result
         plan.new marks.new }
 {
@@ -73,8 +73,7 @@ pub fn first_plan_in(
         ways,
         head,
         next,
-        seen,
-        queue,
+        seen, queue,
     ))
 }
 
@@ -92,22 +91,11 @@ fn check_in(
     queue: &mut [u16; MAX_BASINS],
 ) -> bool
     requires level { Level n kinds.now a.now b.now }
-    requires space { Space ways.old head.old next.old seen.old queue.old }
+    requires space { Space ways.old head.old next.old }
     ensures { result ≡ strongly_connected_under (net_of n kinds.now a.now b.now) setting.now }
 {
     let m = kinds.len();
-    finder::strongly_connected_under(
-        n,
-        kinds,
-        a,
-        b,
-        setting,
-        &mut ways[..m],
-        head,
-        next,
-        seen,
-        queue,
-    )
+    finder::strongly_connected_under(n, kinds, a, b, setting, &mut ways[..m], head, next, seen, queue)
 }
 
 // The same, with working memory of its own.
@@ -121,6 +109,14 @@ pub fn check_accepted(n: usize, kinds: &[u8], a: &[u16], b: &[u16], setting: &[u
     let mut seen = [0u16; MAX_BASINS];
     let mut queue = [0u16; MAX_BASINS];
     check_in(
-        n, kinds, a, b, setting, &mut ways, &mut head, &mut next, &mut seen, &mut queue,
+        n,
+        kinds,
+        a,
+        b,
+        setting,
+        &mut ways,
+        &mut head,
+        &mut next,
+        &mut seen, &mut queue,
     )
 }

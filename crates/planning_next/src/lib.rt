@@ -15,7 +15,6 @@ ghost use Rattle.replies.specs.Reports.{Lent};
 use half_edges::HALF_EDGES;
 use network::{MAX_BASINS, MAX_REACHES, Refusal};
 use replies::{Reply, report};
-use search::Scratch;
 
 // The next plan of a setting of an accepted table whose rows are of one length, or its finding, or that no plan is later, in lent working memory.
 // The setting fits and the buffers are long enough.
@@ -31,7 +30,8 @@ fn next_in(
     ways: &mut [u8],
     head: &mut [u16; MAX_BASINS],
     next: &mut [u16; HALF_EDGES],
-    scratch: &mut Scratch,
+    seen: &mut [u16; MAX_BASINS],
+    queue: &mut [u16; MAX_BASINS],
 ) -> Result<Reply, Refusal>
     requires lent { Lent n kinds.now a.now b.now plan.old marks.old }
     requires setting_value { is_setting (net_of n kinds.now a.now b.now) setting.now ≡ true }
@@ -52,11 +52,11 @@ fn next_in(
         oriented,
         head,
         next,
-        scratch,
+        seen, queue,
     );
     match sought {
         None => Err(Refusal::LastPlan),
-        Some(found) => Ok(report(found, n, kinds, oriented, &scratch.seen, plan, marks)),
+        Some(found) => Ok(report(found, n, kinds, oriented, seen, plan, marks)),
     }
 }
 
@@ -79,7 +79,8 @@ pub fn next_accepted(
     let mut ways = [0u8; MAX_REACHES];
     let mut head = [0u16; MAX_BASINS];
     let mut next = [0u16; HALF_EDGES];
-    let mut scratch = Scratch::new();
+    let mut seen = [0u16; MAX_BASINS];
+    let mut queue = [0u16; MAX_BASINS];
     next_in(
         n,
         kinds,
@@ -92,6 +93,6 @@ pub fn next_accepted(
         &mut ways,
         &mut head,
         &mut next,
-        &mut scratch,
+        &mut seen, &mut queue,
     )
 }

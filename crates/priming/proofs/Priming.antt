@@ -2,23 +2,22 @@
 -- Assumes nothing.
 use Rattle.network.specs.declared.Refusal.{Refusal}
 use Rattle.std.specs.Prelude.{Result, Bool}
-use Prim.Native.Nat.{ℕ, ◌≤◌}
+use Prim.Native.Nat.{ℕ}
 use native.Mathlib.Omega.{arith}
-use mathlib.Core.Path.{◌≡◌, refl, sym, ap, ◌∙◌}
+use mathlib.Core.Path.{◌≡◌, sym, ap, ◌∙◌}
 use mathlib.Core.Bool.{true, false, true≢false}
 use mathlib.Core.List.{List}
-use lib.ListN.{length, replicate, length-replicate}
+use lib.ListN.{length}
 use borrow.Author.Tests.{eq-eqb, ne_eqb}
 use Rattle.network.proofs.Networks.{accepted}
 use Rattle.tables.specs.Rows.{net_of}
 use Rattle.tables.proofs.Laws.{row-length}
 use Rattle.half_edges.specs.Chains.{Index, Indexable}
-use Rattle.orienting.specs.Ready.{Ready}
 use Rattle.replies.specs.Answers.{check_of, says_yes}
 use Rattle.seeking.specs.Levels.{Level}
 use Rattle.seeking.specs.Seeks.{AtPlan}
 use Rattle.finder.specs.Rooms.{Room}
-use Rattle.finder.proofs.Rooms.{room-index, room-ready}
+use Rattle.finder.proofs.Rooms.{room-index}
 use Rattle.priming.specs.Priming.{Spare, primes, Primed}
 
 -- ---- the answer
@@ -51,8 +50,8 @@ module _ {n : ℕ} {ks xs ys ws head next : List ℕ} (v : Level n ks xs ys) (z 
   pub spare-ways : length ws ≡ length ks
   spare-ways = omega (arith, z.ways-spare, (accepted (net_of n ks xs ys) v.accepted).few-reaches, row-length ks xs ys v.ends-a v.ends-b)
 
-  room : {seen queue : List ℕ} → n ≤ length seen → length seen ≤ length queue → Room n ks xs ys ws head next seen queue
-  room h k =
+  room : Room n ks xs ys ws head next
+  room =
       record {
         accepted = v.accepted;
         ends-a = v.ends-a;
@@ -60,12 +59,7 @@ module _ {n : ℕ} {ks xs ys ws head next : List ℕ} (v : Level n ks xs ys) (z 
         ways-room = spare-ways;
         head-room = omega (arith, z.head-spare, (accepted (net_of n ks xs ys) v.accepted).few-basins);
         next-room = omega (arith, z.next-spare, (accepted (net_of n ks xs ys) v.accepted).few-reaches, row-length ks xs ys v.ends-a v.ends-b, v.ends-a);
-        seen-room = h;
-        queue-room = k;
       }
 
   pub spare-index : {head' next' : List ℕ} → length head' ≡ length head → length next' ≡ length next → Indexable n xs ys head' next'
-  spare-index e f = room-index (room {seen = replicate n 0} {queue = replicate n 0} (omega (arith, length-replicate {A = ℕ} n 0)) (omega arith)) e f
-
-  pub spare-ready : {ws' head' next' seen queue : List ℕ} → length ws' ≡ length ws → Index n xs ys head' next' → n ≤ length seen → length seen ≤ length queue → Ready n xs ys ws' head' next' seen queue
-  spare-ready {ws'} {head'} {next'} {seen} {queue} e ix h k = room-ready {seen = seen} {queue = queue} (room h k) e ix refl refl
+  spare-index e f = room-index room e f

@@ -10,7 +10,7 @@ ghost use Rattle.half_edges.specs.Chains.{no_half};
 ghost use Rattle.basins.specs.Wet.{Tabled};
 ghost use Rattle.series_channels.specs.Channels.{Partner, other_half, guide_of, GuideNoted, GuidingStill, FindableIf, GuidesFound};
 
-use half_edges::NO_HALF;
+use half_edges::{Graph, NO_HALF};
 use tables::{FLAP, GATED, TWO_WAY};
 
 // Basins with fewer half-edges than this are looked through: beside two in service there may be shut ones. No promise rests on it.
@@ -36,13 +36,13 @@ fn end_of(a: &[u16], b: &[u16], h: u16) -> u16
 }
 
 // The other half-edge in service at the basin of h, if there is just one, of another reach; else NO_HALF.
-fn partner(n: usize, kinds: &[u8], a: &[u16], b: &[u16], head: &[u16], next: &[u16], h: u16) -> u16
-    requires tabled { Tabled n kinds.now a.now b.now head.now next.now }
-    requires h_bound { h < halves a.now }
-    ensures { Partner kinds.now a.now b.now h result }
+fn partner(graph: &Graph, kinds: &[u8], h: u16) -> u16
+    requires kinds_len { length kinds.now ≡ length graph.now.a.now }
+    requires h_bound { h < halves graph.now.a.now }
+    ensures { Partner kinds.now graph.now.a.now graph.now.b.now h result }
 {
-    let v = end_of(a, b, h);
-    let mut o = head[v as usize];
+    let v = end_of(graph.a, graph.b, h);
+    let mut o = graph.head[v as usize];
     let mut found = NO_HALF;
     for _ in 0..LOOKED {
         if o >= NO_HALF {
@@ -52,7 +52,7 @@ fn partner(n: usize, kinds: &[u8], a: &[u16], b: &[u16], head: &[u16], next: &[u
             return found;
         }
         let here = o;
-        o = next[here as usize];
+        o = graph.next[here as usize];
         if here == h {
             continue;
         }
@@ -108,25 +108,16 @@ fn note(kinds: &[u8], start: u16, o: u16, guide: &mut [u16])
 }
 
 // Follows the channel that leaves a reach in service at its half-edge `start`, up to the next flap, and notes that this reach guides its gates.
-fn follow(
-    n: usize,
-    kinds: &[u8],
-    a: &[u16],
-    b: &[u16],
-    head: &[u16],
-    next: &[u16],
-    start: u16,
-    guide: &mut [u16],
-)
-    requires tabled { Tabled n kinds.now a.now b.now head.now next.now }
-    requires start_bound { start < halves a.now }
+fn follow(graph: &Graph, kinds: &[u8], start: u16, guide: &mut [u16])
+    requires kinds_len { length kinds.now ≡ length graph.now.a.now }
+    requires start_bound { start < halves graph.now.a.now }
     requires start_bound_2 { get_or kinds.now (start / 2) 0 ≤ 2 }
-    requires guide_len { length guide.old ≡ length a.now }
-    ensures { GuidingStill kinds.now a.now b.now guide.old guide.new }
+    requires guide_len { length guide.old ≡ length graph.now.a.now }
+    ensures { GuidingStill kinds.now graph.now.a.now graph.now.b.now guide.old guide.new }
 {
     let mut h = start;
-    for _ in 0..a.len() {
-        let o = partner(n, kinds, a, b, head, next, h);
+    for _ in 0..graph.a.len() {
+        let o = partner(graph, kinds, h);
         if o >= NO_HALF {
             return;
         }
@@ -142,20 +133,11 @@ fn follow(
 }
 
 // Follows the channels on both sides of each reach of the kind for which nothing is noted yet.
-fn pass(
-    n: usize,
-    kinds: &[u8],
-    a: &[u16],
-    b: &[u16],
-    head: &[u16],
-    next: &[u16],
-    kind: u8,
-    guide: &mut [u16],
-)
-    requires tabled { Tabled n kinds.now a.now b.now head.now next.now }
+fn pass(graph: &Graph, kinds: &[u8], kind: u8, guide: &mut [u16])
+    requires kinds_len { length kinds.now ≡ length graph.now.a.now }
     requires kind_bound { kind ≤ 2 }
-    requires guide_len { length guide.old ≡ length a.now }
-    ensures { GuidingStill kinds.now a.now b.now guide.old guide.new }
+    requires guide_len { length guide.old ≡ length graph.now.a.now }
+    ensures { GuidingStill kinds.now graph.now.a.now graph.now.b.now guide.old guide.new }
 {
     for (i, &k) in kinds.iter().enumerate() {
         if k != kind {
@@ -165,36 +147,28 @@ fn pass(
             continue;
         }
         let h = (2 * i) as u16;
-        follow(n, kinds, a, b, head, next, h, guide);
-        follow(n, kinds, a, b, head, next, h + 1, guide);
+        follow(graph, kinds, h, guide);
+        follow(graph, kinds, h + 1, guide);
     }
 }
 
 // Whether reach i has an end at a basin of a channel.
-fn in_channel(
-    n: usize,
-    kinds: &[u8],
-    a: &[u16],
-    b: &[u16],
-    head: &[u16],
-    next: &[u16],
-    i: usize,
-) -> bool
-    requires tabled { Tabled n kinds.now a.now b.now head.now next.now }
-    requires i_in_bounds { i < length a.now }
+fn in_channel(graph: &Graph, kinds: &[u8], i: usize) -> bool
+    requires kinds_len { length kinds.now ≡ length graph.now.a.now }
+    requires i_in_bounds { i < length graph.now.a.now }
 {
     let h = (2 * i) as u16;
-    partner(n, kinds, a, b, head, next, h) < NO_HALF
-        || partner(n, kinds, a, b, head, next, h + 1) < NO_HALF
+    partner(graph, kinds, h) < NO_HALF
+        || partner(graph, kinds, h + 1) < NO_HALF
 }
 
 // Whether it is worth following channels. No promise rests on it.
-fn worth(n: usize, kinds: &[u8], a: &[u16], b: &[u16], head: &[u16], next: &[u16]) -> bool
-    requires { Tabled n kinds.now a.now b.now head.now next.now }
+fn worth(graph: &Graph, kinds: &[u8]) -> bool
+    requires kinds_len { length kinds.now ≡ length graph.now.a.now }
 {
     let mut gates = 0;
     let mut found = 0;
-    for i in (0..a.len()).rev() {
+    for i in (0..graph.a.len()).rev() {
         if kinds[i] != GATED {
             continue;
         }
@@ -202,7 +176,7 @@ fn worth(n: usize, kinds: &[u8], a: &[u16], b: &[u16], head: &[u16], next: &[u16
             break;
         }
         gates += 1;
-        if in_channel(n, kinds, a, b, head, next, i) {
+        if in_channel(graph, kinds, i) {
             found += 1;
         }
     }
@@ -211,26 +185,18 @@ fn worth(n: usize, kinds: &[u8], a: &[u16], b: &[u16], head: &[u16], next: &[u16
 
 // Says for each gate of a channel that was found which reach guides it: a flap of the channel, or else its lowest-numbered gate. Returns how many entries of
 // the row count: all, or none where it is not worth it.
-fn find(
-    n: usize,
-    kinds: &[u8],
-    a: &[u16],
-    b: &[u16],
-    head: &[u16],
-    next: &[u16],
-    guide: &mut [u16],
-) -> usize
-    requires tabled { Tabled n kinds.now a.now b.now head.now next.now }
-    requires guide_len { length guide.old ≡ length a.now }
-    ensures { GuidesFound kinds.now a.now b.now guide.new result }
+fn find(graph: &Graph, kinds: &[u8], guide: &mut [u16]) -> usize
+    requires kinds_len { length kinds.now ≡ length graph.now.a.now }
+    requires guide_len { length guide.old ≡ length graph.now.a.now }
+    ensures { GuidesFound kinds.now graph.now.a.now graph.now.b.now guide.new result }
 {
-    if !worth(n, kinds, a, b, head, next) {
+    if !worth(graph, kinds) {
         return 0;
     }
-    let m = a.len();
+    let m = graph.a.len();
     half_edges::fill_row(m, NO_HALF, guide);
-    pass(n, kinds, a, b, head, next, FLAP, guide);
-    pass(n, kinds, a, b, head, next, GATED, guide);
+    pass(graph, kinds, FLAP, guide);
+    pass(graph, kinds, GATED, guide);
     m
 }
 
@@ -250,7 +216,14 @@ pub fn find_if(
 {
     if known {
         let m = a.len();
-        return find(basins as usize, kinds, a, b, head, next, &mut guide[..m]);
+        let graph = Graph {
+            basins: basins as usize,
+            a,
+            b,
+            head,
+            next,
+        };
+        return find(&graph, kinds, &mut guide[..m]);
     }
     0
 }

@@ -7,6 +7,8 @@ ghost use Rattle.std.specs.Prelude.{◌≡◌, ◌≤◌, ◌<◌, length, get_o
 ghost use Rattle.orienting.specs.Ready.{Ready};
 ghost use Rattle.series_way.specs.Guided.{WayTaken, TriedFrom};
 
+use half_edges::Graph;
+
 // What stands in the row for a reach that no other guides.
 pub const UNGUIDED: u16 = 65535;
 
@@ -37,26 +39,14 @@ fn taken(guide: &[u16], ways: &[u8], i: usize) -> Option<u8>
 
 // Gives reach i the way if that loses nothing: by its guide or, if it has none that is hung, by a search. Otherwise it is usable either way. Says whether it
 // could. What it leaves in seen and in the queue is free.
-pub fn try_guided(
-    n: usize,
-    guide: &[u16],
-    a: &[u16],
-    b: &[u16],
-    ways: &mut [u8],
-    head: &[u16],
-    next: &[u16],
-    i: usize,
-    way: u8,
-    seen: &mut [u16],
-    queue: &mut [u16],
-) -> bool
-    requires ready { Ready n a.now b.now ways.old head.now next.now seen.old queue.old }
-    requires i_in_bounds { i < length a.now }
+pub fn try_guided(graph: &Graph, guide: &[u16], ways: &mut [u8], i: usize, way: u8, seen: &mut [u16], queue: &mut [u16]) -> bool
+    requires ready { Ready graph.now ways.old seen.old queue.old }
+    requires i_in_bounds { i < length graph.now.a.now }
     requires way_bound { way ≤ 1 }
-    ensures { TriedFrom n guide.now a.now b.now ways.old i way ways.new result }
+    ensures { TriedFrom graph.now.basins guide.now graph.now.a.now graph.now.b.now ways.old i way ways.new result }
 {
     let Some(w) = taken(guide, ways, i) else {
-        return orienting::try_way(n, a, b, ways, head, next, i, way, seen, queue);
+        return orienting::try_way(graph, ways, i, way, seen, queue);
     };
     if w == way {
         ways[i] = way;

@@ -8,6 +8,7 @@ ghost use Rattle.std.specs.Prelude.{◌≡◌, ◌≤◌, ◌<◌, length};
 ghost use Rattle.orienting.specs.Ready.{Ready};
 ghost use Rattle.skipping.specs.Skips.{NotedAt, NotedFrom, BindsStill};
 
+use half_edges::Graph;
 use series_way::UNGUIDED;
 
 // The fewest reaches for which it pays to look which of them are bound. No promise rests on it.
@@ -20,24 +21,11 @@ fn is_guided(guide: &[u16], i: usize) -> bool {
 
 // Tries reach i no more if it is a gate that is bound, being hung in the way by a plan. No gate is oriented in the ways `loose`. What it leaves in seen and in
 // the queue is free.
-fn note_at(
-    n: usize,
-    guide: &[u16],
-    a: &[u16],
-    b: &[u16],
-    tried: &mut [u8],
-    loose: &mut [u8],
-    head: &[u16],
-    next: &[u16],
-    i: usize,
-    way: u8,
-    seen: &mut [u16],
-    queue: &mut [u16],
-)
-    requires ready { Ready n a.now b.now loose.old head.now next.now seen.old queue.old }
-    requires tried_len { length tried.old ≡ length a.now }
-    requires i_in_bounds { i < length a.now }
-    ensures { NotedAt a.now b.now tried.old loose.old i way tried.new loose.new }
+fn note_at(graph: &Graph, guide: &[u16], tried: &mut [u8], loose: &mut [u8], i: usize, way: u8, seen: &mut [u16], queue: &mut [u16])
+    requires ready { Ready graph.now loose.old seen.old queue.old }
+    requires tried_len { length tried.old ≡ length graph.now.a.now }
+    requires i_in_bounds { i < length graph.now.a.now }
+    ensures { NotedAt graph.now.a.now graph.now.b.now tried.old loose.old i way tried.new loose.new }
 {
     if tried[i] != 0 {
         return;
@@ -48,63 +36,32 @@ fn note_at(
     if is_guided(guide, i) {
         return;
     }
-    if binding::bound_at(n, a, b, loose, head, next, i, way, seen, queue) {
+    if binding::bound_at(graph, loose, i, way, seen, queue) {
         tried[i] = 1;
     }
 }
 
 // The same of all reaches from one to another, which `ways` has as a plan hangs them.
-fn note_from(
-    n: usize,
-    guide: &[u16],
-    a: &[u16],
-    b: &[u16],
-    tried: &mut [u8],
-    loose: &mut [u8],
-    ways: &[u8],
-    head: &[u16],
-    next: &[u16],
-    from: usize,
-    to: usize,
-    seen: &mut [u16],
-    queue: &mut [u16],
-)
-    requires ready { Ready n a.now b.now loose.old head.now next.now seen.old queue.old }
-    requires tried_len { length tried.old ≡ length a.now }
-    requires ways_len { length ways.now ≡ length a.now }
-    requires to_in_bounds { to ≤ length a.now }
-    ensures { NotedFrom n a.now b.now ways.now tried.old loose.old tried.new }
+fn note_from(graph: &Graph, guide: &[u16], tried: &mut [u8], loose: &mut [u8], ways: &[u8], from: usize, to: usize, seen: &mut [u16], queue: &mut [u16])
+    requires ready { Ready graph.now loose.old seen.old queue.old }
+    requires tried_len { length tried.old ≡ length graph.now.a.now }
+    requires ways_len { length ways.now ≡ length graph.now.a.now }
+    requires to_in_bounds { to ≤ length graph.now.a.now }
+    ensures { NotedFrom graph.now.basins graph.now.a.now graph.now.b.now ways.now tried.old loose.old tried.new }
 {
     for i in from..to {
-        note_at(
-            n, guide, a, b, tried, loose, head, next, i, ways[i], seen, queue,
-        );
+        note_at(graph, guide, tried, loose, i, ways[i], seen, queue);
     }
 }
 
 // After a step to the plan whose ways stand in `ways`, which parted at reach `from`: if these are many, tries none of the bound gates from it on that were not
 // looked at yet; those from reach `to` on were. Returns the first that is looked at now. What it leaves in `loose`, in seen and in the queue is free.
-pub fn note_bound(
-    n: usize,
-    guide: &[u16],
-    kinds: &[u8],
-    a: &[u16],
-    b: &[u16],
-    tried: &mut [u8],
-    loose: &mut [u8],
-    ways: &[u8],
-    head: &[u16],
-    next: &[u16],
-    from: usize,
-    to: usize,
-    seen: &mut [u16],
-    queue: &mut [u16],
-) -> usize
-    requires ready { Ready n a.now b.now ways.now head.now next.now seen.old queue.old }
-    requires kinds_len { length kinds.now ≡ length a.now }
-    requires tried_len { length tried.old ≡ length a.now }
-    requires loose_len { length loose.old ≡ length a.now }
-    ensures { BindsStill n kinds.now a.now b.now ways.now tried.old tried.new }
+pub fn note_bound(graph: &Graph, guide: &[u16], kinds: &[u8], tried: &mut [u8], loose: &mut [u8], ways: &[u8], from: usize, to: usize, seen: &mut [u16], queue: &mut [u16]) -> usize
+    requires ready { Ready graph.now ways.now seen.old queue.old }
+    requires kinds_len { length kinds.now ≡ length graph.now.a.now }
+    requires tried_len { length tried.old ≡ length graph.now.a.now }
+    requires loose_len { length loose.old ≡ length graph.now.a.now }
+    ensures { BindsStill graph.now.basins kinds.now graph.now.a.now graph.now.b.now ways.now tried.old tried.new }
 {
     if to <= from {
         return to;
@@ -113,9 +70,7 @@ pub fn note_bound(
         return to;
     }
     tables::orient(kinds, &[], loose);
-    let end = tables::least(to, a.len());
-    note_from(
-        n, guide, a, b, tried, loose, ways, head, next, from, end, seen, queue,
-    );
+    let end = tables::least(to, graph.a.len());
+    note_from(graph, guide, tried, loose, ways, from, end, seen, queue);
     from
 }

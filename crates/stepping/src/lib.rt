@@ -9,33 +9,21 @@ ghost use Rattle.tables.specs.Rows.{gates_in, bytes_row};
 ghost use Rattle.orienting.specs.Ready.{Ready};
 ghost use Rattle.stepping.specs.Advances.{gates_before, AdvancedFrom};
 
+use half_edges::Graph;
+
 // From a plan, whose ways stand in `ways`, to the next: its ways stand there then. A gate that has one way in all plans is not tried if `tried` has another
 // kind in its place; one that another reach guides, as the row has it, takes its way from that.
 // Returns the number of the gate at which the next parts from the plan; if no plan is later, the ways are free. What it leaves in `under`, in seen and in the
 // queue is free.
-pub fn advance(
-    n: usize,
-    guide: &[u16],
-    tried: &[u8],
-    a: &[u16],
-    b: &[u16],
-    under: &mut [u8],
-    ways: &mut [u8],
-    head: &[u16],
-    next: &[u16],
-    seen: &mut [u16],
-    queue: &mut [u16],
-) -> Option<usize>
-    requires ready { Ready n a.now b.now ways.old head.now next.now seen.old queue.old }
-    requires tried_len { length tried.now ≡ length a.now }
+pub fn advance(graph: &Graph, guide: &[u16], tried: &[u8], under: &mut [u8], ways: &mut [u8], seen: &mut [u16], queue: &mut [u16]) -> Option<usize>
+    requires ready { Ready graph.now ways.old seen.old queue.old }
+    requires tried_len { length tried.now ≡ length graph.now.a.now }
     requires under_len { length under.old ≡ length ways.old }
-    ensures { AdvancedFrom n guide.now tried.now a.now b.now ways.old ways.new result }
+    ensures { AdvancedFrom graph.now.basins guide.now tried.now graph.now.a.now graph.now.b.now ways.old ways.new result }
 {
     under.copy_from_slice(ways);
-    let m = a.len();
-    seeking::step_from(
-        n, guide, tried, a, b, under, ways, head, next, m, seen, queue,
-    )
+    let m = graph.a.len();
+    seeking::step_from(graph, guide, tried, under, ways, m, seen, queue)
 }
 
 // Puts the bytes of the gates from reach r on into a plan in which those of the gates before it stand. The reaches have g gates.

@@ -6,7 +6,7 @@ use Rattle.basins.proofs.Wets.{Unserved}
 use Rattle.basins.proofs.is_wet.Given as goal
 
 abbrev pub invariant-loop-h : goal.invariant-loop-h
-invariant-loop-h l = Unserved l.kinds l.a l.b l.v l.h
+invariant-loop-h l = Unserved l.kinds l.graph.a.now l.graph.b.now l.v l.h
 
 abbrev pub decreases-loop-h : goal.decreases-loop-h
 decreases-loop-h l = (l.h + 1) % 65536

@@ -9,5 +9,5 @@ use Rattle.basins.proofs.lowest_wet.Goals as goal
 
 pub returns : goal.returns
 returns c =
-    let N : Network = net_of c.args.n c.args.kinds.now c.args.a.now c.args.b.now in
+    let N : Network = net_of c.args.graph.now.basins c.args.kinds.now c.args.graph.now.a.now c.args.graph.now.b.now in
     lowest-found N _ (first_from_Range _ _ _ _ (λ v. is_wet N v ≡ true) (λ v. is_wet N v ≡ false) c.find.ensures.ran (λ x q k. search rules) (λ x q k. search rules))

@@ -5,4 +5,4 @@ use Rattle.basins.proofs.Notes.{Noting}
 use Rattle.basins.proofs.note_others.Given as goal
 
 abbrev pub invariant-loop-v : goal.invariant-loop-v
-invariant-loop-v l = Noting (net_of l.n l.kinds l.a l.b) l.x l.v l.initial.seen l.seen
+invariant-loop-v l = Noting (net_of l.graph.basins l.kinds l.graph.a.now l.graph.b.now) l.x l.v l.initial.seen l.seen

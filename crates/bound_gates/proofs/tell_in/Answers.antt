@@ -3,7 +3,7 @@
 use native.Mathlib.Omega.{arith}
 use mathlib.Core.Path.{refl, sym}
 use lib.Seq.{length-take-le}
-use Rattle.finder.proofs.Rooms.{room-index, room-ready, level-few, level-room}
+use Rattle.finder.proofs.Rooms.{room-index, room-ready, room-table, level-few, level-room}
 use Rattle.bound_gates.proofs.Calls.{planned-level}
 use Rattle.bound_gates.proofs.tell_in.Goals as goal
 
@@ -19,5 +19,8 @@ orient-requires c = (level-room (planned-level c.requires.planned) c.requires.sp
 pub index-requires : goal.index-requires
 index-requires c = room-index (level-room (planned-level c.requires.planned) c.requires.space) refl refl
 
+pub invariant_of-graph : goal.invariant_of-graph
+invariant_of-graph c = record { table = room-table (level-room (planned-level c.requires.planned) c.requires.space); index = c.index.ensures }
+
 pub tell_bound-requires-clause-ready : goal.tell_bound-requires-clause-ready
-tell_bound-requires-clause-ready c = room-ready (level-room (planned-level c.requires.planned) c.requires.space) c.orient.auto.ways c.index.ensures refl refl
+tell_bound-requires-clause-ready c = room-ready (level-room (planned-level c.requires.planned) c.requires.space) _ refl refl c.orient.auto.ways (omega arith) (omega arith)

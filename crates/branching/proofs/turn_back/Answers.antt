@@ -11,7 +11,7 @@ pub returns-then-part_at-clause-turned_back : goal.returns-then-part_at-clause-t
 returns-then-part_at-clause-turned_back c =
     record {
       from = λ ks p all d.
-          turn-found p c.requires.ready.table.paired all c.args.guide.now d (c.loop-i.i - 1) (omega (arith, c.loop-i-test.true)) (omega (arith, c.loop-i-test.true, c.loop-i.invariant.0)) (c.loop-i.invariant.2 ks p all d) c.part_at.ensures c.if-part_at.true;
+          turn-found p c.args.graph.now.table.paired all c.args.guide.now d (c.loop-i.i - 1) (omega (arith, c.loop-i-test.true)) (omega (arith, c.loop-i-test.true, c.loop-i.invariant.0)) (c.loop-i.invariant.2 ks p all d) c.part_at.ensures c.if-part_at.true;
     }
 
 pub loop-i-preserved : goal.loop-i-preserved
@@ -19,7 +19,7 @@ loop-i-preserved c = (
   omega (arith, c.loop-i.invariant.0),
   ready-notes _ _ (ready-ways _ c.loop-i.invariant.1 c.part_at.auto.ways) c.part_at.auto.seen c.part_at.auto.queue,
   (λ ks p all d.
-      turn_on p c.requires.ready.table.paired all c.args.guide.now d (c.loop-i.i - 1) (omega (arith, c.loop-i-test.true)) (omega (arith, c.loop-i-test.true, c.loop-i.invariant.0)) (c.loop-i.invariant.2 ks p all d) c.part_at.ensures c.if-part_at.false),
+      turn_on p c.args.graph.now.table.paired all c.args.guide.now d (c.loop-i.i - 1) (omega (arith, c.loop-i-test.true)) (omega (arith, c.loop-i-test.true, c.loop-i.invariant.0)) (c.loop-i.invariant.2 ks p all d) c.part_at.ensures c.if-part_at.false),
   c.part_at.auto.ways ∙ c.loop-i.invariant.3,
   c.part_at.auto.seen ∙ c.loop-i.invariant.4,
   c.part_at.auto.queue ∙ c.loop-i.invariant.5,
@@ -27,4 +27,4 @@ loop-i-preserved c = (
 
 pub returns-clause-turned_back : goal.returns-clause-turned_back
 returns-clause-turned_back c =
-    record { from = λ ks p all d. back_done c.args.n ks c.args.a.now c.args.b.now (sym p.kinds-full) (c.requires.ready.table.paired ∙ sym p.kinds-full) c.args.under.now p.under c.args.tried.now p.tries c.args.to c.loop-i.ways c.loop-i.i (omega (arith, c.loop-i-test.false)) (c.loop-i.invariant.2 ks p all d) }
+    record { from = λ ks p all d. back_done c.args.graph.now.basins ks c.args.graph.now.a.now c.args.graph.now.b.now (sym p.kinds-full) (c.args.graph.now.table.paired ∙ sym p.kinds-full) c.args.under.now p.under c.args.tried.now p.tries c.args.to c.loop-i.ways c.loop-i.i (omega (arith, c.loop-i-test.false)) (c.loop-i.invariant.2 ks p all d) }

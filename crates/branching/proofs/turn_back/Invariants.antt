@@ -14,6 +14,6 @@ use Rattle.branching.proofs.turn_back.Given as goal
 
 abbrev pub invariant-loop-i : goal.invariant-loop-i
 invariant-loop-i l =
-    (l.i ≤ l.to) × Ready l.n l.a l.b l.ways l.head l.next l.seen l.queue
-    × ((ks : List ℕ) → Following l.n ks l.tried l.a l.b l.under l.initial.ways l.to → StronglyConnectedBelow (net_of l.n ks l.a l.b) l.tried l.under l.to → Guides (net_of l.n ks l.a l.b) l.guide → Back (net_of l.n ks l.a l.b) l.tried l.under l.to l.ways l.i)
+    (l.i ≤ l.to) × Ready l.graph l.ways l.seen l.queue
+    × ((ks : List ℕ) → Following l.graph.basins ks l.tried l.graph.a.now l.graph.b.now l.under l.initial.ways l.to → StronglyConnectedBelow (net_of l.graph.basins ks l.graph.a.now l.graph.b.now) l.tried l.under l.to → Guides (net_of l.graph.basins ks l.graph.a.now l.graph.b.now) l.guide → Back (net_of l.graph.basins ks l.graph.a.now l.graph.b.now) l.tried l.under l.to l.ways l.i)
     × (length l.ways ≡ length l.initial.ways) × (length l.seen ≡ length l.initial.seen) × (length l.queue ≡ length l.initial.queue)

@@ -14,6 +14,6 @@ use Rattle.completing.proofs.complete.Given as goal
 
 abbrev pub invariant-loop-i : goal.invariant-loop-i
 invariant-loop-i l =
-    (l.i ≤ length l.a) × Ready l.n l.a l.b l.ways l.head l.next l.seen l.queue
-    × ((ks : List ℕ) → Completable l.n ks l.tried l.a l.b l.initial.ways l.from → Bridgeless (net_of l.n ks l.a l.b) → Guides (net_of l.n ks l.a l.b) l.guide → Going (net_of l.n ks l.a l.b) l.tried l.initial.ways l.from l.ways l.i)
+    (l.i ≤ length l.graph.a.now) × Ready l.graph l.ways l.seen l.queue
+    × ((ks : List ℕ) → Completable l.graph.basins ks l.tried l.graph.a.now l.graph.b.now l.initial.ways l.from → Bridgeless (net_of l.graph.basins ks l.graph.a.now l.graph.b.now) → Guides (net_of l.graph.basins ks l.graph.a.now l.graph.b.now) l.guide → Going (net_of l.graph.basins ks l.graph.a.now l.graph.b.now) l.tried l.initial.ways l.from l.ways l.i)
     × (length l.ways ≡ length l.initial.ways) × (length l.seen ≡ length l.initial.seen) × (length l.queue ≡ length l.initial.queue)

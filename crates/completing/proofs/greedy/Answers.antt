@@ -9,7 +9,7 @@ use Rattle.completing.proofs.greedy.Goals as goal
 
 pub returns-then-not-orient_gate : goal.returns-then-not-orient_gate
 returns-then-not-orient_gate c =
-    going-bridge c.args.n c.args.kinds.now c.args.a.now c.args.b.now (sym c.requires.completable.kinds-full) (c.requires.ready.table.paired ∙ sym c.requires.completable.kinds-full) c.requires.completable.accepted c.args.kinds.now
+    going-bridge c.args.graph.now.basins c.args.kinds.now c.args.graph.now.a.now c.args.graph.now.b.now (sym c.requires.completable.kinds-full) (c.args.graph.now.table.paired ∙ sym c.requires.completable.kinds-full) c.requires.completable.accepted c.args.kinds.now
     c.args.ways.now c.args.from c.loop-i.ways c.loop-i.i (omega (arith, c.loop-i-test.true, c.requires.completable.kinds-full)) c.loop-i.invariant.2 _ c.orient_gate.ensures (c.if-not-orient_gate.true)
 
 pub loop-i-preserved : goal.loop-i-preserved
@@ -17,8 +17,8 @@ loop-i-preserved c = (
   omega arith,
   ready-notes _ _ (ready-ways _ c.loop-i.invariant.1 c.orient_gate.auto.ways) c.orient_gate.auto.seen c.orient_gate.auto.queue,
   rw add-one
-      (going_on c.args.n c.args.kinds.now c.args.a.now c.args.b.now (sym c.requires.completable.kinds-full) (c.requires.ready.table.paired ∙ sym c.requires.completable.kinds-full) c.requires.completable.accepted c.args.kinds.now
-      c.args.ways.now c.args.from c.loop-i.ways c.loop-i.i (omega (arith, c.loop-i-test.true, c.requires.completable.kinds-full)) c.loop-i.invariant.2 (plain-clear c.args.n c.args.kinds.now c.args.a.now c.args.b.now (sym c.requires.completable.kinds-full) (c.requires.ready.table.paired ∙ sym c.requires.completable.kinds-full) c.loop-i.i (omega (arith, c.loop-i-test.true, c.requires.completable.kinds-full))) c.orient_gate.ensures (c.if-not-orient_gate.false)),
+      (going_on c.args.graph.now.basins c.args.kinds.now c.args.graph.now.a.now c.args.graph.now.b.now (sym c.requires.completable.kinds-full) (c.args.graph.now.table.paired ∙ sym c.requires.completable.kinds-full) c.requires.completable.accepted c.args.kinds.now
+      c.args.ways.now c.args.from c.loop-i.ways c.loop-i.i (omega (arith, c.loop-i-test.true, c.requires.completable.kinds-full)) c.loop-i.invariant.2 (plain-clear c.args.graph.now.basins c.args.kinds.now c.args.graph.now.a.now c.args.graph.now.b.now (sym c.requires.completable.kinds-full) (c.args.graph.now.table.paired ∙ sym c.requires.completable.kinds-full) c.loop-i.i (omega (arith, c.loop-i-test.true, c.requires.completable.kinds-full))) c.orient_gate.ensures (c.if-not-orient_gate.false)),
   c.orient_gate.auto.ways ∙ c.loop-i.invariant.3,
   c.orient_gate.auto.seen ∙ c.loop-i.invariant.4,
   c.orient_gate.auto.queue ∙ c.loop-i.invariant.5,
@@ -26,5 +26,5 @@ loop-i-preserved c = (
 
 pub returns : goal.returns
 returns c =
-    going_done c.args.n c.args.kinds.now c.args.a.now c.args.b.now (sym c.requires.completable.kinds-full) (c.requires.ready.table.paired ∙ sym c.requires.completable.kinds-full) c.args.kinds.now
+    going_done c.args.graph.now.basins c.args.kinds.now c.args.graph.now.a.now c.args.graph.now.b.now (sym c.requires.completable.kinds-full) (c.args.graph.now.table.paired ∙ sym c.requires.completable.kinds-full) c.args.kinds.now
     c.args.ways.now c.args.from c.loop-i.ways c.loop-i.seen c.loop-i.i (omega (arith, c.loop-i.invariant.0, c.loop-i-test.false, c.requires.completable.kinds-full)) c.loop-i.invariant.2

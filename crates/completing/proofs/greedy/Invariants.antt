@@ -10,5 +10,5 @@ use Rattle.completing.proofs.greedy.Given as goal
 
 abbrev pub invariant-loop-i : goal.invariant-loop-i
 invariant-loop-i l =
-    (l.i ≤ length l.a) × Ready l.n l.a l.b l.ways l.head l.next l.seen l.queue × Going (net_of l.n l.kinds l.a l.b) l.kinds l.initial.ways l.from l.ways l.i
+    (l.i ≤ length l.graph.a.now) × Ready l.graph l.ways l.seen l.queue × Going (net_of l.graph.basins l.kinds l.graph.a.now l.graph.b.now) l.kinds l.initial.ways l.from l.ways l.i
     × (length l.ways ≡ length l.initial.ways) × (length l.seen ≡ length l.initial.seen) × (length l.queue ≡ length l.initial.queue)

@@ -21,4 +21,4 @@ returns-then-try_way-2 c =
 pub returns : goal.returns
 returns c =
     gate-neither c.args.kinds.now c.args.ways.now c.args.i (kind-gate _ c.if-kinds-i-ne0.false) c.try_way.ensures c.if-try_way.false c.try_way-2.ensures c.if-try_way-2.false
-    (ready-noted _ c.search.new.seen c.requires.ready (c.requires.ready.table.ends-a c.args.i c.requires.below) c.search.ensures)
+    (ready-noted _ c.search.new.seen c.requires.ready (c.args.graph.now.table.ends-a c.args.i c.requires.below) c.search.ensures)

@@ -8,4 +8,4 @@ use Rattle.eccentricity.proofs.eccentricity.Goals as goal
 
 pub returns : goal.returns
 returns c =
-    c.greatest_count.ensures ∙ counts-farthest (net_of c.args.n c.args.kinds.now c.args.a.now c.args.b.now) (arcs_of c.args.a.now c.args.b.now c.args.ways.now) c.args.u c.search.new.seen c.search.ensures
+    c.greatest_count.ensures ∙ counts-farthest (net_of c.args.graph.now.basins c.args.kinds.now c.args.graph.now.a.now c.args.graph.now.b.now) (arcs_of c.args.graph.now.a.now c.args.graph.now.b.now c.args.ways.now) c.args.u c.search.new.seen c.search.ensures

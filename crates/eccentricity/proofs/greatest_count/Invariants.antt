@@ -6,4 +6,4 @@ use Rattle.eccentricity.proofs.Mosts.{Most}
 use Rattle.eccentricity.proofs.greatest_count.Given as goal
 
 abbrev pub invariant-loop-v : goal.invariant-loop-v
-invariant-loop-v l = Most (net_of l.n l.kinds l.a l.b) (count_at l.seen) l.v l.most
+invariant-loop-v l = Most (net_of l.graph.basins l.kinds l.graph.a.now l.graph.b.now) (count_at l.seen) l.v l.most

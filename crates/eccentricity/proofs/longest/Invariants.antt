@@ -8,4 +8,4 @@ use Rattle.eccentricity.proofs.Mosts.{Most}
 use Rattle.eccentricity.proofs.longest.Given as goal
 
 abbrev pub invariant-loop-v : goal.invariant-loop-v
-invariant-loop-v l = Most (net_of l.n l.kinds l.a l.b) (farthest (basins_of (net_of l.n l.kinds l.a l.b)) (arcs_of l.a l.b l.ways)) l.v l.most
+invariant-loop-v l = Most (net_of l.graph.basins l.kinds l.graph.a.now l.graph.b.now) (farthest (basins_of (net_of l.graph.basins l.kinds l.graph.a.now l.graph.b.now)) (arcs_of l.graph.a.now l.graph.b.now l.ways)) l.v l.most

@@ -2,15 +2,19 @@
 -- Assumes nothing.
 use mathlib.Core.Path.{◌≡◌, refl, sym, ap, ◌∙◌}
 use mathlib.Core.Bool.{Bool, true, false, not}
+use native.Mathlib.Omega.{arith}
 use Rattle.seeking.proofs.Firsts.{under-basin}
-use Rattle.finder.proofs.Rooms.{room-level, room-index, room-ready}
+use Rattle.finder.proofs.Rooms.{room-level, room-index, room-ready, room-table}
 use Rattle.finder.proofs.strongly_connected_under.Goals as goal
 
 pub prepare-requires : goal.prepare-requires
 prepare-requires c = record { ways-room = c.requires.ways-room; indexable = room-index c.requires refl refl }
 
+pub invariant_of-graph : goal.invariant_of-graph
+invariant_of-graph c = record { table = room-table c.requires; index = c.prepare.ensures.index }
+
 pub shut_in_basin-requires-clause-ready : goal.shut_in_basin-requires-clause-ready
-shut_in_basin-requires-clause-ready c = room-ready c.requires c.prepare.auto.ways c.prepare.ensures.index refl refl
+shut_in_basin-requires-clause-ready c = room-ready c.requires _ refl refl c.prepare.auto.ways (omega arith) (omega arith)
 
 -- what `is_none` says
 told : {y : Bool} (x : Bool) → y ≡ not x → x ≡ not y

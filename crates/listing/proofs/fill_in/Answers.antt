@@ -33,5 +33,5 @@ print_lines-requires-clause-kept c =
       head-spare = c.requires.space.head-space;
       next-spare = c.requires.space.next-space;
     } in
-    let ways-cut = cut c.least-m.result c.args.ways.now c.requires.space.ways-space (few) in primed-kept c.args.l.due (spare) c.prime-standing.auto.ways (cut c.least-m.result c.args.under.now c.requires.under_len (few) ∙ sym (c.prime-standing.auto.ways ∙ ways-cut)) c.requires.space.seen-space c.requires.space.queue-space
+    let ways-cut = cut c.least-m.result c.args.ways.now c.requires.space.ways-space (few) in primed-kept c.args.l.due (spare) c.prime-standing.auto.ways (cut c.least-m.result c.args.under.now c.requires.under_len (few) ∙ sym (c.prime-standing.auto.ways ∙ ways-cut))
     (c.copy_from_slice.ensures.after ∙ ap (λ (k : ℕ). take k c.args.kinds.now) (sym ways-cut)) c.prime-standing.ensures

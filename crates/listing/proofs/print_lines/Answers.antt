@@ -26,7 +26,7 @@ pub loop-n-preserved : goal.loop-n-preserved
 loop-n-preserved c =
     let turn : Printing (holding c.args.l c.args.setting.now) c.args.kinds.now c.args.a.now c.args.b.now c.args.out.now c.loop-n.out (holding c.turned-turn.result.line c.turned-turn.new.setting) c.loop-n.n = print-turn _ _ _ _ _ _ _ _ c.loop-n.invariant.0 c.turned-turn.ensures.turned in (
       print-more _ _ _ _ _ _ _ _ (turn) c.requires.g_value c.put_line-k.ensures,
-      subst (λ (m : ℕ). Kept m c.args.kinds.now c.turned-turn.new.tried c.args.a.now c.args.b.now c.turned-turn.result.line.due (take c.args.g c.turned-turn.new.setting) c.turned-turn.new.under c.turned-turn.new.ways c.args.head.now c.args.next.now c.turned-turn.new.seen c.turned-turn.new.queue c.args.standing) c.loop-n.invariant.0.basins-kept c.turned-turn.ensures.kept_2,
+      subst (λ (m : ℕ). Kept m c.args.kinds.now c.turned-turn.new.tried c.args.a.now c.args.b.now c.turned-turn.result.line.due (take c.args.g c.turned-turn.new.setting) c.turned-turn.new.under c.turned-turn.new.ways c.args.head.now c.args.next.now c.args.standing) c.loop-n.invariant.0.basins-kept c.turned-turn.ensures.kept_2,
       c.turned-turn.auto.tried ∙ c.loop-n.invariant.2,
       c.turned-turn.auto.under ∙ c.loop-n.invariant.3,
       c.turned-turn.auto.ways ∙ c.loop-n.invariant.4,

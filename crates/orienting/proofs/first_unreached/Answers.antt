@@ -7,5 +7,5 @@ use Rattle.orienting.proofs.first_unreached.Goals as goal
 
 pub returns : goal.returns
 returns c =
-    unreached-first (net_of c.args.n c.args.kinds.now c.args.a.now c.args.b.now) (arcs_of c.args.a.now c.args.b.now (sided c.args.against c.args.ways.now)) c.search.new.seen
+    unreached-first (net_of c.args.graph.now.basins c.args.kinds.now c.args.graph.now.a.now c.args.graph.now.b.now) (arcs_of c.args.graph.now.a.now c.args.graph.now.b.now (sided c.args.against c.args.ways.now)) c.search.new.seen
     (ready-noted (sided c.args.against c.args.ways.now) c.search.new.seen c.requires.ready c.requires.start_lt_n c.search.ensures) c.lowest_unseen.ensures

@@ -9,4 +9,4 @@ use Rattle.orienting.proofs.shut_in_basin.Goals as goal
 
 pub returns-in_err-low : goal.returns-in_err-low
 returns-in_err-low c =
-    shut-in-none (net_of c.args.n c.args.kinds.now c.args.a.now c.args.b.now) (arcs_of c.args.a.now c.args.b.now c.args.ways.now) c.lowest_wet.ensures (grind (arith, common_steps)) c.from_residual.ensures
+    shut-in-none (net_of c.args.graph.now.basins c.args.kinds.now c.args.graph.now.a.now c.args.graph.now.b.now) (arcs_of c.args.graph.now.a.now c.args.graph.now.b.now c.args.ways.now) c.lowest_wet.ensures (grind (arith, common_steps)) c.from_residual.ensures

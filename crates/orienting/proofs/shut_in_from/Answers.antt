@@ -8,9 +8,9 @@ use Rattle.orienting.proofs.shut_in_from.Goals as goal
 
 pub returns-then-is_some : goal.returns-then-is_some
 returns-then-is_some c =
-    shut-in-lowest (net_of c.args.n c.args.kinds.now c.args.a.now c.args.b.now) (arcs_of c.args.a.now c.args.b.now c.args.ways.now) c.requires.lowest c.first_unreached.ensures c.if-is_some.ensures
+    shut-in-lowest (net_of c.args.graph.now.basins c.args.kinds.now c.args.graph.now.a.now c.args.graph.now.b.now) (arcs_of c.args.graph.now.a.now c.args.graph.now.b.now c.args.ways.now) c.requires.lowest c.first_unreached.ensures c.if-is_some.ensures
 
 pub returns : goal.returns
 returns c =
-    shut-in-back (net_of c.args.n c.args.kinds.now c.args.a.now c.args.b.now) (arcs_of c.args.a.now c.args.b.now c.args.ways.now) c.requires.lowest c.first_unreached.ensures c.if-is_some.ensures
-    (reached-flipped c.args.a.now c.args.b.now c.args.ways.now) c.first_unreached-2.ensures
+    shut-in-back (net_of c.args.graph.now.basins c.args.kinds.now c.args.graph.now.a.now c.args.graph.now.b.now) (arcs_of c.args.graph.now.a.now c.args.graph.now.b.now c.args.ways.now) c.requires.lowest c.first_unreached.ensures c.if-is_some.ensures
+    (reached-flipped c.args.graph.now.a.now c.args.graph.now.b.now c.args.ways.now) c.first_unreached-2.ensures

@@ -4,10 +4,10 @@ use Rattle.seeking.proofs.Rows.{open-completable, row-bridge, row-plan}
 use Rattle.seeking.proofs.orient_all.Goals as goal
 
 pub greedy-requires-clause-completable : goal.greedy-requires-clause-completable
-greedy-requires-clause-completable c = open-completable c.args.n c.args.kinds.now c.args.a.now c.args.b.now c.requires.passable
+greedy-requires-clause-completable c = open-completable c.args.graph.now.basins c.args.kinds.now c.args.graph.now.a.now c.args.graph.now.b.now c.requires.passable
 
 pub returns-in-Some : goal.returns-in-Some
-returns-in-Some c = row-bridge c.args.n c.args.kinds.now c.args.a.now c.args.b.now c.requires.passable c.in-Some.ensures c.note_side.ensures
+returns-in-Some c = row-bridge c.args.graph.now.basins c.args.kinds.now c.args.graph.now.a.now c.args.graph.now.b.now c.requires.passable c.in-Some.ensures c.note_side.ensures
 
 pub returns-in-None : goal.returns-in-None
-returns-in-None c = row-plan c.args.n c.args.kinds.now c.args.a.now c.args.b.now c.requires.passable c.in-None.ensures
+returns-in-None c = row-plan c.args.graph.now.basins c.args.kinds.now c.args.graph.now.a.now c.args.graph.now.b.now c.requires.passable c.in-None.ensures

@@ -8,14 +8,14 @@ returns-in_err-at c =
     rw c.from_residual.ensures
     record {
       from = λ ks p guides.
-          step-none (c.in_err-at.ensures.turned_back.from ks (part-following c.args.n ks c.args.a.now c.args.b.now p) p.connected-below guides);
+          step-none (c.in_err-at.ensures.turned_back.from ks (part-following c.args.graph.now.basins ks c.args.graph.now.a.now c.args.graph.now.b.now p) p.connected-below guides);
     }
 
 pub returns : goal.returns
 returns c =
     record {
       from = λ ks p guides.
-          let d = c.in_ok-at.ensures.turned_back.from ks (part-following c.args.n ks c.args.a.now c.args.b.now p) p.connected-below guides in
-          step-completed c.args.n ks c.args.a.now c.args.b.now p d
-          (c.complete.ensures.from ks (step-completable c.args.n ks c.args.a.now c.args.b.now p d) (bridgeless _ p.some-plan) guides);
+          let d = c.in_ok-at.ensures.turned_back.from ks (part-following c.args.graph.now.basins ks c.args.graph.now.a.now c.args.graph.now.b.now p) p.connected-below guides in
+          step-completed c.args.graph.now.basins ks c.args.graph.now.a.now c.args.graph.now.b.now p d
+          (c.complete.ensures.from ks (step-completable c.args.graph.now.basins ks c.args.graph.now.a.now c.args.graph.now.b.now p d) (bridgeless _ p.some-plan) guides);
     }

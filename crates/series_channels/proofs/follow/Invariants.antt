@@ -10,4 +10,4 @@ use Rattle.series_channels.proofs.follow.Given as goal
 
 abbrev pub invariant-loop : goal.invariant-loop
 invariant-loop l =
-    (l.h < halves l.a) × (get_or l.kinds (l.h / 2) 0 ≤ 2) × ((m : ℕ) → Came (net_of m l.kinds l.a l.b) l.start l.h) × (Guiding l.kinds l.a l.b l.initial.guide → Guiding l.kinds l.a l.b l.guide)
+    (l.h < halves l.graph.a.now) × (get_or l.kinds (l.h / 2) 0 ≤ 2) × ((m : ℕ) → Came (net_of m l.kinds l.graph.a.now l.graph.b.now) l.start l.h) × (Guiding l.kinds l.graph.a.now l.graph.b.now l.initial.guide → Guiding l.kinds l.graph.a.now l.graph.b.now l.guide)

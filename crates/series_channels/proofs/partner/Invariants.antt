@@ -5,4 +5,4 @@ use Rattle.series_channels.proofs.Partners.{Looked}
 use Rattle.series_channels.proofs.partner.Given as goal
 
 abbrev pub invariant-loop : goal.invariant-loop
-invariant-loop l = Looked l.kinds l.a l.b (end_of l.a l.b l.h) l.h l.o l.found
+invariant-loop l = Looked l.kinds l.graph.a.now l.graph.b.now (end_of l.graph.a.now l.graph.b.now l.h) l.h l.o l.found

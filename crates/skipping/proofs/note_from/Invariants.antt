@@ -13,6 +13,6 @@ use Rattle.skipping.proofs.note_from.Given as goal
 
 abbrev pub invariant-loop-i : goal.invariant-loop-i
 invariant-loop-i l =
-    Ready l.n l.a l.b l.loose l.head l.next l.seen l.queue
-    × ((ks s : List ℕ) → l.initial.loose ≡ ways_row ks [] → AtPlan l.n ks l.a l.b s l.ways → Binds (net_of l.n ks l.a l.b) l.initial.tried l.ways → BoundNoted l.n ks l.a l.b l.ways l.tried l.loose)
+    Ready l.graph l.loose l.seen l.queue
+    × ((ks s : List ℕ) → l.initial.loose ≡ ways_row ks [] → AtPlan l.graph.basins ks l.graph.a.now l.graph.b.now s l.ways → Binds (net_of l.graph.basins ks l.graph.a.now l.graph.b.now) l.initial.tried l.ways → BoundNoted l.graph.basins ks l.graph.a.now l.graph.b.now l.ways l.tried l.loose)
     × (length l.tried ≡ length l.initial.tried) × (length l.loose ≡ length l.initial.loose) × (length l.seen ≡ length l.initial.seen) × (length l.queue ≡ length l.initial.queue)

@@ -12,11 +12,11 @@ use Rattle.stepping.proofs.advance.Goals as goal
 
 pub returns : goal.returns
 returns c =
-    let copied : (ks p : List ℕ) → AtPlan c.args.n ks c.args.a.now c.args.b.now p c.args.ways.now → AtPlan c.args.n ks c.args.a.now c.args.b.now p c.copy_from_slice.new.self = λ ks. λ p. λ h. subst (λ u. AtPlan c.args.n ks c.args.a.now c.args.b.now p u) (sym c.copy_from_slice.ensures.after) h in
+    let copied : (ks p : List ℕ) → AtPlan c.args.graph.now.basins ks c.args.graph.now.a.now c.args.graph.now.b.now p c.args.ways.now → AtPlan c.args.graph.now.basins ks c.args.graph.now.a.now c.args.graph.now.b.now p c.copy_from_slice.new.self = λ ks. λ p. λ h. subst (λ u. AtPlan c.args.graph.now.basins ks c.args.graph.now.a.now c.args.graph.now.b.now p u) (sym c.copy_from_slice.ensures.after) h in
     record {
       from = λ ks p h f guides.
           let h' = copied ks p h in
-          let f' = subst (λ u. Binds (net_of c.args.n ks c.args.a.now c.args.b.now) c.args.tried.now u) (sym c.copy_from_slice.ensures.after) f in
-          advanced c.args.n ks c.args.a.now c.args.b.now h.level h' h.oriented f'
-          (c.step_from.ensures.from ks (plan-partable c.args.n ks c.args.a.now c.args.b.now h' h.oriented f') guides);
+          let f' = subst (λ u. Binds (net_of c.args.graph.now.basins ks c.args.graph.now.a.now c.args.graph.now.b.now) c.args.tried.now u) (sym c.copy_from_slice.ensures.after) f in
+          advanced c.args.graph.now.basins ks c.args.graph.now.a.now c.args.graph.now.b.now h.level h' h.oriented f'
+          (c.step_from.ensures.from ks (plan-partable c.args.graph.now.basins ks c.args.graph.now.a.now c.args.graph.now.b.now h' h.oriented f') guides);
     }
