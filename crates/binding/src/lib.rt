@@ -16,7 +16,14 @@ use half_edges::Graph;
 use tables::GATED;
 
 // Whether reach i, which a plan hangs in the way, can get no other. Afterwards it is usable either way. What it leaves in seen and in the queue is free.
-pub fn bound_at(graph: &Graph, ways: &mut [u8], i: usize, way: u8, seen: &mut [u16], queue: &mut [u16]) -> bool
+pub fn bound_at(
+    graph: &Graph,
+    ways: &mut [u8],
+    i: usize,
+    way: u8,
+    seen: &mut [u16],
+    queue: &mut [u16],
+) -> bool
     requires ready { Ready graph.now ways.old seen.old queue.old }
     requires i_in_bounds { i < length graph.now.a.now }
     requires way_bound { way ≤ 1 }
@@ -40,7 +47,14 @@ fn told(bound: bool, way: u8) -> u8
 }
 
 // Puts the bytes of all gates where those of a plan stand. No gate is oriented in the ways. What it leaves in seen and in the queue is free.
-pub fn tell_bound(graph: &Graph, kinds: &[u8], ways: &mut [u8], bytes: &mut [u8], seen: &mut [u16], queue: &mut [u16])
+pub fn tell_bound(
+    graph: &Graph,
+    kinds: &[u8],
+    ways: &mut [u8],
+    bytes: &mut [u8],
+    seen: &mut [u16],
+    queue: &mut [u16],
+)
     requires ready { Ready graph.now ways.old seen.old queue.old }
     requires tellable { Tellable graph.now.basins kinds.now graph.now.a.now graph.now.b.now ways.old bytes.old }
     ensures { bytes.new ≡ bound_bytes (net_on graph.now kinds.now)

@@ -14,7 +14,14 @@ use half_edges::Graph;
 // Orients the gates one after the other as `under` has them, from ways of which all gates are usable either way.
 // Returns the first gate that loses something if it is oriented so: that one and those after it are usable either way. What it leaves in seen and in the
 // queue is free.
-pub fn follow(graph: &Graph, kinds: &[u8], under: &[u8], ways: &mut [u8], seen: &mut [u16], queue: &mut [u16]) -> Option<usize>
+pub fn follow(
+    graph: &Graph,
+    kinds: &[u8],
+    under: &[u8],
+    ways: &mut [u8],
+    seen: &mut [u16],
+    queue: &mut [u16],
+) -> Option<usize>
     requires ready { Ready graph.now ways.old seen.old queue.old }
     requires following { Following graph.now.basins kinds.now kinds.now graph.now.a.now graph.now.b.now under.now ways.old 0 }
     requires strongly_connected { StronglyConnected (net_on graph.now kinds.now) ways.old }
@@ -32,7 +39,16 @@ pub fn follow(graph: &Graph, kinds: &[u8], under: &[u8], ways: &mut [u8], seen: 
 // is not tried if `tried` has another kind in its place; one search for each that is tried and that no other reach guides.
 // Returns its number; if there is none, the ways are free. The gates after it that are tried are usable either way. What it leaves in seen and in the queue is
 // free.
-pub fn turn_back(graph: &Graph, guide: &[u16], tried: &[u8], under: &[u8], ways: &mut [u8], to: usize, seen: &mut [u16], queue: &mut [u16]) -> Option<usize>
+pub fn turn_back(
+    graph: &Graph,
+    guide: &[u16],
+    tried: &[u8],
+    under: &[u8],
+    ways: &mut [u8],
+    to: usize,
+    seen: &mut [u16],
+    queue: &mut [u16],
+) -> Option<usize>
     requires ready { Ready graph.now ways.old seen.old queue.old }
     requires tried_len { length tried.now ≡ length graph.now.a.now }
     requires under_len { length under.now ≡ length graph.now.a.now }

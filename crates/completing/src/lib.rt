@@ -12,7 +12,14 @@ use half_edges::Graph;
 
 // Orients the gates from reach `from` on, one after the other. Returns the first gate that can get neither way: then seen holds a side of it, and the ways
 // are free. What else it leaves in seen, and the queue, is free.
-pub fn greedy(graph: &Graph, kinds: &[u8], ways: &mut [u8], from: usize, seen: &mut [u16], queue: &mut [u16]) -> Option<usize>
+pub fn greedy(
+    graph: &Graph,
+    kinds: &[u8],
+    ways: &mut [u8],
+    from: usize,
+    seen: &mut [u16],
+    queue: &mut [u16],
+) -> Option<usize>
     requires ready { Ready graph.now ways.old seen.old queue.old }
     requires completable { Completable graph.now.basins kinds.now kinds.now graph.now.a.now graph.now.b.now ways.old from }
     ensures { Greedy (net_on graph.now kinds.now) ways.old from
@@ -28,7 +35,15 @@ pub fn greedy(graph: &Graph, kinds: &[u8], ways: &mut [u8], from: usize, seen: &
 
 // The same as `greedy` where no reach is a bridge, of the gates that are tried: one search for each that no other reach guides, and every one gets a way. A
 // gate that has its way already is not tried if `tried` has another kind in its place. What it leaves in seen and in the queue is free.
-pub fn complete(graph: &Graph, guide: &[u16], tried: &[u8], ways: &mut [u8], from: usize, seen: &mut [u16], queue: &mut [u16])
+pub fn complete(
+    graph: &Graph,
+    guide: &[u16],
+    tried: &[u8],
+    ways: &mut [u8],
+    from: usize,
+    seen: &mut [u16],
+    queue: &mut [u16],
+)
     requires ready { Ready graph.now ways.old seen.old queue.old }
     requires tried_len { length tried.now ≡ length graph.now.a.now }
     requires from_in_bounds { from ≤ length graph.now.a.now }

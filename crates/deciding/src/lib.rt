@@ -11,7 +11,14 @@ use half_edges::Graph;
 
 // Orients reach i, if it is a gate, as drawn where that loses nothing, else turned where that does not. Says whether it could; if not, seen holds
 // what its end A leads to without it, and the ways are free. What else it leaves in seen, and the queue, is free.
-pub fn orient_gate(graph: &Graph, kinds: &[u8], ways: &mut [u8], i: usize, seen: &mut [u16], queue: &mut [u16]) -> bool
+pub fn orient_gate(
+    graph: &Graph,
+    kinds: &[u8],
+    ways: &mut [u8],
+    i: usize,
+    seen: &mut [u16],
+    queue: &mut [u16],
+) -> bool
     requires { AtReach graph.now kinds.now ways.old i seen.old queue.old }
     ensures { OrientedGate graph.now.basins kinds.now graph.now.a.now graph.now.b.now ways.old i ways.new seen.new result }
 {
@@ -31,7 +38,15 @@ pub fn orient_gate(graph: &Graph, kinds: &[u8], ways: &mut [u8], i: usize, seen:
 
 // Orients reach i, if it is a gate, as drawn where that loses nothing, else turned: for a gate that is no bridge, one of the two loses nothing. By its
 // guide, if the row has one that is hung, else by a search. What it leaves in seen and in the queue is free.
-pub fn settle(graph: &Graph, guide: &[u16], kinds: &[u8], ways: &mut [u8], i: usize, seen: &mut [u16], queue: &mut [u16])
+pub fn settle(
+    graph: &Graph,
+    guide: &[u16],
+    kinds: &[u8],
+    ways: &mut [u8],
+    i: usize,
+    seen: &mut [u16],
+    queue: &mut [u16],
+)
     requires { AtReach graph.now kinds.now ways.old i seen.old queue.old }
     ensures { SettledFrom graph.now.basins guide.now kinds.now graph.now.a.now graph.now.b.now ways.old i ways.new }
 {

@@ -12,8 +12,8 @@ ghost use Rattle.basins.specs.Wet.{Tabled};
 ghost use Rattle.orienting.specs.Ready.{Ready};
 ghost use Rattle.eccentricity.specs.Rows.{count_at, most_with};
 
-use half_edges::Graph;
 use distances::UNREACHED;
+use half_edges::Graph;
 
 // The larger of most and the count of basin v, if it is wet; else most.
 fn count_in(graph: &Graph, kinds: &[u8], seen: &[u16], v: usize, most: u16) -> u16
@@ -44,7 +44,14 @@ fn greatest_count(graph: &Graph, kinds: &[u8], seen: &[u16]) -> u16
 }
 
 // The longest of the fewest counts from basin u to a wet basin.
-fn eccentricity(graph: &Graph, kinds: &[u8], ways: &[u8], u: u16, seen: &mut [u16], queue: &mut [u16]) -> u16
+fn eccentricity(
+    graph: &Graph,
+    kinds: &[u8],
+    ways: &[u8],
+    u: u16,
+    seen: &mut [u16],
+    queue: &mut [u16],
+) -> u16
     requires ready { Ready graph.now ways.now seen.old queue.old }
     requires kinds_len { length kinds.now ≡ length graph.now.a.now }
     requires u_lt_n { u < graph.now.basins }
@@ -56,7 +63,15 @@ fn eccentricity(graph: &Graph, kinds: &[u8], ways: &[u8], u: u16, seen: &mut [u1
 }
 
 // The larger of most and the longest of the fewest counts from basin v, if it is wet; else most.
-fn longest_in(graph: &Graph, kinds: &[u8], ways: &[u8], v: usize, most: u16, seen: &mut [u16], queue: &mut [u16]) -> u16
+fn longest_in(
+    graph: &Graph,
+    kinds: &[u8],
+    ways: &[u8],
+    v: usize,
+    most: u16,
+    seen: &mut [u16],
+    queue: &mut [u16],
+) -> u16
     requires ready { Ready graph.now ways.now seen.old queue.old }
     requires kinds_len { length kinds.now ≡ length graph.now.a.now }
     requires v_lt_n { v < graph.now.basins }

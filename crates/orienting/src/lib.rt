@@ -14,7 +14,15 @@ use half_edges::Graph;
 
 // The lowest wet basin that is not reached from start along the arrows or, if so asked, against them; or None if all are. What it leaves in seen and in the
 // queue is free.
-fn first_unreached(graph: &Graph, kinds: &[u8], ways: &[u8], start: u16, against: bool, seen: &mut [u16], queue: &mut [u16]) -> Option<usize>
+fn first_unreached(
+    graph: &Graph,
+    kinds: &[u8],
+    ways: &[u8],
+    start: u16,
+    against: bool,
+    seen: &mut [u16],
+    queue: &mut [u16],
+) -> Option<usize>
     requires ready { Ready graph.now ways.now seen.old queue.old }
     requires kinds_len { length kinds.now ≡ length graph.now.a.now }
     requires start_lt_n { start < graph.now.basins }
@@ -27,7 +35,14 @@ fn first_unreached(graph: &Graph, kinds: &[u8], ways: &[u8], start: u16, against
 
 // The lowest wet basin that does not reach all wet basins, or None if all do; low is the lowest: if it reaches all, a basin does exactly if it reaches low.
 // What it leaves in seen and in the queue is free.
-fn shut_in_from(graph: &Graph, kinds: &[u8], ways: &[u8], low: u16, seen: &mut [u16], queue: &mut [u16]) -> Option<usize>
+fn shut_in_from(
+    graph: &Graph,
+    kinds: &[u8],
+    ways: &[u8],
+    low: u16,
+    seen: &mut [u16],
+    queue: &mut [u16],
+) -> Option<usize>
     requires ready { Ready graph.now ways.now seen.old queue.old }
     requires kinds_len { length kinds.now ≡ length graph.now.a.now }
     requires lowest { Lowest (net_on graph.now kinds.now) any_basin (Some low) }
@@ -41,7 +56,13 @@ fn shut_in_from(graph: &Graph, kinds: &[u8], ways: &[u8], low: u16, seen: &mut [
 }
 
 // The lowest wet basin that does not reach all wet basins, or None if all do: so it is if all basins are dry. What it leaves in seen and in the queue is free.
-pub fn shut_in_basin(graph: &Graph, kinds: &[u8], ways: &[u8], seen: &mut [u16], queue: &mut [u16]) -> Option<usize>
+pub fn shut_in_basin(
+    graph: &Graph,
+    kinds: &[u8],
+    ways: &[u8],
+    seen: &mut [u16],
+    queue: &mut [u16],
+) -> Option<usize>
     requires ready { Ready graph.now ways.now seen.old queue.old }
     requires kinds_len { length kinds.now ≡ length graph.now.a.now }
     ensures { ShutInBasin (net_on graph.now kinds.now)
@@ -68,7 +89,14 @@ fn keep_if(led: bool, ways: &mut [u8], i: usize, way: u8) -> bool
 // Gives reach i the way (0 as drawn, else turned) if that loses nothing: if the end to which it passes leads to the other without it. Otherwise it is
 // usable either way. Says whether it could. What it leaves in seen and in the queue is free. The search is called at two places, so that it stays a
 // function of its own: inlined here it is slower.
-pub fn try_way(graph: &Graph, ways: &mut [u8], i: usize, way: u8, seen: &mut [u16], queue: &mut [u16]) -> bool
+pub fn try_way(
+    graph: &Graph,
+    ways: &mut [u8],
+    i: usize,
+    way: u8,
+    seen: &mut [u16],
+    queue: &mut [u16],
+) -> bool
     requires ready { Ready graph.now ways.old seen.old queue.old }
     requires i_in_bounds { i < length graph.now.a.now }
     ensures { Tried graph.now.a.now graph.now.b.now ways.old i way ways.new result }

@@ -11,7 +11,15 @@ use half_edges::Graph;
 
 // Orients reach i, if it is a gate, as `under` has it where that loses nothing; otherwise it is usable either way. Says whether it could. What it leaves
 // in seen and in the queue is free.
-pub fn orient_as(graph: &Graph, kinds: &[u8], under: &[u8], ways: &mut [u8], i: usize, seen: &mut [u16], queue: &mut [u16]) -> bool
+pub fn orient_as(
+    graph: &Graph,
+    kinds: &[u8],
+    under: &[u8],
+    ways: &mut [u8],
+    i: usize,
+    seen: &mut [u16],
+    queue: &mut [u16],
+) -> bool
     requires at_reach { AtReach graph.now kinds.now ways.old i seen.old queue.old }
     requires under_len { length under.now ≡ length graph.now.a.now }
     ensures { OrientedAs kinds.now graph.now.a.now graph.now.b.now under.now ways.old i ways.new result }
@@ -24,7 +32,16 @@ pub fn orient_as(graph: &Graph, kinds: &[u8], under: &[u8], ways: &mut [u8], i: 
 
 // Turns reach i if it is a gate that `under` has as drawn and that loses nothing; otherwise a gate is usable either way. Says whether it was turned. By its
 // guide, if the row has one that is hung, else by a search. What it leaves in seen and in the queue is free.
-pub fn part_at(graph: &Graph, guide: &[u16], kinds: &[u8], under: &[u8], ways: &mut [u8], i: usize, seen: &mut [u16], queue: &mut [u16]) -> bool
+pub fn part_at(
+    graph: &Graph,
+    guide: &[u16],
+    kinds: &[u8],
+    under: &[u8],
+    ways: &mut [u8],
+    i: usize,
+    seen: &mut [u16],
+    queue: &mut [u16],
+) -> bool
     requires at_reach { AtReach graph.now kinds.now ways.old i seen.old queue.old }
     requires under_len { length under.now ≡ length graph.now.a.now }
     ensures { PartedAtFrom graph.now.basins guide.now kinds.now graph.now.a.now graph.now.b.now under.now

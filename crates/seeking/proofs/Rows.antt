@@ -4,7 +4,6 @@ use Prim.Native.Nat.{ℕ, ◌<◌}
 use native.Mathlib.Omega.{arith}
 use mathlib.Core.Path.{◌≡◌, sym, ap, subst, subst⁻¹, ◌∙◌}
 use mathlib.Core.List.{List, []}
-use lib.ListN.{length}
 use Rattle.std.proofs.Common.{Option, None, Some}
 use Rattle.network.specs.Networks.{Network}
 use Rattle.network.specs.Orientations.{Arc, ways, arcs, reached}

@@ -23,7 +23,13 @@ pub enum Found {
 }
 
 // Orients all gates of a passable network, none of which is oriented yet. At a bridge what it notes is its side without the lowest wet basin.
-fn orient_all(graph: &Graph, kinds: &[u8], ways: &mut [u8], seen: &mut [u16], queue: &mut [u16]) -> Found
+fn orient_all(
+    graph: &Graph,
+    kinds: &[u8],
+    ways: &mut [u8],
+    seen: &mut [u16],
+    queue: &mut [u16],
+) -> Found
     requires ready { Ready graph.now ways.old seen.old queue.old }
     requires passable { Passable graph.now.basins kinds.now graph.now.a.now graph.now.b.now ways.old }
     ensures { FirstFound (net_on graph.now kinds.now) ways.new seen.new result }
@@ -38,7 +44,13 @@ fn orient_all(graph: &Graph, kinds: &[u8], ways: &mut [u8], seen: &mut [u16], qu
 }
 
 // Searches for the first plan, where no gate is oriented yet: the ways that it leaves are the plan's, and what it notes is the side of a finding.
-pub fn first_from(graph: &Graph, kinds: &[u8], ways: &mut [u8], seen: &mut [u16], queue: &mut [u16]) -> Found
+pub fn first_from(
+    graph: &Graph,
+    kinds: &[u8],
+    ways: &mut [u8],
+    seen: &mut [u16],
+    queue: &mut [u16],
+) -> Found
     requires ready { Ready graph.now ways.old seen.old queue.old }
     requires none_oriented { NoneOriented graph.now.basins kinds.now graph.now.a.now graph.now.b.now ways.old }
     ensures { FirstFound (net_on graph.now kinds.now) ways.new seen.new result }
@@ -55,7 +67,16 @@ pub fn first_from(graph: &Graph, kinds: &[u8], ways: &mut [u8], seen: &mut [u16]
 // One step: from ways that `under` has up to reach `to`, parts from them upwards at the last gate before it at which a plan can, and decides the
 // gates after it. Returns the number of that gate, if there is one. There is a plan. A gate that has one way in all plans is not tried if `tried` has another
 // kind in its place: it keeps the way that it has. A gate that another reach guides, as the row has it, takes its way from that.
-pub fn step_from(graph: &Graph, guide: &[u16], tried: &[u8], under: &[u8], ways: &mut [u8], to: usize, seen: &mut [u16], queue: &mut [u16]) -> Option<usize>
+pub fn step_from(
+    graph: &Graph,
+    guide: &[u16],
+    tried: &[u8],
+    under: &[u8],
+    ways: &mut [u8],
+    to: usize,
+    seen: &mut [u16],
+    queue: &mut [u16],
+) -> Option<usize>
     requires ready { Ready graph.now ways.old seen.old queue.old }
     requires tried_len { length tried.now ≡ length graph.now.a.now }
     requires under_len { length under.now ≡ length graph.now.a.now }
@@ -69,7 +90,15 @@ pub fn step_from(graph: &Graph, guide: &[u16], tried: &[u8], under: &[u8], ways:
 }
 
 // The next plan, if none is alike up to `to` and later: what the step came to, or none is later. Its row of guides is the empty one.
-pub fn part_from(graph: &Graph, kinds: &[u8], under: &[u8], ways: &mut [u8], to: usize, seen: &mut [u16], queue: &mut [u16]) -> Option<Found>
+pub fn part_from(
+    graph: &Graph,
+    kinds: &[u8],
+    under: &[u8],
+    ways: &mut [u8],
+    to: usize,
+    seen: &mut [u16],
+    queue: &mut [u16],
+) -> Option<Found>
     requires ready { Ready graph.now ways.old seen.old queue.old }
     requires partable { Partable graph.now.basins kinds.now kinds.now graph.now.a.now graph.now.b.now under.now ways.old to }
     ensures { NextFrom (net_on graph.now kinds.now) under.now to

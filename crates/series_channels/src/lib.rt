@@ -158,8 +158,7 @@ fn in_channel(graph: &Graph, kinds: &[u8], i: usize) -> bool
     requires i_in_bounds { i < length graph.now.a.now }
 {
     let h = (2 * i) as u16;
-    partner(graph, kinds, h) < NO_HALF
-        || partner(graph, kinds, h + 1) < NO_HALF
+    partner(graph, kinds, h) < NO_HALF || partner(graph, kinds, h + 1) < NO_HALF
 }
 
 // Whether it is worth following channels. No promise rests on it.

@@ -39,7 +39,15 @@ fn taken(guide: &[u16], ways: &[u8], i: usize) -> Option<u8>
 
 // Gives reach i the way if that loses nothing: by its guide or, if it has none that is hung, by a search. Otherwise it is usable either way. Says whether it
 // could. What it leaves in seen and in the queue is free.
-pub fn try_guided(graph: &Graph, guide: &[u16], ways: &mut [u8], i: usize, way: u8, seen: &mut [u16], queue: &mut [u16]) -> bool
+pub fn try_guided(
+    graph: &Graph,
+    guide: &[u16],
+    ways: &mut [u8],
+    i: usize,
+    way: u8,
+    seen: &mut [u16],
+    queue: &mut [u16],
+) -> bool
     requires ready { Ready graph.now ways.old seen.old queue.old }
     requires i_in_bounds { i < length graph.now.a.now }
     requires way_bound { way ≤ 1 }
