@@ -7,4 +7,3 @@ use network::Refusal;
 
 // What is noted for a basin that is not reached: a 16-bit number and no Option, since the notes are lent rows, and their memory is fixed and small.
 pub const UNREACHED: u16 = 65535;
-

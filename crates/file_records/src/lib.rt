@@ -28,11 +28,7 @@ pub fn body_length(kind: u8) -> Option<u8>
         return None;
     }
     let n = BODY[kind as usize];
-    if n == 255 {
-        None
-    } else {
-        Some(n)
-    }
+    if n == 255 { None } else { Some(n) }
 }
 
 // Whether a kind is one of these.

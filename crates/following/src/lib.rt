@@ -15,7 +15,15 @@ use half_edges::Graph;
 use seeking::Found;
 
 // The next plan of a plan, whose ways `under` has: no other is alike to the end.
-fn next_of_plan(graph: &Graph, kinds: &[u8], setting: &[u8], under: &[u8], ways: &mut [u8], seen: &mut [u16], queue: &mut [u16]) -> Option<Found>
+fn next_of_plan(
+    graph: &Graph,
+    kinds: &[u8],
+    setting: &[u8],
+    under: &[u8],
+    ways: &mut [u8],
+    seen: &mut [u16],
+    queue: &mut [u16],
+) -> Option<Found>
     requires ready { Ready graph.now ways.old seen.old queue.old }
     requires at_plan { AtPlan graph.now.basins kinds.now graph.now.a.now graph.now.b.now setting.now under.now }
     ensures { NextFound (net_on graph.now kinds.now) setting.now
@@ -28,7 +36,14 @@ fn next_of_plan(graph: &Graph, kinds: &[u8], setting: &[u8], under: &[u8], ways:
 
 // The next plan of a setting that is none, where there is a plan: the setting is followed up to the first gate that loses something, which it has, since it is
 // no plan; and no plan is alike up to that gate and with it.
-fn follow_and_part(graph: &Graph, kinds: &[u8], under: &[u8], ways: &mut [u8], seen: &mut [u16], queue: &mut [u16]) -> Option<Found>
+fn follow_and_part(
+    graph: &Graph,
+    kinds: &[u8],
+    under: &[u8],
+    ways: &mut [u8],
+    seen: &mut [u16],
+    queue: &mut [u16],
+) -> Option<Found>
     requires ready { Ready graph.now ways.old seen.old queue.old }
     requires followable { Followable graph.now.basins kinds.now graph.now.a.now graph.now.b.now under.now ways.old }
     ensures { NextAfter (net_on graph.now kinds.now) under.now
@@ -41,7 +56,14 @@ fn follow_and_part(graph: &Graph, kinds: &[u8], under: &[u8], ways: &mut [u8], s
 }
 
 // The next plan of a setting that is none, whose ways `under` has, or the network's finding.
-fn next_of_other(graph: &Graph, kinds: &[u8], under: &[u8], ways: &mut [u8], seen: &mut [u16], queue: &mut [u16]) -> Option<Found>
+fn next_of_other(
+    graph: &Graph,
+    kinds: &[u8],
+    under: &[u8],
+    ways: &mut [u8],
+    seen: &mut [u16],
+    queue: &mut [u16],
+) -> Option<Found>
     requires ready { Ready graph.now ways.old seen.old queue.old }
     requires other_than_plan { OtherThanPlan graph.now.basins kinds.now graph.now.a.now graph.now.b.now under.now ways.old }
     ensures { NextAfter (net_on graph.now kinds.now) under.now
@@ -55,7 +77,15 @@ fn next_of_other(graph: &Graph, kinds: &[u8], under: &[u8], ways: &mut [u8], see
 }
 
 // Searches for the next plan of a setting, whose ways `under` has: the ways that it leaves are the plan's, and what it notes is the side of a finding.
-pub fn next_of(graph: &Graph, kinds: &[u8], setting: &[u8], under: &[u8], ways: &mut [u8], seen: &mut [u16], queue: &mut [u16]) -> Option<Found>
+pub fn next_of(
+    graph: &Graph,
+    kinds: &[u8],
+    setting: &[u8],
+    under: &[u8],
+    ways: &mut [u8],
+    seen: &mut [u16],
+    queue: &mut [u16],
+) -> Option<Found>
     requires ready { Ready graph.now ways.old seen.old queue.old }
     requires at_setting { AtSetting graph.now.basins kinds.now graph.now.a.now graph.now.b.now setting.now under.now ways.old }
     ensures { NextFound (net_on graph.now kinds.now) setting.now

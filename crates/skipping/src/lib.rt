@@ -21,7 +21,16 @@ fn is_guided(guide: &[u16], i: usize) -> bool {
 
 // Tries reach i no more if it is a gate that is bound, being hung in the way by a plan. No gate is oriented in the ways `loose`. What it leaves in seen and in
 // the queue is free.
-fn note_at(graph: &Graph, guide: &[u16], tried: &mut [u8], loose: &mut [u8], i: usize, way: u8, seen: &mut [u16], queue: &mut [u16])
+fn note_at(
+    graph: &Graph,
+    guide: &[u16],
+    tried: &mut [u8],
+    loose: &mut [u8],
+    i: usize,
+    way: u8,
+    seen: &mut [u16],
+    queue: &mut [u16],
+)
     requires ready { Ready graph.now loose.old seen.old queue.old }
     requires tried_len { length tried.old ≡ length graph.now.a.now }
     requires i_in_bounds { i < length graph.now.a.now }
@@ -42,7 +51,17 @@ fn note_at(graph: &Graph, guide: &[u16], tried: &mut [u8], loose: &mut [u8], i: 
 }
 
 // The same of all reaches from one to another, which `ways` has as a plan hangs them.
-fn note_from(graph: &Graph, guide: &[u16], tried: &mut [u8], loose: &mut [u8], ways: &[u8], from: usize, to: usize, seen: &mut [u16], queue: &mut [u16])
+fn note_from(
+    graph: &Graph,
+    guide: &[u16],
+    tried: &mut [u8],
+    loose: &mut [u8],
+    ways: &[u8],
+    from: usize,
+    to: usize,
+    seen: &mut [u16],
+    queue: &mut [u16],
+)
     requires ready { Ready graph.now loose.old seen.old queue.old }
     requires tried_len { length tried.old ≡ length graph.now.a.now }
     requires ways_len { length ways.now ≡ length graph.now.a.now }
@@ -56,7 +75,18 @@ fn note_from(graph: &Graph, guide: &[u16], tried: &mut [u8], loose: &mut [u8], w
 
 // After a step to the plan whose ways stand in `ways`, which parted at reach `from`: if these are many, tries none of the bound gates from it on that were not
 // looked at yet; those from reach `to` on were. Returns the first that is looked at now. What it leaves in `loose`, in seen and in the queue is free.
-pub fn note_bound(graph: &Graph, guide: &[u16], kinds: &[u8], tried: &mut [u8], loose: &mut [u8], ways: &[u8], from: usize, to: usize, seen: &mut [u16], queue: &mut [u16]) -> usize
+pub fn note_bound(
+    graph: &Graph,
+    guide: &[u16],
+    kinds: &[u8],
+    tried: &mut [u8],
+    loose: &mut [u8],
+    ways: &[u8],
+    from: usize,
+    to: usize,
+    seen: &mut [u16],
+    queue: &mut [u16],
+) -> usize
     requires ready { Ready graph.now ways.now seen.old queue.old }
     requires kinds_len { length kinds.now ≡ length graph.now.a.now }
     requires tried_len { length tried.old ≡ length graph.now.a.now }

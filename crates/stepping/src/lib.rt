@@ -15,7 +15,15 @@ use half_edges::Graph;
 // kind in its place; one that another reach guides, as the row has it, takes its way from that.
 // Returns the number of the gate at which the next parts from the plan; if no plan is later, the ways are free. What it leaves in `under`, in seen and in the
 // queue is free.
-pub fn advance(graph: &Graph, guide: &[u16], tried: &[u8], under: &mut [u8], ways: &mut [u8], seen: &mut [u16], queue: &mut [u16]) -> Option<usize>
+pub fn advance(
+    graph: &Graph,
+    guide: &[u16],
+    tried: &[u8],
+    under: &mut [u8],
+    ways: &mut [u8],
+    seen: &mut [u16],
+    queue: &mut [u16],
+) -> Option<usize>
     requires ready { Ready graph.now ways.old seen.old queue.old }
     requires tried_len { length tried.now ≡ length graph.now.a.now }
     requires under_len { length under.old ≡ length ways.old }
