@@ -16,7 +16,7 @@ use Rattle.network.specs.Plans.{is_plan}
 use Rattle.network.specs.Marks.{mark_bytes}
 use Rattle.network.specs.Replies.{Outcome, plan, refused, next_answer, next_reply}
 use Rattle.lists.proofs.Bools.{decide, clash}
-use Rattle.network.proofs.Networks.{accepted, gates-fit}
+use Rattle.network.proofs.Networks.{gates-fit}
 use Rattle.network.proofs.Order.{setting-length, plan-setting}
 use Rattle.tables.specs.Rows.{net_of, gates_in, ways_row, bytes_row, gates_held}
 use Rattle.tables.proofs.Laws.{row-gates}

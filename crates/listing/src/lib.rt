@@ -94,7 +94,9 @@ fn line_after(
         let parted = stepping::advance(&graph, guide, tried, under, ways, seen, queue);
         let line = after_step(l, setting, left, g, parted, kinds, ways);
         let known = match parted {
-            Some(r) => skipping::note_bound(&graph, guide, kinds, tried, under, ways, r, known, seen, queue),
+            Some(r) => skipping::note_bound(
+                &graph, guide, kinds, tried, under, ways, r, known, seen, queue,
+            ),
             None => known,
         };
         return Turn { line, known };
@@ -244,7 +246,8 @@ fn fill_in(
         oriented,
         head,
         next,
-        seen, queue,
+        seen,
+        queue,
     )
 }
 
@@ -270,19 +273,8 @@ fn fill_lines(
     let mut seen = [0u16; MAX_BASINS];
     let mut queue = [0u16; MAX_BASINS];
     fill_in(
-        l,
-        setting,
-        kinds,
-        a,
-        b,
-        out,
-        &mut guide,
-        &mut tried,
-        &mut under,
-        &mut ways,
-        &mut head,
-        &mut next,
-        &mut seen, &mut queue,
+        l, setting, kinds, a, b, out, &mut guide, &mut tried, &mut under, &mut ways, &mut head,
+        &mut next, &mut seen, &mut queue,
     )
 }
 

@@ -73,7 +73,8 @@ pub fn first_plan_in(
         ways,
         head,
         next,
-        seen, queue,
+        seen,
+        queue,
     ))
 }
 
@@ -95,7 +96,18 @@ fn check_in(
     ensures { result ≡ strongly_connected_under (net_of n kinds.now a.now b.now) setting.now }
 {
     let m = kinds.len();
-    finder::strongly_connected_under(n, kinds, a, b, setting, &mut ways[..m], head, next, seen, queue)
+    finder::strongly_connected_under(
+        n,
+        kinds,
+        a,
+        b,
+        setting,
+        &mut ways[..m],
+        head,
+        next,
+        seen,
+        queue,
+    )
 }
 
 // The same, with working memory of its own.
@@ -109,14 +121,6 @@ pub fn check_accepted(n: usize, kinds: &[u8], a: &[u16], b: &[u16], setting: &[u
     let mut seen = [0u16; MAX_BASINS];
     let mut queue = [0u16; MAX_BASINS];
     check_in(
-        n,
-        kinds,
-        a,
-        b,
-        setting,
-        &mut ways,
-        &mut head,
-        &mut next,
-        &mut seen, &mut queue,
+        n, kinds, a, b, setting, &mut ways, &mut head, &mut next, &mut seen, &mut queue,
     )
 }

@@ -52,7 +52,8 @@ fn next_in(
         oriented,
         head,
         next,
-        seen, queue,
+        seen,
+        queue,
     );
     match sought {
         None => Err(Refusal::LastPlan),
@@ -82,17 +83,7 @@ pub fn next_accepted(
     let mut seen = [0u16; MAX_BASINS];
     let mut queue = [0u16; MAX_BASINS];
     next_in(
-        n,
-        kinds,
-        a,
-        b,
-        setting,
-        plan,
-        marks,
-        &mut under,
-        &mut ways,
-        &mut head,
-        &mut next,
+        n, kinds, a, b, setting, plan, marks, &mut under, &mut ways, &mut head, &mut next,
         &mut seen, &mut queue,
     )
 }

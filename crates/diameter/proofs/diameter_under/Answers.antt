@@ -1,6 +1,6 @@
 -- `diameter_under` meets its contract: the ways and the index are made, and the longest is looked for.
 -- Assumes nothing.
-use mathlib.Core.Path.{refl, sym}
+use mathlib.Core.Path.{refl}
 use native.Mathlib.Omega.{arith}
 use Rattle.finder.proofs.Rooms.{room-level, room-index, room-ready, room-table}
 use Rattle.diameter.proofs.Rows.{rows-diameter}

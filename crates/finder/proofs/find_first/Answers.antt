@@ -1,6 +1,6 @@
 -- `finder::find_first` meets its contract: the working memory is filled with no gate oriented.
 -- Assumes nothing.
-use mathlib.Core.Path.{refl, sym}
+use mathlib.Core.Path.{refl}
 use native.Mathlib.Omega.{arith}
 use Rattle.finder.proofs.Rooms.{room-index, room-ready, room-table}
 use Rattle.finder.proofs.find_first.Goals as goal

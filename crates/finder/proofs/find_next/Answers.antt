@@ -1,6 +1,6 @@
 -- `finder::find_next` meets its contract: the working memory is filled with the setting's ways.
 -- Assumes nothing.
-use mathlib.Core.Path.{refl, sym}
+use mathlib.Core.Path.{refl}
 use native.Mathlib.Omega.{arith}
 use Rattle.finder.proofs.Rooms.{room-index, room-ready, room-table}
 use Rattle.finder.proofs.find_next.Goals as goal
