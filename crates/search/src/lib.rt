@@ -100,6 +100,7 @@ fn count_after(seen: &[u16], queue: &[u16], at: usize) -> u16
 
 // Notes how far the water goes from start along the arrows or, if so asked, against them: seen holds for each basin the fewest reaches that are crossed to get
 // there, or UNREACHED. What it holds past the graph's basins, and what the queue holds, is free.
+#[inline]
 pub fn search(
     graph: &Graph,
     ways: &[u8],

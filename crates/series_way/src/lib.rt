@@ -9,7 +9,7 @@ ghost use Rattle.series_way.specs.Guided.{WayTaken, TriedFrom};
 
 use half_edges::Graph;
 
-// What stands in the row for a reach that no other guides.
+// What stands in the row for a reach that no other guides: a 16-bit number and no Option, since the row is lent memory, fixed and small.
 pub const UNGUIDED: u16 = 65535;
 
 // The way of reach k, or 2 past the end of the row.
