@@ -13,7 +13,7 @@ use distances::UNREACHED;
 use half_edges::{Graph, NO_HALF};
 use tables::TWO_WAY;
 
-// Whether basin v is wet: whether a reach in service has a half-edge there. Only the contract names the basin count and the ends.
+// Whether basin v is wet: whether a reach in service has a half-edge there.
 pub fn is_wet(graph: &Graph, kinds: &[u8], v: usize) -> bool
     requires kinds_len { length kinds.now ≡ length graph.now.a.now }
     requires v_lt_n { v < graph.now.basins }

@@ -76,7 +76,7 @@ fn scan(
         if !search::passes(ways, half, up) {
             continue;
         }
-        let w = search::far(graph, half);
+        let w = search::far(graph.a, graph.b, half);
         if seen[w as usize] == d {
             return None;
         }

@@ -24,12 +24,13 @@ pub fn passes(ways: &[u8], h: u16, against: bool) -> bool
 }
 
 // The basin at the far end of the reach of half-edge h.
-pub fn far(graph: &Graph, h: u16) -> u16
-    requires { h / 2 < length graph.now.a.now }
-    ensures { result ≡ other_of graph.now.a.now graph.now.b.now h }
+pub fn far(a: &[u16], b: &[u16], h: u16) -> u16
+    requires h_in_bounds { h / 2 < length a.now }
+    requires h_in_bounds_2 { h / 2 < length b.now }
+    ensures { result ≡ other_of a.now b.now h }
 {
     let i = h as usize / 2;
-    if h % 2 == 0 { graph.b[i] } else { graph.a[i] }
+    if h % 2 == 0 { b[i] } else { a[i] }
 }
 
 // Notes the count for basin w and puts it at the end of the queue, unless it is seen already. Returns the queue's end.
@@ -81,7 +82,7 @@ pub fn scan(
     let mut h = graph.head[queue[at] as usize];
     while h != NO_HALF {
         if passes(ways, h, against) {
-            end = visit(far(graph, h), count, seen, queue, end);
+            end = visit(far(graph.a, graph.b, h), count, seen, queue, end);
         }
         h = graph.next[h as usize];
     }
