@@ -69,7 +69,9 @@ pub fn shut_in_basin(
     ensures { ShutInBasin (net_on graph.now kinds.now)
         (arcs_of graph.now.a.now graph.now.b.now ways.now) result }
 {
-    let low = basins::lowest_wet(graph, kinds)?;
+    let Some(low) = basins::lowest_wet(graph, kinds) else {
+        return None;
+    };
     shut_in_from(graph, kinds, ways, low as u16, seen, queue)
 }
 

@@ -1,8 +1,9 @@
 -- What is due by each test: 8 by the setting, 7 by the buffers, and the first of two.
 -- Assumes nothing.
 use Rattle.std.specs.Prelude.{Result, Ok, Err}
+use Rattle.std.specs.Result.{result_and}
 use Prim.Native.Nat.{ℕ, ◌≤◌, ◌<◌}
-use mathlib.Core.Path.{◌≡◌, refl}
+use mathlib.Core.Path.{◌≡◌, refl, ap, ◌∙◌}
 use mathlib.Core.Bool.{Bool, true, false, cond, ◌&&◌}
 use mathlib.Core.Option.{Option, none, some, some-ne-none}
 use mathlib.Core.List.{List}
@@ -20,13 +21,20 @@ use Rattle.tables.specs.Answers.{table_answer}
 
 -- ---- the first of two
 
-pub first-refused : (f g : Option Refusal) {r : Refusal} {x : Result (Unit {0}) Refusal} → x ≡ table_answer f → x ≡ Err r → Err r ≡ table_answer (first_of f g)
-first-refused none g p e = cc
-first-refused (some q) g p e = cc
+pub refused-due : (f g : Option Refusal) {r : Refusal} {x : Result (Unit {0}) Refusal} → x ≡ table_answer f → x ≡ Err r → Err r ≡ table_answer (first_of f g)
+refused-due none g p e = cc
+refused-due (some q) g p e = cc
 
 pub second-due : (f g : Option Refusal) {x y : Result (Unit {0}) Refusal} → x ≡ table_answer f → x ≡ Ok tt → y ≡ table_answer g → y ≡ table_answer (first_of f g)
 second-due none g p e q = q
 second-due (some r) g p e q = cc
+
+and-first : (f g : Option Refusal) → result_and (table_answer f) (table_answer g) ≡ table_answer (first_of f g)
+and-first none g = refl
+and-first (some r) g = refl
+
+pub first-due : (f g : Option Refusal) {x y z : Result (Unit {0}) Refusal} → x ≡ table_answer f → y ≡ table_answer g → z ≡ result_and x y → z ≡ table_answer (first_of f g)
+first-due f g {y = y} p q e = e ∙ ap (λ (u : Result (Unit {0}) Refusal). result_and u y) p ∙ ap (λ (u : Result (Unit {0}) Refusal). result_and (table_answer f) u) q ∙ and-first f g
 
 -- ---- 8, by the setting
 

@@ -49,8 +49,9 @@ pub fn check_refusal(
 ) -> Result<(), Refusal>
     ensures { result ≡ table_answer (check_fault (net_of basins kinds.now a.now b.now) setting.now) }
 {
-    tables::table_check(basins, kinds, a, b)?;
-    setting_check(kinds, a, b, setting)
+    let table = tables::table_check(basins, kinds, a, b);
+    let fit = setting_check(kinds, a, b, setting);
+    table.and(fit)
 }
 
 // Of the first plan: 1, 2, 3, 7.

@@ -3,7 +3,10 @@
 use Rattle.std.proofs.lemmas.Result.{err_from_is_err_and}
 use Prim.Native.Nat.{◌+◌, ◌≤◌}
 use native.Mathlib.Omega.{arith}
-use mathlib.Core.Path.{◌≡◌, sym, ◌∙◌}
+use Rattle.std.specs.Prelude.{Err}
+use Rattle.std.proofs.Common.{rules}
+use Rattle.network.specs.declared.Refusal.{Refusal}
+use mathlib.Core.Path.{◌≡◌, sym, ap, ◌∙◌}
 use mathlib.Core.Bool.{true, false}
 use lib.ListN.{length, drop}
 use Rattle.netfile_format.specs.Files.{good_inner}
@@ -35,9 +38,8 @@ known_length-requires c =
 pub returns-in_default : goal.returns-in_default
 returns-in_default c =
     let here : ReachStood c.args.file.now c.loop-kind.at c.in_ok-kind.kind = sym c.reach_or_end.ensures ∙ c.in_ok-kind.was in
-    sym
-    (scan-values c.loop-kind.invariant (here)
-    c.if-kind-eq-END.false {g = false} (sym c.in_default.ensures))
+    ap (λ (r : Refusal). Err r) (search rules)
+    ∙ sym (scan-values c.loop-kind.invariant (here) c.if-kind-eq-END.false {g = false} (sym c.in_default.ensures))
 
 pub returns-then-reaches-eq-MAX_REACHES : goal.returns-then-reaches-eq-MAX_REACHES
 returns-then-reaches-eq-MAX_REACHES c =
