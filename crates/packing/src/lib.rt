@@ -1,10 +1,10 @@
 // The lent reach table, a slice of records, taken apart into rows of numbers.
 // Two functions have the slice in hand: `pack_into` and `unpack_from`. They go over the table once, in place, and leave one record to `reach_numbers`.
-// `Packed` holds the rows of one call over records: `Packed::of(table).rows()` is what the call over rows is lent.
+// `Packed` holds the rows of one call over records: they are new, then filled, and the call over rows is lent what `rows` hands out.
 
 #![tactic(auto)]
 
-ghost use Rattle.std.specs.Prelude.{◌≤◌};
+ghost use Rattle.std.specs.Prelude.{◌≡◌, ◌≤◌};
 ghost use Rattle.packing.specs.Rows.{PackedInto, UnpackedFrom, max_rows};
 
 use network::Reach;
@@ -51,15 +51,33 @@ pub struct Packed {
 impl Packed {
     ghost use Rattle.packing.specs.Packs.{Packs, Lends};
 
-    // Packs a table.
+    // Rows of which none is filled.
+    pub fn new() -> Packed
+        ensures { result.count ≡ 0 }
+    {
+        Packed {
+            kinds: [0; MAX_ROWS],
+            a: [0; MAX_ROWS],
+            b: [0; MAX_ROWS],
+            count: 0,
+        }
+    }
+
+    // Packs a table into these rows, in their place: a call holds them once and copies none.
+    pub fn fill(&mut self, table: &[Reach])
+        ensures { Packs table.now self.new }
+    {
+        let Packed { kinds, a, b, count } = self;
+        *count = pack_into(table, kinds, a, b);
+    }
+
+    // Packs a table into new rows, which are handed on by value.
     pub fn of(table: &[Reach]) -> Packed
         ensures { Packs table.now result }
     {
-        let mut kinds = [0u8; MAX_ROWS];
-        let mut a = [0u16; MAX_ROWS];
-        let mut b = [0u16; MAX_ROWS];
-        let count = pack_into(table, &mut kinds, &mut a, &mut b);
-        Packed { kinds, a, b, count }
+        let mut packed = Packed::new();
+        packed.fill(table);
+        packed
     }
 
     // The rows that were filled.
