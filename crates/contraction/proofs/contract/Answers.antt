@@ -2,7 +2,7 @@
 -- Assumes nothing.
 use Rattle.std.proofs.Common.{refl, arith}
 use Rattle.std.proofs.lemmas.Result.{err_from_is_err_and}
-use Rattle.contraction.proofs.Buffers.{none-unpacked}
+use Rattle.packing.proofs.Fillings.{none-unpacked}
 use Rattle.contraction.proofs.contract.Goals as goal
 
 pub returns-in_err-counts : goal.returns-in_err-counts

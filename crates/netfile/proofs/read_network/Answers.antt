@@ -10,7 +10,7 @@ use Rattle.network.specs.declared.Refusal.{Refusal}
 use Rattle.netfile_format.specs.Answers.{ReadTable}
 use Rattle.packing.specs.Rows.{UnpackedFrom}
 use Rattle.netfile.specs.Reads.{count_of}
-use Rattle.netfile.proofs.Reading.{none-unpacked}
+use Rattle.packing.proofs.Fillings.{none-unpacked}
 use Rattle.netfile.proofs.read_network.Goals as goal
 
 pub returns-in_err-counts : goal.returns-in_err-counts
