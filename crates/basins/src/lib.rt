@@ -11,7 +11,7 @@ ghost use Rattle.basins.specs.Wet.{Tabled, any_basin, is_unnoted, Lowest, is_oth
 
 use distances::UNREACHED;
 use half_edges::{Graph, NO_HALF};
-use tables::TWO_WAY;
+use tables::KIND_TWO_WAY;
 
 // Whether basin v is wet: whether a reach in service has a half-edge there.
 pub fn is_wet(graph: &Graph, kinds: &[u8], v: usize) -> bool
@@ -21,7 +21,7 @@ pub fn is_wet(graph: &Graph, kinds: &[u8], v: usize) -> bool
 {
     let mut h = graph.head[v];
     while h != NO_HALF {
-        if kinds[h as usize / 2] <= TWO_WAY {
+        if kinds[h as usize / 2] <= KIND_TWO_WAY {
             return true;
         }
         h = graph.next[h as usize];

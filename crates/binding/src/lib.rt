@@ -13,7 +13,7 @@ ghost use Rattle.orienting.specs.Tries.{left_out, led_round};
 ghost use Rattle.binding.specs.Tellings.{Tellable};
 
 use half_edges::Graph;
-use tables::GATED;
+use tables::KIND_GATED;
 
 // Whether reach i, which a plan hangs in the way, can get no other. Afterwards it is usable either way. What it leaves in seen and in the queue is free.
 pub fn bound_at(
@@ -62,7 +62,7 @@ pub fn tell_bound(
 {
     let mut k = 0;
     for (i, &kind) in kinds.iter().enumerate() {
-        if kind != GATED {
+        if kind != KIND_GATED {
             continue;
         }
         let way = bytes[k];

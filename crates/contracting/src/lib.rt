@@ -8,26 +8,26 @@ ghost use Rattle.network.specs.Tables.{state_of};
 ghost use Rattle.contracting.specs.Filling.{stays_by, note_after, Fillable, KeptFilled};
 
 use components::Note;
-use tables::{FLAP, GATED, TWO_WAY};
+use tables::{KIND_FLAP, KIND_GATED, KIND_TWO_WAY};
 
 // Whether a reach of the kind stays. Its ends are in the components c and d; c has the note.
 fn stays(kind: u8, c: u16, d: u16, note: Note) -> bool
     ensures { result ≡ stays_by (state_of kind) c d note }
 {
-    if kind == GATED {
+    if kind == KIND_GATED {
         return true;
     }
-    if kind == FLAP {
+    if kind == KIND_FLAP {
         return c != d || note == Note::One;
     }
-    kind == TWO_WAY && note != Note::Looped
+    kind == KIND_TWO_WAY && note != Note::Looped
 }
 
 // The note of a component after a reach of the kind with its end A there.
 fn note_after(kind: u8, note: Note) -> Note
     ensures { result ≡ note_after (state_of kind) note }
 {
-    if kind == TWO_WAY && note == Note::Several {
+    if kind == KIND_TWO_WAY && note == Note::Several {
         return Note::Looped;
     }
     note

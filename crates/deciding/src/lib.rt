@@ -8,7 +8,7 @@ ghost use Rattle.orienting.specs.Ready.{AtReach};
 ghost use Rattle.deciding.specs.Gates.{OrientedGate, SettledFrom};
 
 use half_edges::Graph;
-use tables::GATED;
+use tables::KIND_GATED;
 
 // Orients reach i, if it is a gate, as drawn where that loses nothing, else turned where that does not. Says whether it could; if not, seen holds
 // what its end A leads to without it, and the ways are free. What else it leaves in seen, and the queue, is free.
@@ -23,7 +23,7 @@ pub fn orient_gate(
     requires { AtReach graph.now kinds.now ways.old i seen.old queue.old }
     ensures { OrientedGate graph.now.basins kinds.now graph.now.a.now graph.now.b.now ways.old i ways.new seen.new result }
 {
-    if kinds[i] != GATED {
+    if kinds[i] != KIND_GATED {
         return true;
     }
     if orienting::try_way(graph, ways, i, 0, seen, queue) {
@@ -51,7 +51,7 @@ pub fn settle(
     requires { AtReach graph.now kinds.now ways.old i seen.old queue.old }
     ensures { SettledFrom graph.now.basins guide.now kinds.now graph.now.a.now graph.now.b.now ways.old i ways.new }
 {
-    if kinds[i] != GATED {
+    if kinds[i] != KIND_GATED {
         return;
     }
     let drawn = series_way::try_guided(graph, guide, ways, i, 0, seen, queue);

@@ -8,7 +8,7 @@ ghost use Rattle.orienting.specs.Ready.{AtReach};
 ghost use Rattle.parting.specs.Parts.{OrientedAs, PartedAtFrom};
 
 use half_edges::Graph;
-use tables::GATED;
+use tables::KIND_GATED;
 
 // Orients reach i, if it is a gate, as `under` has it where that loses nothing; otherwise it is usable either way. Says whether it could. What it leaves
 // in seen and in the queue is free.
@@ -25,7 +25,7 @@ pub fn orient_as(
     requires under_len { length under.now ≡ length graph.now.a.now }
     ensures { OrientedAs kinds.now graph.now.a.now graph.now.b.now under.now ways.old i ways.new result }
 {
-    if kinds[i] != GATED {
+    if kinds[i] != KIND_GATED {
         return true;
     }
     orienting::try_way(graph, ways, i, under[i], seen, queue)
@@ -48,7 +48,7 @@ pub fn part_at(
     ensures { PartedAtFrom graph.now.basins guide.now kinds.now graph.now.a.now graph.now.b.now under.now
         ways.old i ways.new result }
 {
-    if kinds[i] != GATED {
+    if kinds[i] != KIND_GATED {
         return false;
     }
     if under[i] != 0 {

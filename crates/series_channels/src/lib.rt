@@ -11,7 +11,7 @@ ghost use Rattle.basins.specs.Wet.{Tabled};
 ghost use Rattle.series_channels.specs.Channels.{Partner, other_half, guide_of, GuideNoted, GuidingStill, FindableIf, GuidesFound};
 
 use half_edges::{Graph, NO_HALF};
-use tables::{FLAP, GATED, TWO_WAY};
+use tables::{KIND_FLAP, KIND_GATED, KIND_TWO_WAY};
 
 // Basins with fewer half-edges than this are looked through: beside two in service there may be shut ones. No promise rests on it.
 const LOOKED: usize = 8;
@@ -56,7 +56,7 @@ fn partner(graph: &Graph, kinds: &[u8], h: u16) -> u16
         if here == h {
             continue;
         }
-        if kinds[(here / 2) as usize] > TWO_WAY {
+        if kinds[(here / 2) as usize] > KIND_TWO_WAY {
             continue;
         }
         if found < NO_HALF {
@@ -97,7 +97,7 @@ fn note(kinds: &[u8], start: u16, o: u16, guide: &mut [u16])
     ensures { GuideNoted guide.old start o guide.new }
 {
     let k = (o / 2) as usize;
-    if kinds[k] != GATED {
+    if kinds[k] != KIND_GATED {
         return;
     }
     if guide[k] < NO_HALF {
@@ -124,7 +124,7 @@ fn follow(graph: &Graph, kinds: &[u8], start: u16, guide: &mut [u16])
         if o / 2 == start / 2 {
             return;
         }
-        if kinds[(o / 2) as usize] == FLAP {
+        if kinds[(o / 2) as usize] == KIND_FLAP {
             return;
         }
         note(kinds, start, o, guide);
@@ -168,7 +168,7 @@ fn worth(graph: &Graph, kinds: &[u8]) -> bool
     let mut gates = 0;
     let mut found = 0;
     for i in (0..graph.a.len()).rev() {
-        if kinds[i] != GATED {
+        if kinds[i] != KIND_GATED {
             continue;
         }
         if gates >= LAST {
@@ -194,8 +194,8 @@ fn find(graph: &Graph, kinds: &[u8], guide: &mut [u16]) -> usize
     }
     let m = graph.a.len();
     half_edges::fill_row(m, NO_HALF, guide);
-    pass(graph, kinds, FLAP, guide);
-    pass(graph, kinds, GATED, guide);
+    pass(graph, kinds, KIND_FLAP, guide);
+    pass(graph, kinds, KIND_GATED, guide);
     m
 }
 

@@ -1,19 +1,12 @@
 -- The gated reaches of a row of kinds, one after the other, and those of a table.
 -- Assumes nothing.
-use Prim.Native.Nat.{ℕ, zero, suc, ◌+◌, ◌-◌, ◌≤◌, ◌<◌}
+use Prim.Native.Nat.{ℕ, suc, ◌+◌, ◌≤◌, ◌<◌}
 use native.Mathlib.Numerals.{add-one}
 use native.Mathlib.Omega.{arith}
-use native.Mathlib.Nat.{add-zero}
-use mathlib.Core.Path.{◌≡◌, refl, ap, subst, ◌∙◌}
-use mathlib.Core.Logic.{⊎_elim}
-use mathlib.Core.Bool.{Bool, cond, not}
+use mathlib.Core.Path.{◌≡◌, refl, ap, ◌∙◌}
+use mathlib.Core.Bool.{cond}
 use mathlib.Core.List.{List, [], ◌∷◌}
-use lib.ListN.{length, get_or, take, drop, drop_of_length-le}
-use lib.Dec.{eqb}
-use borrow.Author.Tests.{eqb-true, eqb-false}
-use Rattle.std.specs.List.{prefix_len}
-use Rattle.std.proofs.lemmas.List.Sums.{prefix_len-drop_no, prefix_len-drop_yes}
-use Rattle.lists.proofs.Bools.{decide}
+use lib.ListN.{length, get_or, take, drop_of_length-le}
 use lib.Seq.{drop-cons}
 use Rattle.network.proofs.Networks.{not-gated}
 use Rattle.lists.proofs.Lists.{length-cond, length-cond-le}
@@ -64,23 +57,3 @@ module _ (ks : List ℕ) (from i : ℕ) (p : GatesPassed ks from i) where
 
   pub gates-passed-all : length ks ≤ i → NextGate ks from i
   gates-passed-all l = record { below = p.below; is-next = λ h. absurd (omega arith); none_left = λ _. p.same ∙ due-none ks i l }
-
--- the reaches before it are those that are passed
-abbrev pub passed : ℕ → Bool
-passed k = not (eqb k 0)
-
-next-from : (ks : List ℕ) (from n i : ℕ) → n + i ≡ length ks → GatesPassed ks from i → NextGate ks from (i + prefix_len passed (drop i ks))
-next-from ks from zero i e p = rw (drop_of_length-le ks {i = i} (omega arith), add-zero) (gates-passed-all ks from i p (omega arith))
-next-from ks from (suc n) i e p =
-    let l : i < length ks = omega arith in
-    ⊎_elim
-    (λ y.
-    let none_passed : prefix_len passed (drop i ks) ≡ 0 = prefix_len-drop_no passed ks i 0 l (rw y) in
-    subst (NextGate ks from) (omega arith) (gates-passed-to ks from i p l (eqb-true (get_or ks i 0) 0 y)))
-    (λ o.
-    let one_passed : prefix_len passed (drop i ks) ≡ 1 + prefix_len passed (drop (i + 1) ks) = prefix_len-drop_yes passed ks i 0 l (rw o) in
-    subst (NextGate ks from) (omega arith) (next-from ks from n (i + 1) (omega arith) (gates-passed-more ks from i p l (eqb-false (get_or ks i 0) 0 o))))
-    (decide (eqb (get_or ks i 0) 0))
-
-pub next-gate : (ks : List ℕ) (from : ℕ) → from ≤ length ks → NextGate ks from (from + prefix_len passed (drop from ks))
-next-gate ks from l = next-from ks from (length ks - from) from (omega arith) (gates-passed-none ks from l)

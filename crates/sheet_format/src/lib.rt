@@ -4,12 +4,11 @@
 
 #![tactic(auto)]
 
-ghost use Rattle.std.specs.Prelude.{◌≡◌, ◌≤◌, length, not, eqb};
-ghost use Rattle.std.specs.List.{prefix_len};
+ghost use Rattle.std.specs.Prelude.{◌≤◌, length};
 ghost use Rattle.sheet_format.specs.Rows.{NextGate};
 
 use file_records::END;
-use tables::GATED;
+use tables::KIND_GATED;
 
 // The kinds of a plan sheet's records; the end is that of a network file.
 pub const PLAN: u8 = 16;
@@ -28,17 +27,15 @@ pub const PLAN_HEAD_DUE: [u8; 1] = [PLAN];
 
 pub const GATE_DUE: [u8; 3] = [AS_DRAWN, TURNED, END];
 
-// How many reaches stand before the first gated one: all, if there is none.
-fn before_gate(kinds: &[u8]) -> usize
-    ensures { result ≡ prefix_len (λ k. not (eqb k 0)) kinds.now }
-{
-    kinds.iter().take_while(|&&kind| kind != GATED).count()
-}
-
 // The number of the next gated reach from a reach on, or the number of all reaches if there is none.
 pub fn next_gate(kinds: &[u8], from: usize) -> usize
     requires { from ≤ length kinds.now }
     ensures { NextGate kinds.now from result }
 {
-    from + before_gate(&kinds[from..])
+    for i in from..kinds.len() {
+        if kinds[i] == KIND_GATED {
+            return i;
+        }
+    }
+    kinds.len()
 }

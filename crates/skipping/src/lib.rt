@@ -10,7 +10,7 @@ ghost use Rattle.skipping.specs.Skips.{NotedAt, NotedFrom, BindsStill};
 
 use half_edges::Graph;
 use series_way::UNGUIDED;
-use tables::GATED;
+use tables::KIND_GATED;
 
 // The fewest reaches for which it pays to look which of them are bound. No promise rests on it.
 const WORTH: usize = 32;
@@ -37,7 +37,7 @@ fn note_at(
     requires i_in_bounds { i < length graph.now.a.now }
     ensures { NotedAt graph.now.a.now graph.now.b.now tried.old loose.old i way tried.new loose.new }
 {
-    if tried[i] != GATED {
+    if tried[i] != KIND_GATED {
         return;
     }
     if way > 1 {

@@ -14,11 +14,11 @@ ghost use Rattle.tables.specs.Answers.{TableChecked, StrayEnd};
 use network::{MAX_BASINS, MAX_REACHES, Refusal};
 
 // The kinds of reaches in service. Every greater number is a shut reach.
-pub const GATED: u8 = 0;
+pub const KIND_GATED: u8 = 0;
 
-pub const FLAP: u8 = 1;
+pub const KIND_FLAP: u8 = 1;
 
-pub const TWO_WAY: u8 = 2;
+pub const KIND_TWO_WAY: u8 = 2;
 
 // The ways of a reach that passes both ways, and of one that passes neither.
 const EITHER: u8 = 2;
@@ -83,7 +83,13 @@ pub fn table_check(basins: u16, kinds: &[u8], a: &[u16], b: &[u16]) -> Result<()
 pub fn count_gates(kinds: &[u8]) -> usize
     ensures { result ≡ gates_in kinds.now }
 {
-    kinds.iter().filter(|&&kind| kind == GATED).count()
+    let mut n = 0;
+    for &kind in kinds {
+        if kind == KIND_GATED {
+            n += 1;
+        }
+    }
+    n
 }
 
 // Whether every byte is 0 or 1.
@@ -104,11 +110,11 @@ pub fn fits(kinds: &[u8], setting: &[u8]) -> bool
 fn way_of(kind: u8, setting: &[u8], k: usize) -> u8
     ensures { result ≡ way (state_of kind) (drop k setting.now) }
 {
-    if kind == GATED && k < setting.len() {
+    if kind == KIND_GATED && k < setting.len() {
         setting[k]
-    } else if kind == FLAP {
+    } else if kind == KIND_FLAP {
         0
-    } else if kind > TWO_WAY {
+    } else if kind > KIND_TWO_WAY {
         NEITHER
     } else {
         EITHER
@@ -123,7 +129,7 @@ pub fn orient(kinds: &[u8], setting: &[u8], ways: &mut [u8])
     let mut k = 0;
     for (i, &kind) in kinds.iter().enumerate() {
         ways[i] = way_of(kind, setting, k);
-        if kind == GATED {
+        if kind == KIND_GATED {
             k += 1;
         }
     }
@@ -137,7 +143,7 @@ pub fn gather(kinds: &[u8], ways: &[u8], plan: &mut [u8])
 {
     let mut k = 0;
     for (i, &kind) in kinds.iter().enumerate() {
-        if kind == GATED {
+        if kind == KIND_GATED {
             plan[k] = ways[i];
             k += 1;
         }

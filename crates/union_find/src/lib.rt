@@ -12,7 +12,7 @@ ghost use Rattle.components.specs.Labels.{Joinable, Labelled};
 ghost use Rattle.union_find.specs.Forests.{Separate, Rising, RootFound, Joined, Forest, Numbered};
 
 use components::Note;
-use tables::TWO_WAY;
+use tables::KIND_TWO_WAY;
 
 // Each basin stands alone: it is its own parent.
 fn separate(n: usize, parents: &mut [u16])
@@ -61,7 +61,7 @@ fn join(n: usize, parents: &mut [u16], a: u16, b: u16)
 fn joins(kind: u8) -> bool
     ensures { result ≡ is_two_way (state_of kind) }
 {
-    kind == TWO_WAY
+    kind == KIND_TWO_WAY
 }
 
 // Joins the ends of every two-way reach in service.

@@ -6,8 +6,8 @@ use Rattle.orienting.proofs.Readies.{kind-gate}
 use Rattle.network.proofs.Networks.{not-gated}
 use Rattle.parting.proofs.orient_as.Goals as goal
 
-pub returns-then-kinds-i-ne-GATED : goal.returns-then-kinds-i-ne-GATED
-returns-then-kinds-i-ne-GATED c = no-gate (not-gated _ c.if-kinds-i-ne-GATED.true) refl refl
+pub returns-then-kinds-i-ne-KIND_GATED : goal.returns-then-kinds-i-ne-KIND_GATED
+returns-then-kinds-i-ne-KIND_GATED c = no-gate (not-gated _ c.if-kinds-i-ne-KIND_GATED.true) refl refl
 
 pub returns : goal.returns
-returns c = as-under (kind-gate _ c.if-kinds-i-ne-GATED.false) c.try_way.ensures
+returns c = as-under (kind-gate _ c.if-kinds-i-ne-KIND_GATED.false) c.try_way.ensures

@@ -6,8 +6,8 @@ use lib.ListN.{set}
 use Rattle.series_channels.specs.Channels.{noted, unchanged}
 use Rattle.series_channels.proofs.note.Goals as goal
 
-pub returns-then-kinds-k-ne-GATED : goal.returns-then-kinds-k-ne-GATED
-returns-then-kinds-k-ne-GATED c = unchanged refl
+pub returns-then-kinds-k-ne-KIND_GATED : goal.returns-then-kinds-k-ne-KIND_GATED
+returns-then-kinds-k-ne-KIND_GATED c = unchanged refl
 
 pub returns-then-guide-k-lt-NO_HALF : goal.returns-then-guide-k-lt-NO_HALF
 returns-then-guide-k-lt-NO_HALF c = unchanged refl

@@ -20,10 +20,10 @@ loop-preserved-then-here-h c =
     let here-few : c.loop.o < no_half = omega (arith, c.if-o-ge-NO_HALF.false) in
     looked-on (tabled c.args.graph.now c.requires.kinds_len) c.loop.invariant (here-few) (λ z. c.if-here-h.true)
 
-pub loop-preserved-then-kinds-here-gt-TWO_WAY : goal.loop-preserved-then-kinds-here-gt-TWO_WAY
-loop-preserved-then-kinds-here-gt-TWO_WAY c =
+pub loop-preserved-then-kinds-here-gt-KIND_TWO_WAY : goal.loop-preserved-then-kinds-here-gt-KIND_TWO_WAY
+loop-preserved-then-kinds-here-gt-KIND_TWO_WAY c =
     let here-few : c.loop.o < no_half = omega (arith, c.if-o-ge-NO_HALF.false) in
-    looked-on (tabled c.args.graph.now c.requires.kinds_len) c.loop.invariant (here-few) (λ z. absurd (omega (arith, z, c.if-kinds-here-gt-TWO_WAY.true)))
+    looked-on (tabled c.args.graph.now c.requires.kinds_len) c.loop.invariant (here-few) (λ z. absurd (omega (arith, z, c.if-kinds-here-gt-KIND_TWO_WAY.true)))
 
 pub returns-then-found-lt-NO_HALF : goal.returns-then-found-lt-NO_HALF
 returns-then-found-lt-NO_HALF c = nobody {r = no_half} (omega arith)
@@ -31,7 +31,7 @@ returns-then-found-lt-NO_HALF c = nobody {r = no_half} (omega arith)
 pub loop-preserved : goal.loop-preserved
 loop-preserved c =
     let here-few : c.loop.o < no_half = omega (arith, c.if-o-ge-NO_HALF.false) in
-    looked-found (tabled c.args.graph.now c.requires.kinds_len) c.loop.invariant (here-few) c.if-here-h.false (omega (arith, c.if-kinds-here-gt-TWO_WAY.false)) (omega (arith, c.if-found-lt-NO_HALF.false))
+    looked-found (tabled c.args.graph.now c.requires.kinds_len) c.loop.invariant (here-few) c.if-here-h.false (omega (arith, c.if-kinds-here-gt-KIND_TWO_WAY.false)) (omega (arith, c.if-found-lt-NO_HALF.false))
 
 pub returns : goal.returns
 returns c = nobody {r = no_half} (omega arith)
