@@ -27,10 +27,10 @@ fn stays(kind: u8, c: u16, d: u16, note: Note) -> bool
 fn note_after(kind: u8, note: Note) -> Note
     ensures { result ≡ note_after (state_of kind) note }
 {
-    if kind == KIND_TWO_WAY && note == Note::Several {
-        return Note::Looped;
+    match note {
+        Note::Several if kind == KIND_TWO_WAY => Note::Looped,
+        _ => note,
     }
-    note
 }
 
 // Writes what stays of each reach to the front of the new rows, in reach order, and returns how many stay.
