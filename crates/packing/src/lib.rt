@@ -1,6 +1,6 @@
 // The lent reach table, a slice of records, taken apart into rows of numbers.
 // Two functions have the slice in hand: `pack_into` and `unpack_from`. They go over the table once, in place, and leave one record to `reach_numbers`.
-// `Packed` holds the rows of one call over records: they are new, then filled, and the call over rows is lent what `rows` hands out.
+// `Packed` holds the rows of one call over records: they are new, a table is packed into them, and the call over rows is lent what `rows` hands out.
 
 #![tactic(auto)]
 
@@ -64,7 +64,7 @@ impl Packed {
     }
 
     // Packs a table into these rows, in their place: a call holds them once and copies none.
-    pub fn fill(&mut self, table: &[Reach])
+    pub fn pack(&mut self, table: &[Reach])
         ensures { Packs table.now self.new }
     {
         let Packed { kinds, a, b, count } = self;
@@ -76,7 +76,7 @@ impl Packed {
         ensures { Packs table.now result }
     {
         let mut packed = Packed::new();
-        packed.fill(table);
+        packed.pack(table);
         packed
     }
 

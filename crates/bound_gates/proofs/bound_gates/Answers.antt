@@ -6,4 +6,4 @@ use Rattle.bound_gates.proofs.Calls.{bound-alike}
 use Rattle.bound_gates.proofs.bound_gates.Goals as goal
 
 pub returns : goal.returns
-returns c = of-lent {P = λ N. BoundCall N c.args.bytes.now c.args.marks.now c.bound_gates_rows.result c.bound_gates_rows.new.bytes c.bound_gates_rows.new.marks} c.fill.ensures c.rows-rows.ensures (bound-alike _ _) c.bound_gates_rows.ensures
+returns c = of-lent {P = λ N. BoundCall N c.args.bytes.now c.args.marks.now c.bound_gates_rows.result c.bound_gates_rows.new.bytes c.bound_gates_rows.new.marks} c.pack.ensures c.rows-rows.ensures (bound-alike _ _) c.bound_gates_rows.ensures

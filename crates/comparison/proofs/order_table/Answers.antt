@@ -10,4 +10,4 @@ pub returns : goal.returns
 returns c =
     let o = c.order_lent in
     ordered_at _ c.args.first.now c.args.second.now o.ensures.first-bytes o.ensures.second-bytes
-    (of-lent {P = λ N. Ordered N c.args.first.now c.args.second.now o.result} c.fill.ensures c.rows-rows.ensures (order_alike c.args.first.now c.args.second.now) o.ensures.ordered)
+    (of-lent {P = λ N. Ordered N c.args.first.now c.args.second.now o.result} c.pack.ensures c.rows-rows.ensures (order_alike c.args.first.now c.args.second.now) o.ensures.ordered)

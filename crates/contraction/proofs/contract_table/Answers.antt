@@ -5,4 +5,4 @@ use Rattle.contraction.proofs.Buffers.{contract-alike}
 use Rattle.contraction.proofs.contract_table.Goals as goal
 
 pub returns : goal.returns
-returns c = of-lent c.fill.ensures c.rows-rows.ensures (contract-alike c.args.room _ _ _ _ _ _ _) c.contract_room.ensures
+returns c = of-lent c.pack.ensures c.rows-rows.ensures (contract-alike c.args.room _ _ _ _ _ _ _) c.contract_room.ensures

@@ -6,4 +6,4 @@ use Rattle.diameter.proofs.Rows.{diameter-alike}
 use Rattle.diameter.proofs.diameter.Goals as goal
 
 pub returns : goal.returns
-returns c = of-lent {P = λ N. DiameterCall N c.args.setting.now c.diameter_rows.result} c.fill.ensures c.rows-rows.ensures (diameter-alike c.args.setting.now) c.diameter_rows.ensures
+returns c = of-lent {P = λ N. DiameterCall N c.args.setting.now c.diameter_rows.result} c.pack.ensures c.rows-rows.ensures (diameter-alike c.args.setting.now) c.diameter_rows.ensures

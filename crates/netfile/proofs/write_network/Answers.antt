@@ -8,4 +8,4 @@ use Rattle.netfile.proofs.write_network.Goals as goal
 pub returns : goal.returns
 returns c =
     let k = c.write_network in
-    of-lent {P = λ N. NetworkWritten N c.args.out.now k.result k.new.out} c.fill.ensures c.rows-rows.ensures (file-write-alike c.args.out.now) k.ensures
+    of-lent {P = λ N. NetworkWritten N c.args.out.now k.result k.new.out} c.pack.ensures c.rows-rows.ensures (file-write-alike c.args.out.now) k.ensures

@@ -6,4 +6,4 @@ use Rattle.planner.proofs.Refusals.{check-alike}
 use Rattle.planner.proofs.check.Goals as goal
 
 pub returns : goal.returns
-returns c = of-lent {P = λ N. CheckCall N c.args.setting.now c.check.result} c.fill.ensures c.rows-rows.ensures (check-alike c.args.setting.now) c.check.ensures
+returns c = of-lent {P = λ N. CheckCall N c.args.setting.now c.check.result} c.pack.ensures c.rows-rows.ensures (check-alike c.args.setting.now) c.check.ensures

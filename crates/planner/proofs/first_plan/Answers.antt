@@ -6,4 +6,4 @@ use Rattle.planner.proofs.Refusals.{first_alike}
 use Rattle.planner.proofs.first_plan.Goals as goal
 
 pub returns : goal.returns
-returns c = of-lent {P = λ N. FirstCall N c.args.plan.now c.args.marks.now c.first_plan.result c.first_plan.new.plan c.first_plan.new.marks} c.fill.ensures c.rows-rows.ensures (first_alike _ _) c.first_plan.ensures
+returns c = of-lent {P = λ N. FirstCall N c.args.plan.now c.args.marks.now c.first_plan.result c.first_plan.new.plan c.first_plan.new.marks} c.pack.ensures c.rows-rows.ensures (first_alike _ _) c.first_plan.ensures

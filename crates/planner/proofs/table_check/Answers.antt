@@ -6,4 +6,4 @@ use Rattle.planner.proofs.Refusals.{table-alike}
 use Rattle.planner.proofs.table_check.Goals as goal
 
 pub returns : goal.returns
-returns c = of-lent {P = λ N. TableChecked N c.table_check.result} c.fill.ensures c.rows-rows.ensures (table-alike) c.table_check.ensures
+returns c = of-lent {P = λ N. TableChecked N c.table_check.result} c.pack.ensures c.rows-rows.ensures (table-alike) c.table_check.ensures

@@ -8,4 +8,4 @@ use Rattle.sheet.proofs.read_sheet.Goals as goal
 pub returns : goal.returns
 returns c =
     let k = c.read_sheet in
-    of-lent {P = λ N. SheetRead N c.args.sheet.now c.args.setting.now k.result k.new.setting} c.fill.ensures c.rows-rows.ensures (read_alike c.args.sheet.now c.args.setting.now) k.ensures
+    of-lent {P = λ N. SheetRead N c.args.sheet.now c.args.setting.now k.result k.new.setting} c.pack.ensures c.rows-rows.ensures (read_alike c.args.sheet.now c.args.setting.now) k.ensures

@@ -8,4 +8,4 @@ use Rattle.sheet.proofs.write_reply.Goals as goal
 pub returns : goal.returns
 returns c =
     let k = c.write_reply in
-    of-lent {P = λ N. ReplyWritten N c.args.out.now k.result k.new.out} c.fill.ensures c.rows-rows.ensures (reply-alike c.args.out.now) k.ensures
+    of-lent {P = λ N. ReplyWritten N c.args.out.now k.result k.new.out} c.pack.ensures c.rows-rows.ensures (reply-alike c.args.out.now) k.ensures

@@ -8,4 +8,4 @@ use Rattle.sheet.proofs.write_sheet.Goals as goal
 pub returns : goal.returns
 returns c =
     let k = c.write_sheet in
-    of-lent {P = λ N. SheetWritten N c.args.setting.now c.args.out.now k.result k.new.out} c.fill.ensures c.rows-rows.ensures (write-alike c.args.setting.now c.args.out.now) k.ensures
+    of-lent {P = λ N. SheetWritten N c.args.setting.now c.args.out.now k.result k.new.out} c.pack.ensures c.rows-rows.ensures (write-alike c.args.setting.now c.args.out.now) k.ensures

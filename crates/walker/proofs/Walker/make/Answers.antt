@@ -6,4 +6,4 @@ use Rattle.walker.proofs.Makes.{make-alike}
 use Rattle.walker.proofs.Walker.make.Goals as goal
 
 pub returns : goal.returns
-returns c = of-lent {P = λ N. Making N c.args.setting.now c.make_rows.result} c.fill.ensures c.rows-rows.ensures (make-alike c.args.setting.now) c.make_rows.ensures
+returns c = of-lent {P = λ N. Making N c.args.setting.now c.make_rows.result} c.pack.ensures c.rows-rows.ensures (make-alike c.args.setting.now) c.make_rows.ensures
